@@ -1,0 +1,64 @@
+-- Laws of `allBelow` and `sumBelow`: a loop's turn and end, and what they tell of each number. Assumes nothing.
+use mathlib.Core.Path.{_≡_, refl, sym, ap, _∙_}
+use mathlib.Core.Bool.{Bool, true, false, _&&_}
+use mathlib.Core.Logic.{⊎-elim}
+use Prim.Native.Nat.{ℕ, zero, suc, _+_, _<_, _≤_}
+use native.Mathlib.Nat.{eq-or-lt-of-le, not-suc-le-zero}
+use native.Mathlib.Numerals.{add-one}
+use native.Mathlib.Omega.{arith}
+use Rattle.ground.specs.Lists.{allBelow, sumBelow}
+use Rattle.ground.proofs.Cases.{and-left, and-right, and-both, and-fails}
+
+module _ (test : ℕ → Bool) where
+  -- one number more, as a loop with no early exit counts it: `good = good & test`
+  pub all-turn : (i : ℕ) (good t : Bool) → good ≡ allBelow i test → t ≡ test i → (good && t) ≡ allBelow (i + 1) test
+  unfolding allBelow
+  all-turn i good t g e = rw add-one (λ k. g k && e k)
+
+  pub all-more : (i : ℕ) → allBelow i test ≡ true → test i ≡ true → allBelow (i + 1) test ≡ true
+  unfolding allBelow
+  all-more i g e = rw add-one (and-both g e)
+
+  pub all-at : (n : ℕ) → allBelow n test ≡ true → (i : ℕ) → i < n → test i ≡ true
+  unfolding allBelow
+  all-at zero g i h = absurd (not-suc-le-zero h)
+  all-at (suc n) g i h =
+      let q : i ≤ n = omega arith in
+      ⊎-elim
+      (λ e. ap test e ∙ and-right (allBelow n test) (test n) g)
+      (λ l. all-at n (and-left (allBelow n test) (test n) g) i l)
+      (eq-or-lt-of-le q)
+
+  -- one number that fails fails all
+  pub all-fails : (n i : ℕ) → i < n → test i ≡ false → allBelow n test ≡ false
+  unfolding allBelow
+  all-fails zero i h e = absurd (not-suc-le-zero h)
+  all-fails (suc n) i h e =
+      let q : i ≤ n = omega arith in
+      ⊎-elim
+      (λ p. and-fails (allBelow n test) (sym (ap test p) ∙ e))
+      (λ l. rw (all-fails n i l e))
+      (eq-or-lt-of-le q)
+
+  pub all-intro : (n : ℕ) → ((i : ℕ) → i < n → test i ≡ true) → allBelow n test ≡ true
+  unfolding allBelow
+  all-intro zero h = refl
+  all-intro (suc n) h = and-both (all-intro n (λ i l. h i (omega arith))) (h n (omega arith))
+
+module _ (f : ℕ → ℕ) where
+  pub sum-turn : (i : ℕ) → sumBelow (i + 1) f ≡ sumBelow i f + f i
+  unfolding sumBelow
+  sum-turn i = rw add-one
+
+  pub sum-grows : (n i : ℕ) → i ≤ n → sumBelow i f ≤ sumBelow n f
+  unfolding sumBelow
+  sum-grows zero i h = let e : i ≡ 0 = omega arith in rw e (omega arith)
+  sum-grows (suc n) i h =
+      ⊎-elim
+      (λ e. rw e (omega arith))
+      (λ l. omega (arith, sum-grows n i (omega arith)))
+      (eq-or-lt-of-le h)
+
+  -- each part of a sum lies within it
+  pub sum-within : (n i : ℕ) → i < n → sumBelow i f + f i ≤ sumBelow n f
+  sum-within n i h = omega (arith, sum-turn i, sum-grows n (i + 1) (omega arith))

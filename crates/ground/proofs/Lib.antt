@@ -1,0 +1,5 @@
+-- The laws that belong to no one function.
+pub mod Cases
+pub mod Bounded
+pub mod Words
+pub mod Sweep

@@ -1,0 +1,66 @@
+-- Laws of `words`: how many there are, and the word at a place. Assumes nothing.
+use Prim.Native.Nat.{ℕ, zero, suc, _+_, _*_, _/_, _≤_, zero-le, suc-le-suc}
+use mathlib.Core.Path.{_≡_, refl, sym, ap, _∙_}
+use mathlib.Core.List.{List, [], _∷_}
+use native.Mathlib.Nat.{add-assoc}
+use native.Mathlib.Omega.{arith}
+use lib.ListN.{length, getD, take, drop}
+use lib.Seq.{getD-drop, take-nil}
+use Rattle.ground.specs.Words.{wordOf, wordAt, words}
+
+-- four octets on
+word-past : (a b c d : ℕ) (s : List ℕ) (k : ℕ) → wordAt (a ∷ b ∷ c ∷ d ∷ s) (k + 4) ≡ wordAt s k
+unfolding wordAt
+word-past a b c d s k =
+    let e0 : k + 4 ≡ suc (suc (suc (suc k))) = omega arith in
+    let e1 : k + 4 + 1 ≡ suc (suc (suc (suc (k + 1)))) = omega arith in
+    let e2 : k + 4 + 2 ≡ suc (suc (suc (suc (k + 2)))) = omega arith in
+    let e3 : k + 4 + 3 ≡ suc (suc (suc (suc (k + 3)))) = omega arith in
+    rw (e1, e2, e3, e0)
+
+-- of 4 n octets there are n words
+pub words-length : (s : List ℕ) (n : ℕ) → n * 4 ≤ length s → n ≤ length (words s)
+unfolding words
+words-length s zero h = zero-le
+words-length [] (suc n) h = omega arith
+words-length (a ∷ []) (suc n) h = omega arith
+words-length (a ∷ b ∷ []) (suc n) h = omega arith
+words-length (a ∷ b ∷ c ∷ []) (suc n) h = omega arith
+words-length (a ∷ b ∷ c ∷ d ∷ s) (suc n) h = suc-le-suc (words-length s n (omega arith))
+
+pub words-at : (s : List ℕ) (i : ℕ) → i * 4 + 4 ≤ length s → getD (words s) i 0 ≡ wordAt s (i * 4)
+unfolding words wordAt
+words-at [] i h = omega arith
+words-at (a ∷ []) i h = omega arith
+words-at (a ∷ b ∷ []) i h = omega arith
+words-at (a ∷ b ∷ c ∷ []) i h = omega arith
+words-at (a ∷ b ∷ c ∷ d ∷ s) zero h = refl
+words-at (a ∷ b ∷ c ∷ d ∷ s) (suc i) h =
+    let e : suc i * 4 ≡ i * 4 + 4 = omega arith in
+    words-at s i (omega arith) ∙ sym (rw (e, word-past a b c d s (i * 4)))
+
+-- a word of what is left behind a place
+pub word-drop : (s : List ℕ) (f k : ℕ) → wordAt (drop f s) k ≡ wordAt s (f + k)
+unfolding wordAt
+word-drop s f k = simp (getD-drop, add-assoc)
+
+-- the words of the first j octets are the first j / 4 words
+pub words-take : (j : ℕ) (s : List ℕ) → words (take j s) ≡ take (j / 4) (words s)
+unfolding words
+words-take zero s = refl
+words-take (suc zero) [] = refl
+words-take (suc zero) (a ∷ s) = refl
+words-take (suc (suc zero)) [] = refl
+words-take (suc (suc zero)) (a ∷ []) = refl
+words-take (suc (suc zero)) (a ∷ b ∷ s) = refl
+words-take (suc (suc (suc zero))) [] = refl
+words-take (suc (suc (suc zero))) (a ∷ []) = refl
+words-take (suc (suc (suc zero))) (a ∷ b ∷ []) = refl
+words-take (suc (suc (suc zero))) (a ∷ b ∷ c ∷ s) = refl
+words-take (suc (suc (suc (suc j)))) [] = sym (take-nil (suc (suc (suc (suc j))) / 4))
+words-take (suc (suc (suc (suc j)))) (a ∷ []) = sym (take-nil (suc (suc (suc (suc j))) / 4))
+words-take (suc (suc (suc (suc j)))) (a ∷ b ∷ []) = sym (take-nil (suc (suc (suc (suc j))) / 4))
+words-take (suc (suc (suc (suc j)))) (a ∷ b ∷ c ∷ []) = sym (take-nil (suc (suc (suc (suc j))) / 4))
+words-take (suc (suc (suc (suc j)))) (a ∷ b ∷ c ∷ d ∷ s) =
+    let e : suc (suc (suc (suc j))) / 4 ≡ suc (j / 4) = omega arith in
+    rw e (ap (λ (l : List ℕ). wordOf a b c d ∷ l) (words-take j s))

@@ -1,0 +1,25 @@
+-- Choices by a test, and document 01's table of refusals: of several rows that apply, the first.
+-- Assumes nothing.
+use mathlib.Core.Bool.{Bool, true, false}
+use mathlib.Core.List.{List, [], _∷_}
+use Prim.Native.Nat.{ℕ}
+
+-- one of two, by a test
+abbrev pub pick : {A : Type 0} → Bool → A → A → A
+pick true a b = a
+pick false a b = b
+
+-- What a call says in document 01's terms: 0 and its values, or the number of a refusal, which stands alone.
+pub record Said : Type 0 where
+  pub number : ℕ
+  pub values : List ℕ
+
+abbrev pub granted : List ℕ → Said
+granted values = record { number = 0; values = values }
+
+abbrev pub refused : ℕ → Said
+refused number = record { number = number; values = [] }
+
+-- "Several at once: the first in the table": where the row applies its number is said, else what stands behind it.
+abbrev pub refuseIf : Bool → ℕ → Said → Said
+refuseIf applies number behind = pick applies (refused number) behind

@@ -1,0 +1,4 @@
+-- The small definitions that every layer needs.
+pub mod Cases
+pub mod Lists
+pub mod Words

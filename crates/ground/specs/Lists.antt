@@ -1,0 +1,29 @@
+-- Parts of lists, and what holds of, or is summed over, the numbers below a bound.
+-- Assumes nothing.
+use mathlib.Core.Bool.{Bool, true, false, _&&_}
+use mathlib.Core.List.{List, [], _∷_, _++_}
+use Prim.Native.Nat.{ℕ, zero, suc, _+_, _-_}
+use lib.ListN.{length, take, drop}
+
+-- the elements from the place a up to the place e
+abbrev pub part : {A : Type 0} → List A → ℕ → ℕ → List A
+part s a e = take (e - a) (drop a s)
+
+-- a table whose front is filled; the rest stays
+abbrev pub filled : {A : Type 0} → List A → List A → List A
+filled front old = front ++ drop (length front) old
+
+-- each element by f, which is told its place, from the place i on
+abbrev pub mapFrom : {A : Type 0} → (ℕ → A → A) → ℕ → List A → List A
+mapFrom f i [] = []
+mapFrom f i (x ∷ s) = f i x ∷ mapFrom f (suc i) s
+
+-- each number below n passes the test
+unfoldable pub allBelow : ℕ → (ℕ → Bool) → Bool
+allBelow zero test = true
+allBelow (suc n) test = allBelow n test && test n
+
+-- f of 0, of 1, and so on below n, summed
+unfoldable pub sumBelow : ℕ → (ℕ → ℕ) → ℕ
+sumBelow zero f = 0
+sumBelow (suc n) f = sumBelow n f + f n
