@@ -3,7 +3,7 @@ use mathlib.Core.Path.{_≡_, refl, sym, ap, _∙_}
 use mathlib.Core.Bool.{Bool, true, false, _&&_}
 use mathlib.Core.Logic.{⊎-elim}
 use Prim.Native.Nat.{ℕ, zero, suc, _+_, _<_, _≤_}
-use native.Mathlib.Nat.{eq-or-lt-of-le, not-suc-le-zero}
+use native.Mathlib.Nat.{eq-or-lt-of-le, le-antisymm, not-suc-le-zero}
 use native.Mathlib.Numerals.{add-one}
 use native.Mathlib.Omega.{arith}
 use Rattle.ground.specs.Lists.{allBelow, sumBelow}
@@ -14,6 +14,10 @@ module _ (test : ℕ → Bool) where
   pub all-turn : (i : ℕ) (good t : Bool) → good ≡ allBelow i test → t ≡ test i → (good && t) ≡ allBelow (i + 1) test
   unfolding allBelow
   all-turn i good t g e = rw add-one (λ k. g k && e k)
+
+  -- the loop's end
+  pub all-end : {n i : ℕ} {good : Bool} → i ≤ n → n ≤ i → good ≡ allBelow i test → good ≡ allBelow n test
+  all-end {n} {i} h k g = g ∙ ap (λ (m : ℕ). allBelow m test) (le-antisymm h k)
 
   pub all-more : (i : ℕ) → allBelow i test ≡ true → test i ≡ true → allBelow (i + 1) test ≡ true
   unfolding allBelow

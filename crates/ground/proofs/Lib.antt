@@ -1,5 +1,6 @@
 -- The laws that belong to no one function.
 pub mod Cases
+pub mod Settled
 pub mod Bounded
 pub mod Words
 pub mod Sweep

@@ -1,7 +1,7 @@
 -- Choices by a test, and document 01's table of refusals: of several rows that apply, the first.
 -- Assumes nothing.
 use mathlib.Core.Bool.{Bool, true, false}
-use mathlib.Core.List.{List, [], _∷_}
+use mathlib.Core.List.{List, []}
 use Prim.Native.Nat.{ℕ}
 
 -- one of two, by a test

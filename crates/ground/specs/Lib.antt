@@ -1,4 +1,5 @@
 -- The small definitions that every layer needs.
 pub mod Cases
+pub mod Limits
 pub mod Lists
 pub mod Words

@@ -1,8 +1,20 @@
-// Numbers out of octets, and wider.
+// Numbers out of octets, and wider; the limits of a catalogue.
 ghost use mathlib.Core.Path.{_≡_};
 ghost use Prim.Native.Nat.{_+_, _<_, _≤_};
 ghost use lib.ListN.{length, getD};
 ghost use Rattle.ground.specs.Words.{halfOf, halfAt, wordOf, wordAt};
+
+pub const MOST_GROUPS: usize = 64;
+
+pub const MOST_TRACKS: usize = 256;
+
+pub const MOST_SEGMENTS: usize = 1024;
+
+pub const MOST_TEXT: usize = 32768;
+
+pub const MOST_DURATION: u32 = 8640000;
+
+pub const MOST_TITLE: usize = 128;
 
 pub fn wide_octet(x: u8) -> u32
     ensures { λ r. ⌜ (r ≡ x) × (r < 256) ⌝ }

@@ -1,20 +1,16 @@
+-- `ground::octet_or_zero`: behind the end stands 0.
 use mathlib.Core.Path.{sym}
 use borrow.Author.Needs.{needs}
 use lib.ListN.{List·getD-eq-default}
 use Rattle.ground.proofs.octet_or_zero.Statement.{statement}
 use Rattle.ground.proofs.octet_or_zero.Tie as tie
-use Rattle.ground.proofs.octet_or_zero.Reads as reads
-use Rattle.ground.proofs.octet_or_zero.Lts as lts
 
--- src/lib.rt:54:16
 shared-slice-read-result : tie.Need-shared-slice-read-result
 shared-slice-read-result c = search needs
 
--- src/lib.rt:54:9
 returns : tie.Need-returns
 returns c = search needs
 
--- src/lib.rt:50:1
 returns-2 : tie.Need-returns-2
 returns-2 c = sym (List·getD-eq-default (c .before .args .s .now) 0 (c .if1 .left))
 

@@ -1,24 +1,19 @@
+-- `ground::word_or_zero`: behind the end stands 0.
 use mathlib.Core.Path.{sym}
 use borrow.Author.Needs.{needs}
 use lib.ListN.{List·getD-eq-default}
 use Rattle.ground.proofs.word_or_zero.Statement.{statement}
 use Rattle.ground.proofs.word_or_zero.Tie as tie
-use Rattle.ground.proofs.word_or_zero.Reads as reads
-use Rattle.ground.proofs.word_or_zero.Lts as lts
 
--- src/lib.rt:63:16
 mul-result : tie.Need-mul-result
 mul-result c = search needs
 
--- src/lib.rt:63:16
 shared-slice-read-result : tie.Need-shared-slice-read-result
 shared-slice-read-result c = search needs
 
--- src/lib.rt:63:9
 returns : tie.Need-returns
 returns c = search needs
 
--- src/lib.rt:59:1
 returns-2 : tie.Need-returns-2
 returns-2 c = sym (List·getD-eq-default (c .before .args .s .now) 0 (c .if1 .left))
 

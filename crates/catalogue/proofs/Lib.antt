@@ -1,0 +1,5 @@
+-- The laws that belong to no one function.
+pub mod Runs
+pub mod Checked
+pub mod Laws
+pub mod Settled

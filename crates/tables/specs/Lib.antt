@@ -1,0 +1,2 @@
+-- The tables of a catalogue, and what their records hold.
+pub mod Tables
