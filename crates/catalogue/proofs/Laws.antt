@@ -20,9 +20,10 @@ use Rattle.text.specs.declared.Checked.{Checked}
 use Rattle.text.specs.declared.Checked.the-variants.{Fine, BadAt}
 use Rattle.text.proofs.Law.{fine-is-text}
 use Rattle.tables.specs.Tables.{Tables, groupCount, trackCount, parentOf, firstTrackOf, tracksIn, durationOf, firstSegmentOf, segmentsIn, titleOffsetOf, titleLengthOf, startsOf, titleOf}
-use Rattle.catalogue.specs.Rules.{sizesRule, parentsRule, trackRunsRule, segmentRunsRule, durationsRule, startsRule, titlesPlacedRule, titlesTextRule, catalogueRule, checkSaid, Right}
-use Rattle.catalogue.proofs.Runs.{inside, apart}
-use Rattle.catalogue.proofs.Checked as rule
+use Rattle.rules.specs.Rules.{sizesRule, parentsRule, trackRunsRule, segmentRunsRule, durationsRule, startsRule, titlesPlacedRule, titlesTextRule}
+use Rattle.catalogue.specs.Catalogue.{catalogueRule, checkSaid, Right}
+use Rattle.rules.proofs.Runs.{inside, apart}
+use Rattle.rules.proofs.Checked as rule
 
 -- a check that passes has found every rule kept
 passes : (t : Bool) → pick (not t) (refused 200) (granted []) ≡ granted [] → t ≡ true

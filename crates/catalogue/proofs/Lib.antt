@@ -1,5 +1,3 @@
 -- The laws that belong to no one function.
-pub mod Runs
-pub mod Checked
 pub mod Laws
 pub mod Settled

@@ -7,7 +7,7 @@ use contract.Lifetimes.{Lfts}
 use denote.Ref.{RefT}
 use Rattle.ground.specs.Cases.{Said}
 use Rattle.ground.proofs.Settled.{settled}
-use Rattle.catalogue.specs.Rules.{saidOf}
+use Rattle.catalogue.specs.Catalogue.{saidOf}
 use Rattle.catalogue.specs.declared.Catalogue.{Catalogue}
 use Rattle.catalogue.specs.declared.Catalogue.the-variants.{Fine, Wrong}
 use Rattle.catalogue.proofs.check.Reads as check

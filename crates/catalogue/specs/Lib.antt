@@ -1,2 +1,2 @@
--- The rules that a catalogue keeps.
-pub mod Rules
+-- The catalogue check.
+pub mod Catalogue

@@ -6,8 +6,9 @@ use borrow.Author.Needs.{needs}
 use borrow.Author.Tests.{not-true, not-false}
 use lib.ListN.{length}
 use Rattle.tables.specs.Tables.{Tables, tables, trackCount}
-use Rattle.catalogue.specs.Rules.{sizesRule, parentsRule, trackRunsRule, segmentRunsRule, durationsRule, startsRule, titlesPlacedRule, titlesTextRule, catalogueRule, checkSaid}
-use Rattle.catalogue.proofs.Checked.{few-groups, few-tracks, runs-inside, titles-inside}
+use Rattle.rules.specs.Rules.{sizesRule, parentsRule, trackRunsRule, segmentRunsRule, durationsRule, startsRule, titlesPlacedRule, titlesTextRule}
+use Rattle.catalogue.specs.Catalogue.{catalogueRule, checkSaid}
+use Rattle.rules.proofs.Checked.{few-groups, few-tracks, runs-inside, titles-inside}
 use Rattle.catalogue.proofs.check.Statement.{statement}
 use Rattle.catalogue.proofs.check.Tie as tie
 

@@ -1,0 +1,3 @@
+-- A block of a card.
+pub mod Sums
+pub mod Block

@@ -1,0 +1,10 @@
+-- `card::within`: the code compares as `fits` does.
+use mathlib.Core.Path.{refl}
+use Rattle.card.proofs.within.Statement.{statement}
+use Rattle.card.proofs.within.Tie as tie
+
+returns : tie.Need-returns
+returns c = refl
+
+pub within-spec : {M : Type 1} → statement M
+within-spec = tie.close (tie.spec returns)

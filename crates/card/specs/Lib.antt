@@ -1,0 +1,3 @@
+-- A card and what loading it gives.
+pub mod Card
+pub mod Load

@@ -1,0 +1,2 @@
+-- The rules that a catalogue keeps.
+pub mod Rules
