@@ -4,6 +4,7 @@ use mathlib.Core.Bool.{Bool, true, _&&_}
 use mathlib.Core.List.{List, [], _∷_, _++_}
 use Prim.Native.Nat.{ℕ, zero, suc, _+_, _-_}
 use lib.ListN.{length, take, drop}
+use Rattle.ground.specs.Cases.{pick}
 
 -- the elements from the place a up to the place e
 abbrev pub part : {A : Type 0} → List A → ℕ → ℕ → List A
@@ -27,3 +28,13 @@ allBelow (suc n) test = allBelow n test && test n
 unfoldable pub sumBelow : ℕ → (ℕ → ℕ) → ℕ
 sumBelow zero f = 0
 sumBelow (suc n) f = sumBelow n f + f n
+
+-- first, first + 1, .., n numbers in all
+abbrev pub span : ℕ → ℕ → List ℕ
+span first zero = []
+span first (suc n) = first ∷ span (suc first) n
+
+-- the elements that pass the test
+abbrev pub those : (ℕ → Bool) → List ℕ → List ℕ
+those test [] = []
+those test (x ∷ s) = pick (test x) (x ∷ those test s) (those test s)
