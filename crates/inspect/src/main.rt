@@ -1,0 +1,89 @@
+// Reads a card from standard input, loads it into tables at the limits, and checks the catalogue that it holds.
+// Writes the counts and "catalogue fine", or the refusal number alone.
+ghost use Prim.Native.Nat.{_≤_};
+use card::Counts;
+use card::Loaded;
+use catalogue::Catalogue;
+
+fn write_number(n: usize) {
+    io::print_decimal(1, n as u64);
+}
+
+fn refuse(number: usize) {
+    write_number(number);
+    io::write_all(1, b"\n");
+}
+
+fn write_counts(counts: Counts) {
+    write_number(counts.groups);
+    io::write_all(1, b" groups, ");
+    write_number(counts.tracks);
+    io::write_all(1, b" tracks, ");
+    write_number(counts.segments);
+    io::write_all(1, b" segments, ");
+    write_number(counts.text);
+    io::write_all(1, b" octets of text\n");
+}
+
+// The loaded records alone are the catalogue.
+fn check(counts: Counts, groups: &[u32], tracks: &[u32], segments: &[u32], text: &[u8]) {
+    let answer = catalogue::check(groups, tracks, segments, text);
+    match answer {
+        Catalogue::Wrong => {
+            refuse(200);
+        }
+        Catalogue::Fine => {
+            write_counts(counts);
+            io::write_all(1, b"catalogue fine\n");
+        }
+    }
+}
+
+// A count that keeps within its limit, as every count of a loaded card does.
+fn within(count: usize, limit: usize) -> usize
+    ensures { λ r. ⌜ r ≤ limit ⌝ }
+{
+    if count < limit {
+        return count;
+    }
+    limit
+}
+
+fn inspect(card: &[u8]) {
+    let mut groups = [0u32; 192];
+    let mut tracks = [0u32; 1536];
+    let mut segments = [0u32; 1024];
+    let mut text = [0u8; 32768];
+    let answer = card::load(card, &mut groups, &mut tracks, &mut segments, &mut text);
+    match answer {
+        Loaded::BadLength => {
+            refuse(210);
+        }
+        Loaded::BadBlock => {
+            refuse(211);
+        }
+        Loaded::NoRoom => {
+            refuse(212);
+        }
+        Loaded::Done(counts) => {
+            let g = within(counts.groups, ground::MOST_GROUPS) * 3;
+            let t = within(counts.tracks, ground::MOST_TRACKS) * 6;
+            let s = within(counts.segments, ground::MOST_SEGMENTS);
+            let x = within(counts.text, ground::MOST_TEXT);
+            check(
+                counts,
+                &groups[0..g],
+                &tracks[0..t],
+                &segments[0..s],
+                &text[0..x],
+            );
+        }
+    }
+}
+
+// One octet more than the longest card is read, so that a longer one is refused.
+fn main() {
+    let mut card = [0u8; 65537];
+    let n = io::read_full(0, &mut card);
+    inspect(&card[..n]);
+}

@@ -1,0 +1,50 @@
+-- `vectors::frames`: each frame takes at least two octets of what is left.
+use lib.ListN.{length}
+use borrow.Author.Needs.{needs}
+use Rattle.vectors.proofs.frames.Statement.{statement}
+use Rattle.vectors.proofs.frames.Tie as tie
+
+abbrev Inv-loop : tie.InvT-loop
+Inv-loop s left₀ left = Unit {0}
+
+abbrev μ-loop : tie.MeasureT-loop
+μ-loop s left₀ left = length left
+
+loop-holds : tie.Need-loop-holds Inv-loop μ-loop
+loop-holds c = search needs
+
+frame-requires : tie.Need-frame-requires Inv-loop μ-loop
+frame-requires c κs = search needs
+
+sub-left : tie.Need-sub-left Inv-loop μ-loop
+sub-left c = search needs
+
+part-left-start : tie.Need-part-left-start Inv-loop μ-loop
+part-left-start c = search needs
+
+part-left-end : tie.Need-part-left-end Inv-loop μ-loop
+part-left-end c = search needs
+
+loop-less : tie.Need-loop-less Inv-loop μ-loop
+loop-less c = search needs
+
+loop-again : tie.Need-loop-again Inv-loop μ-loop
+loop-again c = search needs
+
+returns : tie.Need-returns Inv-loop μ-loop
+returns c = search needs
+
+pub frames-spec : {M : Type 1} → statement M
+frames-spec =
+    tie.close
+    (tie.spec
+    Inv-loop
+    μ-loop
+    loop-holds
+    frame-requires
+    sub-left
+    part-left-start
+    part-left-end
+    loop-less
+    loop-again
+    returns)

@@ -1,0 +1,294 @@
+// Runs card load, the catalogue check and the text check on framed cases from standard input, and writes a line for each.
+// A frame: an octet for the kind (1 card, 2 catalogue, 3 text), an octet for the length of the name, the name, the case.
+ghost use Prim.Native.Nat.{_-_, _≤_};
+ghost use lib.ListN.{length};
+use card::Loaded;
+use catalogue::Catalogue;
+use text::Checked;
+
+fn at_most(n: usize, most: usize) -> usize
+    ensures { λ r. ⌜ r ≤ most ⌝ }
+{
+    if n < most {
+        return n;
+    }
+    most
+}
+
+// The first n octets, or all where there are fewer.
+fn front(s: &[u8], n: usize) -> &[u8] {
+    let e = at_most(n, s.len());
+    &s[0..e]
+}
+
+// What follows the first n octets.
+fn rest(s: &[u8], n: usize) -> &[u8]
+    ensures { λ r. ⌜ length (now r) ≤ length (now (s .entry)) - n ⌝ }
+{
+    if s.len() < n {
+        let e = s.len();
+        return &s[e..];
+    }
+    &s[n..]
+}
+
+// The little endian word of the first four octets.
+fn word(s: &[u8]) -> u32 {
+    if s.len() < 4 {
+        return 0;
+    }
+    ground::word_at(s, 0)
+}
+
+fn number(s: &[u8]) -> usize {
+    ground::wide_word(word(s))
+}
+
+fn write_number(n: usize) {
+    io::write_all(1, b" ");
+    io::print_decimal(1, n as u64);
+}
+
+// The check number of a table: the sum of its running sums, modulo 2^32.
+fn sum_of_words(s: &[u32]) -> u32 {
+    let mut sum: u32 = 0;
+    let mut sums: u32 = 0;
+    let mut i = 0;
+    while i < s.len() {
+        sum = std::num::wrapping_add_u32(sum, s[i]);
+        sums = std::num::wrapping_add_u32(sums, sum);
+        i += 1;
+    }
+    sums
+}
+
+fn sum_of_octets(s: &[u8]) -> u32 {
+    let mut sum: u32 = 0;
+    let mut sums: u32 = 0;
+    let mut i = 0;
+    while i < s.len() {
+        sum = std::num::wrapping_add_u32(sum, ground::wide_octet(s[i]));
+        sums = std::num::wrapping_add_u32(sums, sum);
+        i += 1;
+    }
+    sums
+}
+
+fn write_sum_of_words(s: &[u32]) {
+    write_number(ground::wide_word(sum_of_words(s)));
+}
+
+fn write_sum_of_octets(s: &[u8]) {
+    write_number(ground::wide_word(sum_of_octets(s)));
+}
+
+// What a table of words holds before a load: each word another.
+fn prefill(s: &mut [u32]) {
+    let mut word: u32 = 0xA5A50000;
+    let mut i = 0;
+    while i < s.len() {
+        s[i] = word;
+        word = std::num::wrapping_add_u32(word, 1);
+        i += 1;
+    }
+}
+
+fn write_answer(answer: Loaded) {
+    match answer {
+        Loaded::BadLength => {
+            write_number(210);
+        }
+        Loaded::BadBlock => {
+            write_number(211);
+        }
+        Loaded::NoRoom => {
+            write_number(212);
+        }
+        Loaded::Done(counts) => {
+            write_number(counts.groups);
+            write_number(counts.tracks);
+            write_number(counts.segments);
+            write_number(counts.text);
+        }
+    }
+}
+
+// Writes the answer and the check numbers of the whole tables, so that what lies behind the loaded records is seen too.
+fn load(
+    card: &[u8],
+    groups: &mut [u32],
+    tracks: &mut [u32],
+    segments: &mut [u32],
+    text: &mut [u8],
+) {
+    prefill(groups);
+    prefill(tracks);
+    prefill(segments);
+    write_answer(card::load(card, groups, tracks, segments, text));
+    write_sum_of_words(groups);
+    write_sum_of_words(tracks);
+    write_sum_of_words(segments);
+    write_sum_of_octets(text);
+}
+
+fn load_into(card: &[u8], groups: usize, tracks: usize, segments: usize, text: usize) {
+    let mut group_table = [0u32; 2048];
+    let mut track_table = [0u32; 2048];
+    let mut segment_table = [0u32; 2048];
+    let mut text_table = [0xA5u8; 40000];
+    let g = at_most(groups, 2048);
+    let t = at_most(tracks, 2048);
+    let s = at_most(segments, 2048);
+    let x = at_most(text, 40000);
+    load(
+        card,
+        &mut group_table[0..g],
+        &mut track_table[0..t],
+        &mut segment_table[0..s],
+        &mut text_table[0..x],
+    );
+}
+
+// The length of the card, the card, and the room of the groups, tracks and segments in words and of the text in octets.
+fn card_case(s: &[u8]) -> &[u8]
+    ensures { λ r. ⌜ length (now r) ≤ length (now (s .entry)) ⌝ }
+{
+    let len = number(s);
+    let card = rest(s, 4);
+    let rooms = rest(card, len);
+    load_into(
+        front(card, len),
+        number(rooms),
+        number(rest(rooms, 4)),
+        number(rest(rooms, 8)),
+        number(rest(rooms, 12)),
+    );
+    rest(rooms, 16)
+}
+
+// Fills the front of the table with the little endian words of s.
+fn read_words(table: &mut [u32; 2048], s: &[u8]) {
+    let mut i: usize = 0;
+    while i < 2048 {
+        table[i] = word(rest(s, i * 4));
+        i += 1;
+    }
+}
+
+// The first n words, or all where there are fewer.
+fn front_of_words(table: &[u32; 2048], n: usize) -> &[u32] {
+    let whole = &table[..];
+    let e = at_most(n, whole.len());
+    &whole[0..e]
+}
+
+// What follows the octets of n words.
+fn rest_of_words(s: &[u8], n: usize) -> &[u8]
+    ensures { λ r. ⌜ length (now r) ≤ length (now (s .entry)) ⌝ }
+{
+    rest(s, at_most(n, 2048) * 4)
+}
+
+fn check_catalogue(groups: &[u32], tracks: &[u32], segments: &[u32], text: &[u8]) {
+    let answer = catalogue::check(groups, tracks, segments, text);
+    match answer {
+        Catalogue::Fine => {
+            io::write_all(1, b" fine");
+        }
+        Catalogue::Wrong => {
+            write_number(200);
+        }
+    }
+}
+
+fn read_catalogue(groups: &[u8], g: usize, t: usize, n: usize, x: usize) -> &[u8]
+    ensures { λ r. ⌜ length (now r) ≤ length (now (groups .entry)) ⌝ }
+{
+    let mut group_table = [0u32; 2048];
+    let mut track_table = [0u32; 2048];
+    let mut segment_table = [0u32; 2048];
+    let tracks = rest_of_words(groups, g);
+    let segments = rest_of_words(tracks, t);
+    let text = rest_of_words(segments, n);
+    read_words(&mut group_table, groups);
+    read_words(&mut track_table, tracks);
+    read_words(&mut segment_table, segments);
+    check_catalogue(
+        front_of_words(&group_table, g),
+        front_of_words(&track_table, t),
+        front_of_words(&segment_table, n),
+        front(text, x),
+    );
+    rest(text, x)
+}
+
+// The lengths of the groups, tracks and segments in words and of the text in octets, and then these.
+fn catalogue_case(s: &[u8]) -> &[u8]
+    ensures { λ r. ⌜ length (now r) ≤ length (now (s .entry)) ⌝ }
+{
+    read_catalogue(
+        rest(s, 16),
+        number(s),
+        number(rest(s, 4)),
+        number(rest(s, 8)),
+        number(rest(s, 12)),
+    )
+}
+
+// The length of the text, and the text.
+fn text_case(s: &[u8]) -> &[u8]
+    ensures { λ r. ⌜ length (now r) ≤ length (now (s .entry)) ⌝ }
+{
+    let len = number(s);
+    let octets = rest(s, 4);
+    let answer = text::check(front(octets, len));
+    match answer {
+        Checked::Fine => {
+            io::write_all(1, b" fine");
+        }
+        Checked::BadAt(at) => {
+            io::write_all(1, b" bad at");
+            write_number(at);
+        }
+    }
+    rest(octets, len)
+}
+
+// Runs the case of a kind, and hands back what follows it. Any other kind ends the input.
+fn case_of_kind(kind: u8, s: &[u8]) -> &[u8]
+    ensures { λ r. ⌜ length (now r) ≤ length (now (s .entry)) ⌝ }
+{
+    match kind {
+        1 => card_case(s),
+        2 => catalogue_case(s),
+        3 => text_case(s),
+        _ => rest(s, s.len()),
+    }
+}
+
+// Runs the case of the first frame, and hands back what follows it.
+fn frame(s: &[u8]) -> &[u8]
+    ensures { λ r. ⌜ length (now r) ≤ length (now (s .entry)) - 2 ⌝ }
+{
+    let kind = ground::octet_or_zero(s, 0);
+    let len = ground::wide_word(ground::wide_octet(ground::octet_or_zero(s, 1)));
+    let name = rest(s, 2);
+    io::write_all(1, front(name, len));
+    let left = case_of_kind(kind, rest(name, len));
+    io::write_all(1, b"\n");
+    left
+}
+
+fn frames(s: &[u8]) {
+    let mut left = s;
+    while 0 < left.len() {
+        let after = frame(left);
+        left = &after[0..];
+    }
+}
+
+fn main() {
+    let mut input = [0u8; 1048576];
+    let n = io::read_full(0, &mut input);
+    frames(&input[..n]);
+}

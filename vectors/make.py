@@ -1,0 +1,617 @@
+#!/usr/bin/env python3
+"""The vectors of the card reader, the catalogue check and the text check.
+
+    python3 vectors/make.py            writes the files below
+    python3 vectors/make.py --check    compares them, and fails on a difference
+
+    crates/vectors/stdin    the cases, framed
+    crates/vectors/stdout   the answer of each
+    crates/inspect/stdin    the card of the sample catalogue
+
+Each vector has its answer beside it, worked out by hand from document 01. Only the check numbers of the tables are
+computed, from the tables that the vector was made of. A comment in quotation marks is a sentence of document 01.
+"""
+import os
+import struct
+import sys
+
+ROOT = os.path.dirname(os.path.dirname(os.path.abspath(__file__)))
+WORD = 0xFFFFFFFF
+
+CARD, CATALOGUE, TEXT = 1, 2, 3
+GROUP_KIND, TRACK_KIND, SEGMENT_KIND, TEXT_KIND = 1, 2, 3, 4
+
+# One entry for each vector: its kind, its name, the octets of its case, its answer.
+VECTORS = []
+
+
+def add(kind, name, case, answer):
+    if any(name == other for _, other, _, _ in VECTORS):
+        sys.exit('two vectors are named ' + name)
+    VECTORS.append((kind, name, case, answer))
+
+
+def words(numbers):
+    return b''.join(struct.pack('<I', n) for n in numbers)
+
+
+def flat(records):
+    return [n for record in records for n in record]
+
+
+# ---- Catalogues: groups (parent, first track, track count), tracks (duration, age stamp, first segment, segment count,
+# ---- title offset, title length), starts of segments, text.
+
+# "Groups: 0 (no tracks), 1 (tracks 0–2), 2 (none), 3 (track 3); parents 0."
+SAMPLE_GROUPS = [(0, 0, 0), (0, 0, 3), (0, 3, 0), (0, 3, 1)]
+# "Track, duration, stamp: 0, 6000, 30 with starts 0, 1500, 4000; 1, 300, 10; 2, 0, 10; 3, 900, 5."
+# The titles are Prélude (8 octets), Intermezzo (10), an empty one, Coda (4).
+SAMPLE_TRACKS = [(6000, 30, 0, 3, 0, 8), (300, 10, 3, 0, 8, 10), (0, 10, 3, 0, 18, 0), (900, 5, 3, 0, 18, 4)]
+SAMPLE_SEGMENTS = [0, 1500, 4000]
+SAMPLE_TEXT = b'Pr\xC3\xA9ludeIntermezzoCoda'
+
+# "At most 64 groups, 256 tracks, 1,024 segments, 32,768 text octets": each group has four tracks, each track four
+# segments and a title of 128 octets with characters of one to four octets.
+FULL_GROUPS = [(i // 2, 4 * i, 4) for i in range(64)]
+FULL_TRACKS = [(301 + i, WORD - i, 4 * i, 4, 128 * i, 128) for i in range(256)]
+FULL_SEGMENTS = flat([(0, 1, 2 + i, 300 + i) for i in range(256)])
+FULL_TEXT = b''.join(b'%03d-' % i + b'\xC3\xA9' * 31 + b'\xE2\x82\xAC' * 10 + b'\xF0\x9D\x84\x9E' * 8 for i in range(256))
+
+# A track without segments and with an empty title.
+PLAIN = (100, 0, 0, 0, 0, 0)
+
+
+class Tables:
+    """The four tables of a catalogue, flat."""
+
+    def __init__(self, groups=(), tracks=(), segments=(), text=b''):
+        self.groups, self.tracks, self.segments, self.text = flat(groups), flat(tracks), list(segments), text
+
+
+SAMPLE = Tables(SAMPLE_GROUPS, SAMPLE_TRACKS, SAMPLE_SEGMENTS, SAMPLE_TEXT)
+FULL = Tables(FULL_GROUPS, FULL_TRACKS, FULL_SEGMENTS, FULL_TEXT)
+
+
+def put(records, place, record):
+    """The records with another one at a place."""
+    return records[:place] + [record] + records[place + 1:]
+
+
+# ---- Cards
+
+# "1 up to 42, 21, 126 or 505 by kind"
+MOST = {GROUP_KIND: 42, TRACK_KIND: 21, SEGMENT_KIND: 126, TEXT_KIND: 505}
+
+
+def seal(octets):
+    """A block of its 510 octets: "Byte 510 is the sum of bytes 0 to 509 modulo 255; byte 511 is the sum of the 510
+    running sums modulo 255."
+    """
+    octets = bytes(octets)
+    assert len(octets) == 510
+    plain = running = 0
+    for octet in octets:
+        plain += octet
+        running += plain
+    return octets + bytes([plain % 255, running % 255])
+
+
+def open_block(number, kind, count, records):
+    """The 510 octets of a block, which may be spoiled before they are sealed."""
+    return bytearray((struct.pack('<HBH', number, kind, count) + records).ljust(510, b'\0'))
+
+
+def block(number, kind, count, records):
+    return seal(open_block(number, kind, count, records))
+
+
+def pieces(records, most):
+    return [records[i:i + most] for i in range(0, len(records), most)]
+
+
+def card_of(groups=(), tracks=(), segments=(), text=b'', most=MOST):
+    """A card of these records, with no more than `most` of them in a block."""
+    made = b''
+    for kind, records in ((GROUP_KIND, groups), (TRACK_KIND, tracks), (SEGMENT_KIND, segments), (TEXT_KIND, text)):
+        for piece in pieces(records, most[kind]):
+            octets = piece if kind == TEXT_KIND else words(piece if kind == SEGMENT_KIND else flat(piece))
+            made += block(len(made) // 512, kind, len(piece), octets)
+    return made
+
+
+SAMPLE_CARD = card_of(SAMPLE_GROUPS, SAMPLE_TRACKS, SAMPLE_SEGMENTS, SAMPLE_TEXT)
+
+# The room of the groups, tracks and segments in words, and of the text in octets.
+AT_LIMITS = (192, 1536, 1024, 32768)
+ABOVE_LIMITS = (300, 2048, 1100, 40000)
+NO_ROOM = (0, 0, 0, 0)
+
+
+def check_number(table):
+    total = totals = 0
+    for n in table:
+        total = (total + n) & WORD
+        totals = (totals + total) & WORD
+    return totals
+
+
+def after(table, old):
+    """A lent table after a load: "fills the front of each table"."""
+    return list(table) + old[len(table):]
+
+
+def card(name, answer, octets, tables=None, room=AT_LIMITS):
+    """A card vector: `tables` are what a granted load fills in; a refusal "alters nothing"."""
+    tables = tables or Tables()
+    lent = [[(0xA5A50000 + i) & WORD for i in range(n)] for n in room[:3]] + [[0xA5] * room[3]]
+    left = [after(*pair) for pair in zip((tables.groups, tables.tracks, tables.segments, tables.text), lent)]
+    case = struct.pack('<I', len(octets)) + octets + words(room)
+    add(CARD, name, case, ' '.join([answer] + [str(check_number(table)) for table in left]))
+
+
+def spoiled(octets, place, octet):
+    """A card with another octet at a place, and with its check octets as they were."""
+    assert octets[place] != octet
+    return octets[:place] + bytes([octet]) + octets[place + 1:]
+
+
+def resealed(octets, place, octet):
+    """A block of these 510 octets with another octet at a place, and with the check octets of that."""
+    octets[place] = octet
+    return seal(octets)
+
+
+def group_block(number=0):
+    return open_block(number, GROUP_KIND, 1, words((0, 0, 0)))
+
+
+def text_block(number=0):
+    return open_block(number, TEXT_KIND, 2, b'ab')
+
+
+# "A card is 0 to 128 blocks of 512 bytes."
+card('card-empty', '0 0 0 0', b'')
+card('card-empty-no-room', '0 0 0 0', b'', room=NO_ROOM)
+card('card-sample', '4 4 3 22', SAMPLE_CARD, SAMPLE)
+card('card-full', '64 256 1024 32768', card_of(FULL_GROUPS, FULL_TRACKS, FULL_SEGMENTS, FULL_TEXT), FULL)
+ONE_EACH = {GROUP_KIND: 1, TRACK_KIND: 1, SEGMENT_KIND: 1, TEXT_KIND: 1}
+card('card-128-blocks', '0 0 0 128', card_of(text=b'x' * 128, most=ONE_EACH), Tables(text=b'x' * 128))
+
+# 210: "card length no multiple of 512, or over 65,536"
+card('card-length-1', '210', b'\0')
+card('card-length-511', '210', SAMPLE_CARD[:511])
+card('card-length-513', '210', SAMPLE_CARD[:512] + b'\0')
+card('card-length-2047', '210', SAMPLE_CARD[:2047])
+card('card-129-blocks', '210', card_of(text=b'x' * 129, most=ONE_EACH))
+
+# "Text is octets", and card load gives 210, 211, 212 only: no word and no octet is looked at.
+ANY_GROUP = (WORD, 0x01020304, 0x80000000)
+ANY_TRACK = (0xFFFFFFFE, 0x04030201, 0xFF, 0xFF00, 0xFF0000, 0xFF000000)
+ANY = Tables([ANY_GROUP], [ANY_TRACK], [WORD, 0, 0x7FFFFFFF], b'\xFF\x00\x80\xC0')
+card('card-any-words', '1 1 3 4', card_of([ANY_GROUP], [ANY_TRACK], [WORD, 0, 0x7FFFFFFF], b'\xFF\x00\x80\xC0'), ANY)
+
+# 212: "a limit .. is exceeded", by one, with room for all
+card('card-64-groups', '64 0 0 0', card_of(groups=[(0, 0, 0)] * 64), Tables([(0, 0, 0)] * 64), ABOVE_LIMITS)
+card('card-65-groups', '212', card_of(groups=[(0, 0, 0)] * 65), room=ABOVE_LIMITS)
+card('card-256-tracks', '0 256 0 0', card_of(tracks=[PLAIN] * 256), Tables(tracks=[PLAIN] * 256), ABOVE_LIMITS)
+card('card-257-tracks', '212', card_of(tracks=[PLAIN] * 257), room=ABOVE_LIMITS)
+card('card-1024-segments', '0 0 1024 0', card_of(segments=[7] * 1024), Tables(segments=[7] * 1024), ABOVE_LIMITS)
+card('card-1025-segments', '212', card_of(segments=[7] * 1025), room=ABOVE_LIMITS)
+card('card-32768-text', '0 0 0 32768', card_of(text=b'y' * 32768), Tables(text=b'y' * 32768), ABOVE_LIMITS)
+card('card-32769-text', '212', card_of(text=b'y' * 32769), room=ABOVE_LIMITS)
+
+# 212: ".. or a lent table's room is exceeded". The sample has 12 words, 24 words, 3 words and 22 octets.
+card('room-exact', '4 4 3 22', SAMPLE_CARD, SAMPLE, (12, 24, 3, 22))
+card('room-groups-word-short', '212', SAMPLE_CARD, room=(11, 24, 3, 22))
+card('room-groups-record-short', '212', SAMPLE_CARD, room=(9, 24, 3, 22))
+card('room-groups-word-over', '4 4 3 22', SAMPLE_CARD, SAMPLE, (13, 24, 3, 22))
+card('room-groups-none', '212', SAMPLE_CARD, room=(0, 24, 3, 22))
+card('room-tracks-word-short', '212', SAMPLE_CARD, room=(12, 23, 3, 22))
+card('room-tracks-record-short', '212', SAMPLE_CARD, room=(12, 18, 3, 22))
+card('room-tracks-words-over', '4 4 3 22', SAMPLE_CARD, SAMPLE, (12, 29, 3, 22))
+card('room-tracks-none', '212', SAMPLE_CARD, room=(12, 0, 3, 22))
+card('room-segments-short', '212', SAMPLE_CARD, room=(12, 24, 2, 22))
+card('room-segments-over', '4 4 3 22', SAMPLE_CARD, SAMPLE, (12, 24, 4, 22))
+card('room-text-short', '212', SAMPLE_CARD, room=(12, 24, 3, 21))
+card('room-text-over', '4 4 3 22', SAMPLE_CARD, SAMPLE, (12, 24, 3, 23))
+card('room-all-short', '212', SAMPLE_CARD, room=NO_ROOM)
+
+# 211: "Bytes 0–1 block number from 0"
+card('block-number-first-1', '211', block(1, TEXT_KIND, 2, b'ab'))
+card('block-number-again', '211', block(0, TEXT_KIND, 2, b'ab') + block(0, TEXT_KIND, 2, b'cd'))
+card('block-number-skipped', '211', block(0, TEXT_KIND, 2, b'ab') + block(2, TEXT_KIND, 2, b'cd'))
+card('block-number-high-octet', '211', block(256, TEXT_KIND, 2, b'ab'))
+
+# 211: "2 kind (1 group, 2 track, 3 segment, 4 text), never falling"
+card('block-kind-0', '211', block(0, 0, 1, b''))
+card('block-kind-5', '211', block(0, 5, 1, b'a'))
+card('block-kind-5-last', '211', block(0, TEXT_KIND, 2, b'ab') + block(1, 5, 1, b'a'))
+card('block-kind-255', '211', block(0, 255, 1, b'a'))
+card('block-kind-falls-2-1', '211', block(0, TRACK_KIND, 1, words(PLAIN)) + block(1, GROUP_KIND, 1, words((0, 0, 0))))
+card('block-kind-falls-4-3', '211', block(0, TEXT_KIND, 2, b'ab') + block(1, SEGMENT_KIND, 1, words((0,))))
+card('block-kind-falls-later', '211', block(0, GROUP_KIND, 1, words((0, 0, 0))) + block(1, SEGMENT_KIND, 1, words((0,)))
+     + block(2, TRACK_KIND, 1, words(PLAIN)))
+
+# 211: "3–4 record count, 1 up to 42, 21, 126 or 505 by kind"
+card('block-groups-0', '211', block(0, GROUP_KIND, 0, b''))
+card('block-tracks-0', '211', block(0, TRACK_KIND, 0, b''))
+card('block-segments-0', '211', block(0, SEGMENT_KIND, 0, b''))
+card('block-text-0', '211', block(0, TEXT_KIND, 0, b''))
+card('block-groups-42', '42 0 0 0', block(0, GROUP_KIND, 42, words((1, 2, 3)) * 42), Tables(groups=[(1, 2, 3)] * 42))
+card('block-groups-43', '211', block(0, GROUP_KIND, 43, words((1, 2, 3)) * 42))
+card('block-tracks-21', '0 21 0 0', block(0, TRACK_KIND, 21, words(PLAIN) * 21), Tables(tracks=[PLAIN] * 21))
+card('block-tracks-22', '211', block(0, TRACK_KIND, 22, words(PLAIN) * 21))
+card('block-segments-126', '0 0 126 0', block(0, SEGMENT_KIND, 126, words((9,)) * 126), Tables(segments=[9] * 126))
+card('block-segments-127', '211', block(0, SEGMENT_KIND, 127, words((9,)) * 126))
+card('block-text-505', '0 0 0 505', block(0, TEXT_KIND, 505, b'z' * 505), Tables(text=b'z' * 505))
+card('block-text-506', '211', block(0, TEXT_KIND, 506, b'z' * 505))
+card('block-text-1', '0 0 0 1', block(0, TEXT_KIND, 1, b'z'), Tables(text=b'z'))
+card('block-count-high-octet', '211', block(0, GROUP_KIND, 257, words((0, 0, 0))))
+card('block-count-65535', '211', block(0, TEXT_KIND, 65535, b'z' * 505))
+
+# 211: "zeros up to byte 509". One group ends before byte 17, two octets of text before byte 7, 42 groups before byte 509.
+card('block-padding-group', '1 0 0 0', seal(group_block()), Tables(groups=[(0, 0, 0)]))
+card('block-padding-group-first', '211', resealed(group_block(), 17, 1))
+card('block-padding-group-last', '211', resealed(group_block(), 509, 1))
+card('block-padding-text-first', '211', resealed(text_block(), 7, 1))
+card('block-padding-text-middle', '211', resealed(text_block(), 300, 255))
+card('block-padding-text-last', '211', resealed(text_block(), 509, 255))
+card('block-padding-42-groups', '211', resealed(open_block(0, GROUP_KIND, 42, words((1, 2, 3)) * 42), 509, 1))
+card('block-padding-21-tracks', '211', resealed(open_block(0, TRACK_KIND, 21, words(PLAIN) * 21), 509, 1))
+card('block-padding-126-segments', '211', resealed(open_block(0, SEGMENT_KIND, 126, words((9,)) * 126), 509, 1))
+
+# 211: "Byte 510 is the sum of bytes 0 to 509 modulo 255; byte 511 is the sum of the 510 running sums modulo 255."
+AB = block(0, TEXT_KIND, 2, b'ab')
+card('check-right', '0 0 0 2', AB, Tables(text=b'ab'))
+card('check-plain-flipped', '211', spoiled(AB, 510, AB[510] ^ 1))
+card('check-running-flipped', '211', spoiled(AB, 511, AB[511] ^ 1))
+card('check-plain-zero', '211', spoiled(AB, 510, 0))
+card('check-running-zero', '211', spoiled(AB, 511, 0))
+card('check-octet-changed', '211', spoiled(AB, 5, 0x62))
+card('check-octets-swapped', '211', AB[:5] + b'ba' + AB[7:])
+card('check-last-block', '211', spoiled(SAMPLE_CARD, 2047, SAMPLE_CARD[2047] ^ 1))
+card('check-first-block', '211', spoiled(SAMPLE_CARD, 510, SAMPLE_CARD[510] ^ 1))
+# "modulo 255" gives 0 to 254. With the octet 250 the plain sum is 4 + 1 + 250 = 255, with 47 and 1 the sum of the
+# running sums is 4 * 508 + 2 * 507 + 47 * 505 + 1 * 504 = 107 * 255.
+PLAIN_ZERO = block(0, TEXT_KIND, 1, b'\xFA')
+RUNNING_ZERO = block(0, TEXT_KIND, 2, b'\x2F\x01')
+assert PLAIN_ZERO[510] == 0 and RUNNING_ZERO[511] == 0
+card('check-plain-is-0', '0 0 0 1', PLAIN_ZERO, Tables(text=b'\xFA'))
+card('check-plain-255-for-0', '211', spoiled(PLAIN_ZERO, 510, 255))
+card('check-running-is-0', '0 0 0 2', RUNNING_ZERO, Tables(text=b'\x2F\x01'))
+card('check-running-255-for-0', '211', spoiled(RUNNING_ZERO, 511, 255))
+
+# Kinds never fall, and may be left out or be spread over several blocks.
+card('kinds-groups-only', '4 0 0 0', card_of(groups=SAMPLE_GROUPS), Tables(groups=SAMPLE_GROUPS))
+card('kinds-tracks-only', '0 4 0 0', card_of(tracks=SAMPLE_TRACKS), Tables(tracks=SAMPLE_TRACKS))
+card('kinds-segments-only', '0 0 3 0', card_of(segments=SAMPLE_SEGMENTS), Tables(segments=SAMPLE_SEGMENTS))
+card('kinds-text-only', '0 0 0 22', card_of(text=SAMPLE_TEXT), Tables(text=SAMPLE_TEXT), (0, 0, 0, 22))
+card('kinds-1-and-4', '4 0 0 22', card_of(groups=SAMPLE_GROUPS, text=SAMPLE_TEXT), Tables(SAMPLE_GROUPS, text=SAMPLE_TEXT))
+card('kinds-2-and-3', '0 4 3 0', card_of(tracks=SAMPLE_TRACKS, segments=SAMPLE_SEGMENTS),
+     Tables(tracks=SAMPLE_TRACKS, segments=SAMPLE_SEGMENTS), (0, 24, 3, 0))
+SHORT = {GROUP_KIND: 1, TRACK_KIND: 3, SEGMENT_KIND: 2, TEXT_KIND: 7}
+card('kinds-short-blocks', '4 4 3 22', card_of(SAMPLE_GROUPS, SAMPLE_TRACKS, SAMPLE_SEGMENTS, SAMPLE_TEXT, SHORT), SAMPLE)
+card('kinds-short-then-full', '0 0 0 507', block(0, TEXT_KIND, 2, b'ab') + block(1, TEXT_KIND, 505, b'z' * 505),
+     Tables(text=b'ab' + b'z' * 505))
+
+# "Several at once: the first in the table."
+BAD_LAST = spoiled(SAMPLE_CARD, 2046, SAMPLE_CARD[2046] ^ 1)
+card('first-211-no-room', '211', BAD_LAST, room=NO_ROOM)
+card('first-211-over-limit', '211', card_of(groups=[(0, 0, 0)] * 65) + block(2, 5, 1, b'a'), room=ABOVE_LIMITS)
+card('first-210-bad-block', '210', BAD_LAST + b'\0')
+card('first-210-no-room', '210', SAMPLE_CARD + b'\0', room=NO_ROOM)
+card('first-210-129-bad-blocks', '210', b'\xFF' * 66048, room=NO_ROOM)
+
+
+# ---- Catalogues
+
+def tables_case(name, answer, tables):
+    case = words((len(tables.groups), len(tables.tracks), len(tables.segments), len(tables.text)))
+    case += words(tables.groups) + words(tables.tracks) + words(tables.segments) + tables.text
+    add(CATALOGUE, name, case, answer)
+
+
+def catalogue(name, answer, groups=SAMPLE_GROUPS, tracks=SAMPLE_TRACKS, segments=SAMPLE_SEGMENTS, text=SAMPLE_TEXT):
+    """A catalogue vector: the sample, but for the tables that are given."""
+    tables_case(name, answer, Tables(groups, tracks, segments, text))
+
+
+def cut(name, groups=(), tracks=()):
+    """The sample with words behind its last group and its last track."""
+    tables = Tables(SAMPLE_GROUPS, SAMPLE_TRACKS, SAMPLE_SEGMENTS, SAMPLE_TEXT)
+    tables.groups += groups
+    tables.tracks += tracks
+    tables_case(name, '200', tables)
+
+
+tables_case('catalogue-sample', 'fine', SAMPLE)
+tables_case('catalogue-empty', 'fine', Tables())
+tables_case('catalogue-full', 'fine', FULL)
+catalogue('catalogue-text-alone', 'fine', [], [], [], SAMPLE_TEXT)
+
+# "or a lent table ends inside a record"
+cut('cut-groups-1-word', groups=[0])
+cut('cut-groups-2-words', groups=[0, 4])
+cut('cut-tracks-1-word', tracks=[100])
+cut('cut-tracks-3-words', tracks=[100, 0, 3])
+cut('cut-tracks-5-words', tracks=[100, 0, 3, 0, 0])
+tables_case('cut-groups-no-record', '200', Tables([(0,)]))
+tables_case('cut-tracks-no-record', '200', Tables([], [(100, 0)]))
+
+# "At most 64 groups, 256 tracks, 1,024 segments, 32,768 text octets."
+catalogue('limit-64-groups', 'fine', [(0, 0, 0)] * 64, [], [], b'')
+catalogue('limit-65-groups', '200', [(0, 0, 0)] * 65, [], [], b'')
+catalogue('limit-256-tracks', 'fine', [(0, 0, 256)], [PLAIN] * 256, [], b'')
+catalogue('limit-257-tracks', '200', [(0, 0, 257)], [PLAIN] * 257, [], b'')
+catalogue('limit-1024-segments', 'fine', [(0, 0, 1)], [(8640000, 0, 0, 1024, 0, 0)], range(1024), b'')
+catalogue('limit-1025-segments', '200', [(0, 0, 1)], [(8640000, 0, 0, 1025, 0, 0)], range(1025), b'')
+catalogue('limit-32768-text', 'fine', [], [], [], b'y' * 32768)
+catalogue('limit-32769-text', '200', [], [], [], b'y' * 32769)
+
+# "Group 0, if any, is its own parent; every other parent number is smaller than its child's."
+catalogue('parent-of-0-is-1', '200', put(SAMPLE_GROUPS, 0, (1, 0, 0)))
+catalogue('parent-of-0-is-greatest', '200', put(SAMPLE_GROUPS, 0, (WORD, 0, 0)))
+catalogue('parent-of-only-group-is-1', '200', [(1, 0, 4)])
+catalogue('parent-of-only-group-is-0', 'fine', [(0, 0, 4)])
+catalogue('parent-of-1-is-1', '200', put(SAMPLE_GROUPS, 1, (1, 0, 3)))
+catalogue('parent-of-2-is-2', '200', put(SAMPLE_GROUPS, 2, (2, 3, 0)))
+catalogue('parent-of-2-is-3', '200', put(SAMPLE_GROUPS, 2, (3, 3, 0)))
+catalogue('parent-of-2-is-1', 'fine', put(SAMPLE_GROUPS, 2, (1, 3, 0)))
+catalogue('parent-of-3-is-2', 'fine', put(SAMPLE_GROUPS, 3, (2, 3, 1)))
+catalogue('parent-of-3-is-4', '200', put(SAMPLE_GROUPS, 3, (4, 3, 1)))
+catalogue('parent-of-3-is-greatest', '200', put(SAMPLE_GROUPS, 3, (WORD, 3, 1)))
+
+# "The groups' track runs follow each other from 0 in group order and use up all tracks"
+FOUR = [PLAIN] * 4
+
+
+def track_runs(name, answer, groups, tracks=FOUR):
+    catalogue(name, answer, groups, tracks, [], b'')
+
+
+track_runs('track-runs-one', 'fine', [(0, 0, 4)])
+track_runs('track-runs-two', 'fine', [(0, 0, 3), (0, 3, 1)])
+track_runs('track-runs-empty-last', 'fine', [(0, 0, 4), (0, 4, 0)])
+track_runs('track-runs-first-1', '200', [(0, 1, 3)])
+track_runs('track-runs-shifted', '200', [(0, 1, 4)])
+track_runs('track-runs-gap', '200', [(0, 0, 2), (0, 3, 1)])
+track_runs('track-runs-overlap', '200', [(0, 0, 3), (0, 2, 2)])
+track_runs('track-runs-wrong-order', '200', [(0, 3, 1), (0, 0, 3)])
+track_runs('track-runs-not-used-up', '200', [(0, 0, 3)])
+track_runs('track-runs-beyond', '200', [(0, 0, 5)])
+track_runs('track-runs-none', '200', [(0, 0, 0)])
+track_runs('track-runs-no-groups', '200', [])
+track_runs('track-runs-no-tracks', '200', [(0, 0, 1)], [])
+track_runs('track-runs-empty-first-off', '200', [(0, 1, 0), (0, 0, 4)])
+track_runs('track-runs-empty-middle-low', '200', [(0, 0, 3), (0, 2, 0), (0, 3, 1)])
+track_runs('track-runs-empty-middle-high', '200', [(0, 0, 3), (0, 4, 0), (0, 3, 1)])
+track_runs('track-runs-empty-last-off', '200', [(0, 0, 4), (0, 0, 0)])
+# Runs that fit only where a sum of 32 bits wraps.
+track_runs('track-runs-wrap-first', '200', [(0, WORD, 1), (0, 0, 4)])
+track_runs('track-runs-wrap-last', '200', [(0, 0, 4), (0, WORD, 1)])
+track_runs('track-runs-wrap-sum', '200', [(0, 0, WORD), (0, WORD, 1), (0, 0, 4)])
+track_runs('track-runs-wrap-back', '200', [(0, 0, 5), (0, 5, WORD)])
+
+# "the tracks' segment runs likewise"
+
+
+def segment_runs(name, answer, runs, segments):
+    """Tracks of a duration of 6000 with these runs (first segment, segment count), all in one group."""
+    tracks = [(6000, 0, first, count, 0, 0) for first, count in runs]
+    catalogue(name, answer, [(0, 0, len(tracks))] if tracks else [], tracks, segments, b'')
+
+
+segment_runs('segment-runs-one', 'fine', [(0, 3)], [0, 1500, 4000])
+segment_runs('segment-runs-two', 'fine', [(0, 2), (2, 1)], [0, 1500, 0])
+segment_runs('segment-runs-empty-between', 'fine', [(0, 2), (2, 0), (2, 1)], [0, 1500, 0])
+segment_runs('segment-runs-first-1', '200', [(1, 2)], [0, 0, 1500])
+segment_runs('segment-runs-gap', '200', [(0, 1), (2, 1)], [0, 9, 0])
+segment_runs('segment-runs-overlap', '200', [(0, 1), (0, 1)], [0])
+segment_runs('segment-runs-wrong-order', '200', [(1, 1), (0, 1)], [0, 0])
+segment_runs('segment-runs-not-used-up', '200', [(0, 2)], [0, 1500, 4000])
+segment_runs('segment-runs-beyond', '200', [(0, 4)], [0, 1500, 4000])
+segment_runs('segment-runs-none', '200', [(0, 0)], [0])
+segment_runs('segment-runs-no-tracks', '200', [], [0])
+segment_runs('segment-runs-no-segments', '200', [(0, 1)], [])
+segment_runs('segment-runs-empty-first-off', '200', [(1, 0), (0, 1)], [0])
+segment_runs('segment-runs-empty-middle-low', '200', [(0, 2), (1, 0), (2, 1)], [0, 1500, 0])
+segment_runs('segment-runs-empty-middle-high', '200', [(0, 2), (3, 0), (2, 1)], [0, 1500, 0])
+segment_runs('segment-runs-empty-last-off', '200', [(0, 1), (0, 0)], [0])
+segment_runs('segment-runs-wrap-first', '200', [(WORD, 1), (0, 1)], [0])
+segment_runs('segment-runs-wrap-last', '200', [(0, 1), (WORD, 1)], [0])
+segment_runs('segment-runs-wrap-sum', '200', [(0, WORD), (WORD, 1), (0, 1)], [0])
+
+# "Duration is 0 to 8,640,000 hundredths of a second."
+catalogue('duration-0', 'fine', tracks=put(SAMPLE_TRACKS, 3, (0, 5, 3, 0, 18, 4)))
+catalogue('duration-8640000', 'fine', tracks=put(SAMPLE_TRACKS, 3, (8640000, 5, 3, 0, 18, 4)))
+catalogue('duration-8640001', '200', tracks=put(SAMPLE_TRACKS, 3, (8640001, 5, 3, 0, 18, 4)))
+catalogue('duration-8640001-first', '200', tracks=put(SAMPLE_TRACKS, 0, (8640001, 30, 0, 3, 0, 8)))
+catalogue('duration-greatest', '200', tracks=put(SAMPLE_TRACKS, 3, (WORD, 5, 3, 0, 18, 4)))
+catalogue('stamp-greatest', 'fine', tracks=put(SAMPLE_TRACKS, 3, (900, WORD, 3, 0, 18, 4)))
+
+# "Segment starts begin at 0, rise strictly and lie below the duration." Track 0 of the sample lasts 6000.
+catalogue('starts-begin-at-1', '200', segments=[1, 1500, 4000])
+catalogue('starts-equal', '200', segments=[0, 1500, 1500])
+catalogue('starts-two-zeros', '200', segments=[0, 0, 4000])
+catalogue('starts-fall', '200', segments=[0, 4000, 1500])
+catalogue('starts-below-duration', 'fine', segments=[0, 1500, 5999])
+catalogue('starts-at-duration', '200', segments=[0, 1500, 6000])
+catalogue('starts-above-duration', '200', segments=[0, 1500, WORD])
+catalogue('starts-next-to-each-other', 'fine', segments=[0, 1, 2])
+catalogue('starts-in-duration-0', '200', [(0, 0, 1)], [(0, 0, 0, 1, 0, 0)], [0], b'')
+catalogue('starts-in-duration-1', 'fine', [(0, 0, 1)], [(1, 0, 0, 1, 0, 0)], [0], b'')
+segment_runs('starts-anew', 'fine', [(0, 2), (2, 2)], [0, 5999, 0, 1])
+segment_runs('starts-not-anew', '200', [(0, 2), (2, 2)], [0, 1, 2, 3])
+segment_runs('starts-fall-in-second', '200', [(0, 1), (1, 3)], [0, 0, 9, 8])
+segment_runs('starts-at-duration-in-second', '200', [(0, 1), (1, 2)], [0, 0, 6000])
+
+# "Titles, also empty ones, lie in the text, have at most 128 octets and are UTF-8." The text of the sample has 22 octets.
+
+
+def title(name, answer, offset, length, text=SAMPLE_TEXT):
+    """The sample with empty titles but for one, that of the last track."""
+    tracks = [(6000, 30, 0, 3, 0, 0), (300, 10, 3, 0, 0, 0), (0, 10, 3, 0, 0, 0), (900, 5, 3, 0, offset, length)]
+    catalogue(name, answer, tracks=tracks, text=text)
+
+
+title('title-whole-text', 'fine', 0, 22)
+title('title-out-by-one', '200', 18, 5)
+title('title-whole-out-by-one', '200', 0, 23)
+title('title-empty-at-0', 'fine', 0, 0)
+title('title-empty-at-end', 'fine', 22, 0)
+title('title-empty-beyond', '200', 23, 0)
+title('title-empty-far-beyond', '200', WORD, 0)
+title('title-empty-in-empty-text', 'fine', 0, 0, b'')
+title('title-one-in-empty-text', '200', 0, 1, b'')
+title('title-128', 'fine', 0, 128, b't' * 129)
+title('title-129', '200', 0, 129, b't' * 129)
+title('title-128-at-1', 'fine', 1, 128, b't' * 129)
+title('title-wrap-offset', '200', WORD, 1)
+title('title-wrap-length', '200', 1, WORD)
+title('title-wrap-inside', '200', 0xFFFFFFFC, 8)
+# Octets 2 and 3 are one character.
+title('title-cuts-character', '200', 0, 3)
+title('title-begins-in-character', '200', 3, 5)
+title('title-ends-before-character', 'fine', 0, 2)
+title('title-one-character', 'fine', 2, 2)
+title('title-not-utf-8', '200', 2, 2, b'ab\xC0\x80cd')
+title('title-bad-octet-last', '200', 0, 4, b'abc\xFF')
+title('title-bad-octets-outside', 'fine', 2, 2, b'\xFF\xC3ab\x80\xFF')
+title('title-character-behind-end', '200', 0, 1, b'\xC3\xA9')
+catalogue('title-bad-in-first-track', '200', text=b'Pr\xC3\xC3ludeIntermezzoCoda')
+catalogue('title-bad-in-second-track', '200', text=b'Pr\xC3\xA9lude\x80ntermezzoCoda')
+catalogue('titles-share-octets', 'fine', tracks=put(SAMPLE_TRACKS, 3, (900, 5, 3, 0, 8, 14)))
+catalogue('titles-in-any-order', 'fine', tracks=put(put(SAMPLE_TRACKS, 1, (300, 10, 3, 0, 18, 4)), 3, (900, 5, 3, 0, 8, 10)))
+
+
+# ---- Text: RFC 3629. The place is that of the first octet of the first bad character.
+
+GOOD = b'a\xC3\xA9\xE2\x82\xAC\xF0\x9D\x84\x9E'  # characters of one, two, three and four octets: ten octets
+
+
+def text(name, answer, octets):
+    add(TEXT, name, struct.pack('<I', len(octets)) + octets, answer)
+
+
+text('text-empty', 'fine', b'')
+text('text-ascii-40', 'fine', b'0123456789' * 4)
+text('text-ascii-40-then-bad', 'bad at 40', b'0123456789' * 4 + b'\x80')
+text('text-ascii-40-bad-first', 'bad at 0', b'\x80' + b'0123456789' * 4)
+text('text-mixed-300', 'fine', GOOD * 30)
+text('text-mixed-300-cut', 'bad at 296', (GOOD * 30)[:299])
+text('text-mixed-300-spoiled', 'bad at 150', GOOD * 15 + b'\xFF' + (GOOD * 15)[1:])
+
+# The first and the last character of each row of the RFC's syntax (UTF8-1 to UTF8-4).
+text('text-U+0000', 'fine', b'\x00')
+text('text-U+007F', 'fine', b'\x7F')
+text('text-U+0080', 'fine', b'\xC2\x80')
+text('text-U+07FF', 'fine', b'\xDF\xBF')
+text('text-U+0800', 'fine', b'\xE0\xA0\x80')
+text('text-U+0FFF', 'fine', b'\xE0\xBF\xBF')
+text('text-U+1000', 'fine', b'\xE1\x80\x80')
+text('text-U+CFFF', 'fine', b'\xEC\xBF\xBF')
+text('text-U+D000', 'fine', b'\xED\x80\x80')
+text('text-U+D7FF', 'fine', b'\xED\x9F\xBF')
+text('text-U+E000', 'fine', b'\xEE\x80\x80')
+text('text-U+FFFF', 'fine', b'\xEF\xBF\xBF')
+text('text-U+10000', 'fine', b'\xF0\x90\x80\x80')
+text('text-U+3FFFF', 'fine', b'\xF0\xBF\xBF\xBF')
+text('text-U+40000', 'fine', b'\xF1\x80\x80\x80')
+text('text-U+FFFFF', 'fine', b'\xF3\xBF\xBF\xBF')
+text('text-U+100000', 'fine', b'\xF4\x80\x80\x80')
+text('text-U+10FFFF', 'fine', b'\xF4\x8F\xBF\xBF')
+
+# Overlong forms: C0 and C1 never appear, nor 80 to 9F behind E0, nor 80 to 8F behind F0.
+text('text-overlong-C0-80', 'bad at 0', b'\xC0\x80')
+text('text-overlong-C1-BF', 'bad at 0', b'\xC1\xBF')
+text('text-overlong-E0-80-80', 'bad at 0', b'\xE0\x80\x80')
+text('text-overlong-E0-9F-BF', 'bad at 0', b'\xE0\x9F\xBF')
+text('text-overlong-F0-80-80-80', 'bad at 0', b'\xF0\x80\x80\x80')
+text('text-overlong-F0-8F-BF-BF', 'bad at 0', b'\xF0\x8F\xBF\xBF')
+text('text-overlong-behind-good', 'bad at 10', GOOD + b'\xE0\x9F\xBF' + GOOD)
+
+# Surrogates: A0 to BF never appear behind ED.
+text('text-surrogate-ED-A0-80', 'bad at 0', b'\xED\xA0\x80')
+text('text-surrogate-ED-BF-BF', 'bad at 0', b'\xED\xBF\xBF')
+text('text-surrogate-behind-good', 'bad at 10', GOOD + b'\xED\xA0\x80' + GOOD)
+
+# Above U+10FFFF: 90 to BF never appear behind F4, nor F5 to FF anywhere.
+text('text-above-F4-90-80-80', 'bad at 0', b'\xF4\x90\x80\x80')
+text('text-above-F5-80-80-80', 'bad at 0', b'\xF5\x80\x80\x80')
+text('text-above-FE', 'bad at 0', b'\xFE')
+text('text-above-FF', 'bad at 0', b'\xFF')
+text('text-above-behind-good', 'bad at 10', GOOD + b'\xF4\x90\x80\x80')
+text('text-above-behind-three', 'bad at 3', b'a\xC3\xA9\xF5\x80\x80\x80')
+
+# Tails where a character has to begin.
+text('text-lone-80', 'bad at 0', b'\x80')
+text('text-lone-BF', 'bad at 0', b'\xBF')
+text('text-lone-behind-good', 'bad at 10', GOOD + b'\xBF')
+text('text-tail-too-many', 'bad at 2', b'\xC3\xA9\xA9')
+
+# The end comes inside a character.
+text('text-cut-2-after-1', 'bad at 0', b'\xC3')
+text('text-cut-3-after-1', 'bad at 0', b'\xE2')
+text('text-cut-3-after-2', 'bad at 0', b'\xE2\x82')
+text('text-cut-4-after-1', 'bad at 0', b'\xF0')
+text('text-cut-4-after-2', 'bad at 0', b'\xF0\x9D')
+text('text-cut-4-after-3', 'bad at 0', b'\xF0\x9D\x84')
+text('text-cut-2-behind-good', 'bad at 10', GOOD + b'\xC3')
+text('text-cut-3-behind-good', 'bad at 10', GOOD + b'\xE2\x82')
+text('text-cut-4-behind-good', 'bad at 10', GOOD + b'\xF0\x9D\x84')
+
+# Something else in place of a tail, which is 80 to BF.
+text('text-ascii-in-2', 'bad at 0', b'\xC3A')
+text('text-ascii-in-3-second', 'bad at 0', b'\xE2A\xAC')
+text('text-ascii-in-3-third', 'bad at 0', b'\xE2\x82A')
+text('text-ascii-in-4-second', 'bad at 0', b'\xF0A\x84\x9E')
+text('text-ascii-in-4-third', 'bad at 0', b'\xF0\x9DA\x9E')
+text('text-ascii-in-4-fourth', 'bad at 0', b'\xF0\x9D\x84A')
+text('text-ascii-behind-good', 'bad at 10', GOOD + b'\xE2\x82A')
+text('text-7F-for-tail', 'bad at 0', b'\xC2\x7F')
+text('text-C0-for-tail', 'bad at 0', b'\xC2\xC0')
+text('text-7F-for-third', 'bad at 0', b'\xE1\x80\x7F')
+text('text-C0-for-third', 'bad at 0', b'\xE1\x80\xC0')
+text('text-C0-for-fourth', 'bad at 0', b'\xF1\x80\x80\xC0')
+text('text-first-for-tail', 'bad at 0', b'\xC3\xC3\xA9')
+text('text-first-of-two-bad', 'bad at 1', b'a\xFF\xC0\x80')
+
+
+# ---- Files
+
+def files():
+    cases = b''.join(bytes([kind, len(name)]) + name.encode('ascii') + case for kind, name, case, _ in VECTORS)
+    answers = ''.join('%s %s\n' % (name, answer) for _, name, _, answer in VECTORS)
+    return {
+        'crates/vectors/stdin': cases,
+        'crates/vectors/stdout': answers.encode('ascii'),
+        'crates/inspect/stdin': SAMPLE_CARD,
+    }
+
+
+def read(path):
+    if not os.path.exists(path):
+        return None
+    with open(path, 'rb') as file:
+        return file.read()
+
+
+def main(arguments):
+    if arguments not in ([], ['--check']):
+        sys.exit(__doc__)
+    differing = 0
+    for name, octets in files().items():
+        path = os.path.join(ROOT, name)
+        if not arguments:
+            with open(path, 'wb') as file:
+                file.write(octets)
+        elif read(path) != octets:
+            print(name + ' differs')
+            differing += 1
+    for kind, kind_name in ((CARD, 'cards'), (CATALOGUE, 'catalogues'), (TEXT, 'texts')):
+        print('%s: %d' % (kind_name, sum(1 for vector in VECTORS if vector[0] == kind)))
+    if differing:
+        sys.exit(1)
+
+
+main(sys.argv[1:])
