@@ -1,11 +1,13 @@
 -- A loop that stores f of each element of an array over it, from the front, as over the four clients: the invariant is `out ≡ upTo f 0 i out₀`.
 -- Assumes nothing.
 use mathlib.Core.Path.{_≡_, refl, ap, sym, _∙_}
-use mathlib.Core.List.{List, [], _∷_, map}
+use mathlib.Core.List.{List, [], _∷_, _++_, map, append-assoc}
 use Prim.Native.Nat.{ℕ, zero, suc, _+_, _≤_, _<_}
 use native.Mathlib.Nat.{add-zero, add-suc, suc-add, zero-add, le-of-suc-le-suc, not-suc-le-zero}
 use native.Mathlib.Numerals.{add-one}
-use lib.ListN.{length, getD, set}
+use native.Mathlib.Omega.{arith}
+use lib.ListN.{length, getD, set, take, drop, length-take}
+use lib.Seq.{drop-cons, take-suc, take-length, set-at}
 use Rattle.ground.specs.Lists.{mapFrom}
 
 module _ {A : Type 0} (f : ℕ → A → A) where
@@ -43,6 +45,20 @@ module _ {A : Type 0} (f : ℕ → A → A) where
   -- the loop's end
   pub swept : (k : ℕ) (xs out : List A) → length xs ≤ k → out ≡ upTo 0 k xs → out ≡ mapFrom f 0 xs
   swept k xs out h o = o ∙ ends 0 k xs h
+
+-- a loop that copies s over the front of d: after i turns
+module _ {A : Type 0} (s d : List A) where
+  abbrev pub copied : ℕ → List A
+  copied i = take i s ++ drop i d
+
+  pub copy-turn : (i : ℕ) (out : List A) (e : A) → i < length s → i < length d → out ≡ copied i → set out i (getD s i e) ≡ copied (i + 1)
+  copy-turn i out e h k o =
+      let f : length (take i s) ≡ i = simp length-take (omega arith) in
+      rw (o, drop-cons d i e)
+      (rw (set-at (take i s) (getD d i e) (drop (suc i) d) (getD s i e) i f, add-one i, take-suc s i e, append-assoc))
+
+  pub copy-end : (i : ℕ) (out : List A) → i ≡ length s → out ≡ copied i → out ≡ s ++ drop (length s) d
+  copy-end i out h o = rw (o, h, take-length)
 
 -- the length of a field that is an array of structs: what owning the struct tells speaks of the list mapped
 pub long-mapped : (X Y : Type 0) (f : X → Y) (l : List X) (n : ℕ) → length (map f l) ≡ n → length l ≡ n

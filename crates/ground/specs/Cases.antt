@@ -1,13 +1,22 @@
 -- Choices by a test, and document 01's table of refusals: of several rows that apply, the first.
 -- Assumes nothing.
-use mathlib.Core.Bool.{Bool, true, false}
+use mathlib.Core.Bool.{Bool, true, false, _&&_}
 use mathlib.Core.List.{List, []}
-use Prim.Native.Nat.{ℕ}
+use Prim.Native.Nat.{ℕ, _/_, _%_, _^_}
+use lib.Dec.{leb, eqb}
 
 -- one of two, by a test
 abbrev pub pick : {A : Type 0} → Bool → A → A → A
 pick true a b = a
 pick false a b = b
+
+-- low to high
+abbrev pub within : ℕ → ℕ → ℕ → Bool
+within low high x = leb low x && leb x high
+
+-- bit s of a word is set
+unfoldable pub has : ℕ → ℕ → Bool
+has w s = eqb (w / 2 ^ s % 2) 1
 
 -- What a call says in document 01's terms: 0 and its values, or the number of a refusal, which stands alone.
 pub record Said : Type 0 where

@@ -2,6 +2,7 @@
 ghost use mathlib.Core.Path.{_≡_};
 ghost use Prim.Native.Nat.{_+_, _<_, _≤_};
 ghost use lib.ListN.{length, getD};
+ghost use Rattle.ground.specs.Cases.{has};
 ghost use Rattle.ground.specs.Words.{halfOf, halfAt, wordOf, wordAt};
 
 pub const MOST_GROUPS: usize = 64;
@@ -75,4 +76,12 @@ pub fn word_or_zero(s: &[u32], at: usize) -> u32
         return s[at];
     }
     0
+}
+
+// Whether a bit of a word is set.
+pub fn has_bit(w: u32, s: u32) -> bool
+    requires { ⌜ s < 32 ⌝ }
+    ensures { λ r. ⌜ r ≡ has w s ⌝ }
+{
+    (w >> s) & 1 == 1
 }

@@ -8,10 +8,10 @@ use native.Mathlib.Nat.{add-zero}
 use native.Mathlib.Omega.{arith}
 use lib.ListN.{length, getD, drop, length-append, length-drop, List·getD-eq-default}
 use lib.Seq.{drop-cons, getD-drop}
-use Rattle.ground.specs.Cases.{pick}
+use Rattle.ground.specs.Cases.{pick, within}
 use Rattle.ground.proofs.Cases.{le-or, and-left, and-right}
 use Rattle.text.specs.Grammar.{In, Tail, Char, Char.one, Char.two, Char.three-E0, Char.three-E1, Char.three-ED, Char.three-EE, Char.four-F0, Char.four-F1, Char.four-F4, Starts}
-use Rattle.text.specs.Utf8.{within, isTail, charOf, charLength}
+use Rattle.text.specs.Utf8.{isTail, charOf, charLength}
 use Rattle.text.proofs.Rows.{tested, ranged, row-one, row-two, row-E0, row-E1, row-ED, row-EE, row-F0, row-F1, row-F4}
 
 pub char-sound : {c : List ℕ} → Char c → (t : List ℕ) → charLength (c ++ t) ≡ length c

@@ -6,10 +6,10 @@ use Prim.Native.Nat.{ℕ, _<_}
 use native.Mathlib.Omega.{arith}
 use borrow.Author.Tests.{le-leb, lt-leb, leb-true}
 use lib.Dec.{leb}
-use Rattle.ground.specs.Cases.{pick}
+use Rattle.ground.specs.Cases.{pick, within}
 use Rattle.ground.proofs.Cases.{le-or, and-left, and-right, and-both, and-fails}
 use Rattle.text.specs.Grammar.{In}
-use Rattle.text.specs.Utf8.{within, isTail, charOf}
+use Rattle.text.specs.Utf8.{isTail, charOf}
 
 -- the test `within` and the range `In`
 pub tested : {low high x : ℕ} → In low high x → within low high x ≡ true

@@ -3,8 +3,8 @@ ghost use mathlib.Core.Path.{_≡_};
 ghost use mathlib.Core.Bool.{_&&_};
 ghost use Prim.Native.Nat.{ℕ, _+_, _<_, _≤_};
 ghost use lib.ListN.{length, getD, drop};
-ghost use Rattle.ground.specs.Cases.{pick};
-ghost use Rattle.text.specs.Utf8.{within, isTail, charOf, charLength, textOf, isFine};
+ghost use Rattle.ground.specs.Cases.{pick, within};
+ghost use Rattle.text.specs.Utf8.{isTail, charOf, charLength, textOf, isFine};
 
 pub enum Checked {
     Fine,

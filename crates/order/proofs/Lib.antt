@@ -1,0 +1,6 @@
+-- The laws that belong to no one function.
+pub mod Sorted
+pub mod Span
+pub mod Halve
+pub mod Moves
+pub mod Laws

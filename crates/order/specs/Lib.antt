@@ -1,0 +1,3 @@
+-- The playing orders.
+pub mod Order
+pub mod Below
