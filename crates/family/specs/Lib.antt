@@ -1,0 +1,2 @@
+-- The groups that a group move runs over.
+pub mod Family

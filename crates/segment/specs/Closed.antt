@@ -1,0 +1,15 @@
+-- Where m steps lead from the first start, and from the last, in closed form. `proofs/Steps.antt` has that the steps lead there.
+-- Assumes nothing.
+use mathlib.Core.List.{List}
+use Prim.Native.Nat.{ℕ, _-_}
+use lib.Dec.{ltb}
+use lib.ListN.{length, getD}
+use Rattle.ground.specs.Cases.{pick}
+
+-- m steps ahead from the first: past the last stands the duration
+unfoldable pub startAhead : List ℕ → ℕ → ℕ → ℕ
+startAhead starts duration m = pick (ltb m (length starts)) (getD starts m 0) duration
+
+-- m steps back from the last: before the first stands 0
+unfoldable pub startBack : List ℕ → ℕ → ℕ
+startBack starts m = pick (ltb m (length starts)) (getD starts (length starts - 1 - m) 0) 0

@@ -1,0 +1,3 @@
+-- Moves along the segments of a track.
+pub mod Segments
+pub mod Closed
