@@ -1,0 +1,8 @@
+-- The laws that belong to no one function.
+pub mod Ready
+pub mod Choices
+pub mod Held
+pub mod Kept
+pub mod Alone
+pub mod Tracks
+pub mod Cases01

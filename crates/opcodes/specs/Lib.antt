@@ -1,0 +1,2 @@
+-- The opcodes of the control point.
+pub mod Opcodes

@@ -1,0 +1,88 @@
+-- `player_calls::write_order`: 200, 201, 0x13, then the work.
+use mathlib.Core.Path.{ap, _∙_}
+use mathlib.Core.List.{[]}
+use Rattle.ground.specs.Cases.{granted}
+use Rattle.ground.proofs.Cases.{past, here}
+use Rattle.tables.specs.Tables.{Tables, tables}
+use Rattle.player_calls.specs.Calls.{leaves, orderCall}
+use Rattle.player_calls.proofs.Guard.{says-catalogue, says-state, goes-on}
+use borrow.Author.Needs.{needs}
+use Rattle.player_calls.proofs.write_order.Statement.{statement}
+use Rattle.player_calls.proofs.write_order.Tie as tie
+
+abbrev lent : tie.Start → Tables
+lent s = tables (s .args .groups .now) (s .args .tracks .now) (s .args .segments .now) (s .args .text .now)
+
+admit-requires : tie.Need-admit-requires
+admit-requires c κs = search needs
+
+enum-told : tie.Need-enum-told
+enum-told c = search needs
+
+left-requires : tie.Need-left-requires
+left-requires c κs = search needs
+
+enum-told-2 : tie.Need-enum-told-2
+enum-told-2 c = search needs
+
+left-requires-2 : tie.Need-left-requires-2
+left-requires-2 c κs = search needs
+
+enum-told-3 : tie.Need-enum-told-3
+enum-told-3 c = search needs
+
+left-requires-3 : tie.Need-left-requires-3
+left-requires-3 c κs = search needs
+
+returns : tie.Need-returns
+unfolding orderCall
+returns c =
+    let t = c .before .before in
+    let m = t .before .before in
+    let s = m .before .before .before .before .before in
+    goes-on (lent s) _ (m .admit .ensures) (t .enum-told3 .given .1) (here _ (c .before .if1 .taken) (c .left3 .ensures))
+
+with-order-requires : tie.Need-with-order-requires
+with-order-requires c κs = search needs
+
+left-requires-4 : tie.Need-left-requires-4
+left-requires-4 c κs = search needs
+
+returns-2 : tie.Need-returns-2
+unfolding orderCall
+returns-2 c =
+    let m = c .before .before .before in
+    c .left .ensures ∙ says-catalogue (lent (m .before .before .before .before .before)) _ (m .admit .ensures) (c .before .enum-told .given .1) _
+
+returns-3 : tie.Need-returns-3
+unfolding orderCall
+returns-3 c =
+    let m = c .before .before .before in
+    c .left2 .ensures ∙ says-state (lent (m .before .before .before .before .before)) _ (m .admit .ensures) (c .before .enum-told2 .given .1) _
+
+returns-4 : tie.Need-returns-4
+unfolding orderCall
+returns-4 c =
+    let t = c .before .before .before in
+    let m = t .before .before in
+    let s = m .before .before .before .before .before in
+    goes-on (lent s) _ (m .admit .ensures) (t .enum-told3 .given .1)
+    (past _ (c .before .before .if1 .left) (c .left4 .ensures ∙ ap (leaves (granted [])) (c .before .with-order .ensures)))
+
+pub write-order-spec : {M : Type 1} → statement M
+write-order-spec =
+    tie.close
+    (tie.spec
+    admit-requires
+    enum-told
+    left-requires
+    enum-told-2
+    left-requires-2
+    enum-told-3
+    left-requires-3
+    returns
+    with-order-requires
+    left-requires-4
+    returns-2
+    returns-3
+    returns-4)

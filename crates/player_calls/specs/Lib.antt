@@ -1,0 +1,2 @@
+-- The calls of the player layer.
+pub mod Calls

@@ -1,0 +1,2 @@
+-- When a state of the player stands in a catalogue.
+pub mod Standing

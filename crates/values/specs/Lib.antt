@@ -1,0 +1,2 @@
+-- The values of the characteristics.
+pub mod Values
