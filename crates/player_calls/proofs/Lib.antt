@@ -2,3 +2,4 @@
 pub mod Guard
 pub mod Tests
 pub mod Output
+pub mod Settled
