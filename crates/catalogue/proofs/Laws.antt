@@ -25,12 +25,28 @@ use Rattle.catalogue.specs.Catalogue.{catalogueRule, checkSaid, Right}
 use Rattle.rules.proofs.Runs.{inside, apart}
 use Rattle.rules.proofs.Checked as rule
 
--- a check that passes has found every rule kept
 passes : (t : Bool) → pick (not t) (refused 200) (granted []) ≡ granted [] → t ≡ true
 passes true e = refl
 passes false e = let z : _≡_ {A = ℕ} 200 0 = ap (λ (s : Said). s .number) e in absurd (omega arith)
 
--- the rules one by one, the last first
+fails : (t : Bool) → pick (not t) (refused 200) (granted []) ≡ refused 200 → t ≡ false
+fails false e = refl
+fails true e = let z : _≡_ {A = ℕ} 0 200 = ap (λ (s : Said). s .number) e in absurd (omega arith)
+
+-- the check passes exactly when every rule is kept
+pub passed : (k : Tables) → Right k → catalogueRule k ≡ true
+unfolding checkSaid
+passed k right = passes (catalogueRule k) right
+
+pub failed : (k : Tables) → checkSaid k ≡ refused 200 → catalogueRule k ≡ false
+unfolding checkSaid
+failed k wrong = fails (catalogueRule k) wrong
+
+pub is-right : (k : Tables) → catalogueRule k ≡ true → Right k
+unfolding checkSaid
+is-right k e = rw e
+
+-- the rules one by one
 pub record Rules (k : Tables) : Type 0 where
   pub sizes : sizesRule (length (k .groups)) (length (k .tracks)) (length (k .segments)) (length (k .text)) ≡ true
   pub parents : parentsRule (k .groups) ≡ true
@@ -42,7 +58,7 @@ pub record Rules (k : Tables) : Type 0 where
   pub utf8 : titlesTextRule (k .tracks) (k .text) ≡ true
 
 kept : (k : Tables) → Right k → Rules k
-unfolding checkSaid catalogueRule
+unfolding catalogueRule
 kept k right =
     let r1 = sizesRule (length (k .groups)) (length (k .tracks)) (length (k .segments)) (length (k .text)) in
     let r2 = r1 && parentsRule (k .groups) in
@@ -51,7 +67,7 @@ kept k right =
     let r5 = r4 && durationsRule (k .tracks) in
     let r6 = r5 && startsRule (k .tracks) (k .segments) in
     let r7 = r6 && titlesPlacedRule (k .tracks) (length (k .text)) in
-    let p8 = passes (catalogueRule k) right in
+    let p8 = passed k right in
     let p7 = and-left r7 (titlesTextRule (k .tracks) (k .text)) p8 in
     let p6 = and-left r6 (titlesPlacedRule (k .tracks) (length (k .text))) p7 in
     let p5 = and-left r5 (startsRule (k .tracks) (k .segments)) p6 in

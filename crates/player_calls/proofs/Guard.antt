@@ -6,7 +6,8 @@ use native.Mathlib.Omega.{arith}
 use Rattle.ground.specs.Cases.{pick, refused}
 use Rattle.ground.proofs.Cases.{past, here}
 use Rattle.tables.specs.Tables.{Tables}
-use Rattle.catalogue.specs.Catalogue.{catalogueRule, checkSaid, Right}
+use Rattle.catalogue.specs.Catalogue.{catalogueRule, Right}
+use Rattle.catalogue.proofs.Laws.{is-right}
 use Rattle.player.specs.declared.Player.{Player}
 use Rattle.standing.specs.Standing.{playerRule}
 use Rattle.player_calls.specs.declared.Admitted.{Admitted}
@@ -57,8 +58,7 @@ module _ (k : Tables) (p : Player) {a : Admitted} (e : a ≡ admittedOf k p) whe
   goes-on q h = past _ (ap not (both-right q .0)) (past _ (ap not (both-right q .1)) h)
 
   pub fine-right : a ≡ Fine → Right k
-  unfolding checkSaid
-  fine-right q = rw (both-right q .0)
+  fine-right q = is-right k (both-right q .0)
 
   pub fine-stands : a ≡ Fine → playerRule (k .groups) (k .tracks) p ≡ true
   fine-stands q = both-right q .1

@@ -3,7 +3,7 @@ use mathlib.Core.Path.{refl, sym, ap, _∙_}
 use mathlib.Core.Bool.{not}
 use Rattle.ground.proofs.Cases.{past, here}
 use Rattle.tables.specs.Tables.{Tables, tables}
-use Rattle.player_calls.proofs.Tests.{passed, failed}
+use Rattle.catalogue.proofs.Laws.{passed, failed}
 use Rattle.catalogue.specs.Catalogue.{saidOf}
 use Rattle.player_calls.specs.Calls.{admittedOf}
 use borrow.Author.Needs.{needs}
@@ -30,7 +30,7 @@ unfolding admittedOf
 returns c =
     let k = c .before .before .before .before in
     let s = k .before .before .before .before .before in
-    past _ (ap not (passed (lent s) (sym (ap saidOf (c .before .before .enum-told2 .given .1)) ∙ k .check .ensures)))
+    past _ (ap not (passed (lent s) (sym (k .check .ensures) ∙ ap saidOf (c .before .before .enum-told2 .given .1))))
     (past _ (ap not (sym (c .before .player-right .ensures) ∙ c .if1 .taken)) refl)
 
 returns-2 : tie.Need-returns-2
@@ -38,14 +38,14 @@ unfolding admittedOf
 returns-2 c =
     let k = c .before .before in
     let s = k .before .before .before .before .before in
-    here _ (ap not (failed (lent s) (sym (ap saidOf (c .enum-told .given .1)) ∙ k .check .ensures))) refl
+    here _ (ap not (failed (lent s) (sym (k .check .ensures) ∙ ap saidOf (c .enum-told .given .1)))) refl
 
 returns-3 : tie.Need-returns-3
 unfolding admittedOf
 returns-3 c =
     let k = c .before .before .before .before in
     let s = k .before .before .before .before .before in
-    past _ (ap not (passed (lent s) (sym (ap saidOf (c .before .before .enum-told2 .given .1)) ∙ k .check .ensures)))
+    past _ (ap not (passed (lent s) (sym (k .check .ensures) ∙ ap saidOf (c .before .before .enum-told2 .given .1))))
     (here _ (ap not (sym (c .before .player-right .ensures) ∙ c .if1 .left)) refl)
 
 pub admit-spec : {M : Type 1} → statement M

@@ -7,7 +7,8 @@ use Rattle.ground.specs.Cases.{granted, refused}
 use Rattle.ground.proofs.Cases.{past, here}
 use Rattle.tables.specs.Tables.{Tables, tables}
 use Rattle.player_calls.specs.Calls.{leaves, startCall}
-use Rattle.player_calls.proofs.Tests.{passed, failed, text-short}
+use Rattle.catalogue.proofs.Laws.{passed, failed}
+use Rattle.player_calls.proofs.Tests.{text-short}
 use Rattle.catalogue.specs.Catalogue.{saidOf}
 use borrow.Author.Needs.{needs}
 use Rattle.player_calls.proofs.start.Statement.{statement}
@@ -46,7 +47,7 @@ returns c =
     let g = c .before .before in
     let k = g .before .before .before in
     let s = k .before .before .before .before .before .before .before .before in
-    past _ (ap not (passed (lent s) (sym (ap saidOf (g .before .enum-told2 .given .1)) ∙ k .check .ensures)))
+    past _ (ap not (passed (lent s) (sym (k .check .ensures) ∙ ap saidOf (g .before .enum-told2 .given .1))))
     (here _ (ap not (sym (g .text-right .ensures)) ∙ c .before .if1 .taken) (c .left2 .ensures ∙ ap (leaves (refused 207)) (k .before .start .ensures)))
 
 start-requires-2 : tie.Need-start-requires-2
@@ -60,7 +61,7 @@ unfolding startCall
 returns-2 c =
     let k = c .before .before .before in
     let s = k .before .before .before .before .before .before .before .before in
-    here _ (ap not (failed (lent s) (sym (ap saidOf (c .before .enum-told .given .1)) ∙ k .check .ensures))) (c .left .ensures ∙ ap (leaves (refused 200)) (k .before .start .ensures))
+    here _ (ap not (failed (lent s) (sym (k .check .ensures) ∙ ap saidOf (c .before .enum-told .given .1)))) (c .left .ensures ∙ ap (leaves (refused 200)) (k .before .start .ensures))
 
 returns-3 : tie.Need-returns-3
 unfolding startCall
@@ -68,7 +69,7 @@ returns-3 c =
     let g = c .before .before .before in
     let k = g .before .before .before in
     let s = k .before .before .before .before .before .before .before .before in
-    past _ (ap not (passed (lent s) (sym (ap saidOf (g .before .enum-told2 .given .1)) ∙ k .check .ensures)))
+    past _ (ap not (passed (lent s) (sym (k .check .ensures) ∙ ap saidOf (g .before .enum-told2 .given .1))))
     (past _ (ap not (sym (g .text-right .ensures)) ∙ c .before .before .if1 .left) (c .left3 .ensures ∙ ap (leaves (granted [])) (c .before .start2 .ensures)))
 
 pub start-spec : {M : Type 1} → statement M

@@ -1,0 +1,1165 @@
+#!/usr/bin/env python3
+"""The vectors of the player: a script of calls over the sample catalogue of document 01, with the line that each must give.
+
+    python3 vectors/player.py            writes the files below
+    python3 vectors/player.py --check    compares them, and fails on a difference
+
+    crates/cases/stdin    the script, framed
+    crates/cases/stdout   its lines
+
+Each call has its answer and the state that it leaves beside it, worked out by hand from document 01. The state is written
+
+    media state, playing order, playback speed, seeking speed | group, track, position
+
+A comment in quotation marks is a sentence of document 01.
+"""
+import os
+import struct
+import sys
+
+ROOT = os.path.dirname(os.path.dirname(os.path.abspath(__file__)))
+
+# The catalogues of the program: document 01's sample; one whose group 3 is its own parent; one whose groups end inside a record.
+SAMPLE, OWN_PARENT, CUT = 0, 1, 2
+
+NOTE, START, SET_NAME, ACTIVATE, DEACTIVATE, ADVANCE, POSITION, SPEED, ORDER, CONTROL, VALUE, CHECK, DAMAGE = range(13)
+
+PLAY, PAUSE, REWIND, FORWARD, STOP, RELATIVE = 0x01, 0x02, 0x03, 0x04, 0x05, 0x10
+PREVIOUS_SEGMENT, NEXT_SEGMENT, FIRST_SEGMENT, LAST_SEGMENT, GOTO_SEGMENT = 0x20, 0x21, 0x22, 0x23, 0x24
+PREVIOUS_TRACK, NEXT_TRACK, FIRST_TRACK, LAST_TRACK, GOTO_TRACK = 0x30, 0x31, 0x32, 0x33, 0x34
+PREVIOUS_GROUP, NEXT_GROUP, FIRST_GROUP, LAST_GROUP, GOTO_GROUP = 0x40, 0x41, 0x42, 0x43, 0x44
+
+# "0x01 Play (0), 0x02 Pause (1), 0x03 Fast Rewind (2), 0x04 Fast Forward (3), 0x05 Stop (4), 0x10 Move Relative (5), 0x20–0x24 Previous, Next, First,
+# Last, Goto Segment (6–10), 0x30–0x34 the same of Track (11–15), 0x40–0x44 of Group (16–20)."
+MASK_BITS = {
+    0x01: 0, 0x02: 1, 0x03: 2, 0x04: 3, 0x05: 4, 0x10: 5,
+    0x20: 6, 0x21: 7, 0x22: 8, 0x23: 9, 0x24: 10,
+    0x30: 11, 0x31: 12, 0x32: 13, 0x33: 14, 0x34: 15,
+    0x40: 16, 0x41: 17, 0x42: 18, 0x43: 19, 0x44: 20,
+}
+ALL = 0x1FFFFF
+UNKNOWN = (0x00, 0x06, 0x0F, 0x11, 0x1F, 0x25, 0x2F, 0x35, 0x3F, 0x45, 0x50, 0x81, 0xFF)
+
+LEAST, MOST = -2147483648, 2147483647
+LONGEST = 4294967295
+
+# Parts of the state.
+MEDIA, PLAYING_ORDER, SEEKING_SPEED, GROUP, TRACK, PLACE, NAME_LENGTH, NAME_FIRST = range(1, 9)
+
+FRAMES, LINES = [], []
+CASES = [0]
+
+
+def frame(catalogue, call, octet, number, text, line):
+    FRAMES.append(struct.pack('<BBBIB', catalogue, call, octet & 0xFF, number & 0xFFFFFFFF, len(text)) + text)
+    LINES.append(line)
+
+
+def made(call, octet, number, text, answer, state, catalogue):
+    frame(catalogue, call, octet, number, text, answer + ' | ' + state)
+
+
+def case(name):
+    CASES[0] += 1
+    words = '%d %s' % (CASES[0], name)
+    frame(SAMPLE, NOTE, 0, 0, words.encode('ascii'), '# ' + words)
+
+
+def start(name, mask, ccid, answer, state, catalogue=SAMPLE):
+    made(START, ccid, mask, name, answer, state, catalogue)
+
+
+def set_name(name, answer, state, catalogue=SAMPLE):
+    made(SET_NAME, 0, 0, name, answer, state, catalogue)
+
+
+def activate(group, answer, state, catalogue=SAMPLE):
+    made(ACTIVATE, 0, group, b'', answer, state, catalogue)
+
+
+def deactivate(answer, state, catalogue=SAMPLE):
+    made(DEACTIVATE, 0, 0, b'', answer, state, catalogue)
+
+
+def advance(d, answer, state, catalogue=SAMPLE):
+    made(ADVANCE, 0, d, b'', answer, state, catalogue)
+
+
+def position(number, answer, state, catalogue=SAMPLE):
+    made(POSITION, 0, number, b'', answer, state, catalogue)
+
+
+def speed(octet, answer, state, catalogue=SAMPLE):
+    made(SPEED, octet, 0, b'', answer, state, catalogue)
+
+
+def order(octet, answer, state, catalogue=SAMPLE):
+    made(ORDER, octet, 0, b'', answer, state, catalogue)
+
+
+def control(opcode, answer, state, number=0, catalogue=SAMPLE):
+    made(CONTROL, opcode, number, b'', answer, state, catalogue)
+
+
+def value(characteristic, answer, state, room=128, catalogue=SAMPLE):
+    made(VALUE, characteristic, room, b'', answer, state, catalogue)
+
+
+def check(answer, state, catalogue=SAMPLE):
+    made(CHECK, 0, 0, b'', answer, state, catalogue)
+
+
+def damage(part, number, state):
+    made(DAMAGE, part, number, b'', 'damaged', state, SAMPLE)
+
+
+def stand(number, track, place):
+    """A fresh player, Paused at a place of a track of group 1 in an order."""
+    start(b'Radio', ALL, 7, 'done', 'Inactive 3 0 0 | 0 0 0')
+    activate(1, 'done', 'Paused 3 0 0 | 1 0 0')
+    control(GOTO_TRACK, 'result 1', 'Paused 3 0 0 | 1 %d 0' % track, track + 1)
+    order(number, 'done', 'Paused %d 0 0 | 1 %d 0' % (number, track))
+    position(place, 'done', 'Paused %d 0 0 | 1 %d %d' % (number, track, place))
+
+
+def stand_in_3(number, place):
+    """The same in track 3 of group 3."""
+    start(b'Radio', ALL, 7, 'done', 'Inactive 3 0 0 | 0 0 0')
+    activate(3, 'done', 'Paused 3 0 0 | 3 3 0')
+    order(number, 'done', 'Paused %d 0 0 | 3 3 0' % number)
+    position(place, 'done', 'Paused %d 0 0 | 3 3 %d' % (number, place))
+
+
+# ---- "Sample catalogue and cases"
+
+case('1500 Previous Segment')
+stand(3, 0, 1500)
+control(PREVIOUS_SEGMENT, 'result 1', 'Paused 3 0 0 | 1 0 0')
+
+case('1501 Previous Segment')
+stand(3, 0, 1501)
+control(PREVIOUS_SEGMENT, 'result 1', 'Paused 3 0 0 | 1 0 1500')
+
+case('4000 Next Segment')
+stand(3, 0, 4000)
+control(NEXT_SEGMENT, 'result 1', 'Paused 3 0 0 | 1 0 6000')
+
+case('Goto Segment 3, 4, -2, -2147483648')
+stand(3, 0, 77)
+control(GOTO_SEGMENT, 'result 1', 'Paused 3 0 0 | 1 0 4000', 3)
+control(GOTO_SEGMENT, 'result 1', 'Paused 3 0 0 | 1 0 6000', 4)
+control(GOTO_SEGMENT, 'result 1', 'Paused 3 0 0 | 1 0 1500', -2)
+control(GOTO_SEGMENT, 'result 1', 'Paused 3 0 0 | 1 0 0', LEAST)
+
+case('1500 Move Relative 2147483647')
+stand(3, 0, 1500)
+control(RELATIVE, 'result 1', 'Paused 3 0 0 | 1 0 6000', MOST)
+
+# "Reading a written −1 as "unavailable"" is an error that looks right.
+case('write -4000 and -1')
+stand(3, 0, 10)
+position(-4000, 'done', 'Paused 3 0 0 | 1 0 2000')
+position(-1, 'done', 'Paused 3 0 0 | 1 0 5999')
+
+case('order 3 Next from 2')
+stand(3, 2, 0)
+control(NEXT_TRACK, 'result 4', 'Paused 3 0 0 | 1 2 0')
+
+case('order 4 Next from 2')
+stand(4, 2, 0)
+control(NEXT_TRACK, 'result 1', 'Paused 4 0 0 | 1 0 0')
+
+case('order 5 Next from 2')
+stand(5, 2, 0)
+control(NEXT_TRACK, 'result 1', 'Paused 5 0 0 | 1 0 0')
+
+# "Making |n| in signed 32 bits" is an error that looks right.
+case('order 4 Goto Track -2147483648')
+stand(4, 0, 55)
+control(GOTO_TRACK, 'result 1', 'Paused 4 0 0 | 1 1 0', LEAST)
+
+# "Letting group 2 count in Goto Group" is an error that looks right.
+case('Next Group and Goto Group 3')
+stand(3, 0, 55)
+control(GOTO_GROUP, 'result 4', 'Paused 3 0 0 | 1 0 55', 3)
+control(NEXT_GROUP, 'result 1', 'Paused 3 0 0 | 3 3 0')
+
+
+# ---- Segments
+
+# "Previous Segment: the greatest start below the position, or 0."
+for place, to in ((0, 0), (1, 0), (1499, 0), (3999, 1500), (4000, 1500), (4001, 4000), (6000, 4000)):
+    case('Previous Segment')
+    stand(3, 0, place)
+    control(PREVIOUS_SEGMENT, 'result 1', 'Paused 3 0 0 | 1 0 %d' % to)
+
+# "Next: the least start above it, or D."
+for place, to in ((0, 1500), (1499, 1500), (1500, 4000), (3999, 4000), (4001, 6000), (5999, 6000), (6000, 6000)):
+    case('Next Segment')
+    stand(3, 0, place)
+    control(NEXT_SEGMENT, 'result 1', 'Paused 3 0 0 | 1 0 %d' % to)
+
+# "Goto n > 0: First, then Next n − 1 times; n < 0: Last, then Previous |n| − 1 times; 0: nothing moves."
+case('First, Last and Goto Segment')
+stand(3, 0, 777)
+control(GOTO_SEGMENT, 'result 1', 'Paused 3 0 0 | 1 0 777', 0)
+control(LAST_SEGMENT, 'result 1', 'Paused 3 0 0 | 1 0 4000')
+control(FIRST_SEGMENT, 'result 1', 'Paused 3 0 0 | 1 0 0')
+control(GOTO_SEGMENT, 'result 1', 'Paused 3 0 0 | 1 0 1500', 2)
+control(GOTO_SEGMENT, 'result 1', 'Paused 3 0 0 | 1 0 0', 1)
+control(GOTO_SEGMENT, 'result 1', 'Paused 3 0 0 | 1 0 4000', -1)
+control(GOTO_SEGMENT, 'result 1', 'Paused 3 0 0 | 1 0 0', -3)
+control(GOTO_SEGMENT, 'result 1', 'Paused 3 0 0 | 1 0 6000', 5)
+control(GOTO_SEGMENT, 'result 1', 'Paused 3 0 0 | 1 0 0', -4)
+control(GOTO_SEGMENT, 'result 1', 'Paused 3 0 0 | 1 0 6000', MOST)
+
+# "A track without segments is one segment from 0."
+case('segments of a track without them')
+stand(3, 1, 150)
+control(PREVIOUS_SEGMENT, 'result 1', 'Paused 3 0 0 | 1 1 0')
+control(NEXT_SEGMENT, 'result 1', 'Paused 3 0 0 | 1 1 300')
+control(PREVIOUS_SEGMENT, 'result 1', 'Paused 3 0 0 | 1 1 0')
+control(GOTO_SEGMENT, 'result 1', 'Paused 3 0 0 | 1 1 300', 2)
+control(FIRST_SEGMENT, 'result 1', 'Paused 3 0 0 | 1 1 0')
+control(GOTO_SEGMENT, 'result 1', 'Paused 3 0 0 | 1 1 300', 3)
+control(LAST_SEGMENT, 'result 1', 'Paused 3 0 0 | 1 1 0')
+position(299, 'done', 'Paused 3 0 0 | 1 1 299')
+control(GOTO_SEGMENT, 'result 1', 'Paused 3 0 0 | 1 1 299', 0)
+control(GOTO_SEGMENT, 'result 1', 'Paused 3 0 0 | 1 1 0', 1)
+position(299, 'done', 'Paused 3 0 0 | 1 1 299')
+control(GOTO_SEGMENT, 'result 1', 'Paused 3 0 0 | 1 1 0', -1)
+control(GOTO_SEGMENT, 'result 1', 'Paused 3 0 0 | 1 1 0', -2)
+control(GOTO_SEGMENT, 'result 1', 'Paused 3 0 0 | 1 1 0', LEAST)
+
+case('segments of a track of duration 0')
+stand(3, 2, 0)
+control(NEXT_SEGMENT, 'result 1', 'Paused 3 0 0 | 1 2 0')
+control(PREVIOUS_SEGMENT, 'result 1', 'Paused 3 0 0 | 1 2 0')
+control(LAST_SEGMENT, 'result 1', 'Paused 3 0 0 | 1 2 0')
+control(FIRST_SEGMENT, 'result 1', 'Paused 3 0 0 | 1 2 0')
+control(GOTO_SEGMENT, 'result 1', 'Paused 3 0 0 | 1 2 0', 7)
+control(GOTO_SEGMENT, 'result 1', 'Paused 3 0 0 | 1 2 0', -7)
+
+
+# ---- Positions
+
+# "Move Relative: the sum, held to 0..D."
+for number, to in ((0, 1500), (100, 1600), (-100, 1400), (4499, 5999), (4500, 6000), (4501, 6000), (-1499, 1), (-1500, 0), (-1501, 0), (LEAST, 0)):
+    case('1500 Move Relative %d' % number)
+    stand(3, 0, 1500)
+    control(RELATIVE, 'result 1', 'Paused 3 0 0 | 1 0 %d' % to, number)
+
+case('Move Relative in a track of duration 0')
+stand(3, 2, 0)
+control(RELATIVE, 'result 1', 'Paused 3 0 0 | 1 2 0', 1)
+control(RELATIVE, 'result 1', 'Paused 3 0 0 | 1 2 0', -1)
+
+# "Position write: v ≥ 0 gives the lesser of v and D; v < 0 gives D + v, not below 0."
+case('position writes')
+stand(3, 0, 5)
+position(0, 'done', 'Paused 3 0 0 | 1 0 0')
+position(5999, 'done', 'Paused 3 0 0 | 1 0 5999')
+position(6000, 'done', 'Paused 3 0 0 | 1 0 6000')
+position(-5999, 'done', 'Paused 3 0 0 | 1 0 1')
+position(6001, 'done', 'Paused 3 0 0 | 1 0 6000')
+position(-6000, 'done', 'Paused 3 0 0 | 1 0 0')
+position(MOST, 'done', 'Paused 3 0 0 | 1 0 6000')
+position(-6001, 'done', 'Paused 3 0 0 | 1 0 0')
+position(-1, 'done', 'Paused 3 0 0 | 1 0 5999')
+position(LEAST, 'done', 'Paused 3 0 0 | 1 0 0')
+
+case('position writes in a track of duration 0')
+stand(3, 2, 0)
+position(1, 'done', 'Paused 3 0 0 | 1 2 0')
+position(-1, 'done', 'Paused 3 0 0 | 1 2 0')
+
+
+# ---- Tracks
+
+# "3, 4 by number"; "Odd is once, even repeats."; "past an end, the other end in a repeat order, else result 4."
+case('order 3, number order, once')
+stand(3, 0, 100)
+control(PREVIOUS_TRACK, 'result 4', 'Paused 3 0 0 | 1 0 100')
+control(NEXT_TRACK, 'result 1', 'Paused 3 0 0 | 1 1 0')
+control(NEXT_TRACK, 'result 1', 'Paused 3 0 0 | 1 2 0')
+control(NEXT_TRACK, 'result 4', 'Paused 3 0 0 | 1 2 0')
+control(PREVIOUS_TRACK, 'result 1', 'Paused 3 0 0 | 1 1 0')
+control(PREVIOUS_TRACK, 'result 1', 'Paused 3 0 0 | 1 0 0')
+control(LAST_TRACK, 'result 1', 'Paused 3 0 0 | 1 2 0')
+control(FIRST_TRACK, 'result 1', 'Paused 3 0 0 | 1 0 0')
+
+# "Goto Track is First or Last and then steps, as for segments, not walked; if one step cannot be made, result 4 for the whole."
+# "Folding a long Goto Track by the count in a once order" is an error that looks right.
+case('order 3, Goto Track')
+stand(3, 0, 100)
+control(GOTO_TRACK, 'result 4', 'Paused 3 0 0 | 1 0 100', 4)
+control(GOTO_TRACK, 'result 4', 'Paused 3 0 0 | 1 0 100', -4)
+control(GOTO_TRACK, 'result 4', 'Paused 3 0 0 | 1 0 100', MOST)
+control(GOTO_TRACK, 'result 4', 'Paused 3 0 0 | 1 0 100', LEAST)
+control(GOTO_TRACK, 'result 1', 'Paused 3 0 0 | 1 0 0', 1)
+control(GOTO_TRACK, 'result 1', 'Paused 3 0 0 | 1 1 0', 2)
+control(GOTO_TRACK, 'result 1', 'Paused 3 0 0 | 1 2 0', 3)
+control(GOTO_TRACK, 'result 1', 'Paused 3 0 0 | 1 1 0', -2)
+control(GOTO_TRACK, 'result 1', 'Paused 3 0 0 | 1 2 0', -1)
+control(GOTO_TRACK, 'result 1', 'Paused 3 0 0 | 1 0 0', -3)
+
+# "0 keeps the track. Position becomes 0."
+case('Goto Track 0')
+stand(3, 1, 100)
+control(GOTO_TRACK, 'result 1', 'Paused 3 0 0 | 1 1 0', 0)
+
+case('order 4, number order, repeated')
+stand(4, 0, 100)
+control(PREVIOUS_TRACK, 'result 1', 'Paused 4 0 0 | 1 2 0')
+control(NEXT_TRACK, 'result 1', 'Paused 4 0 0 | 1 0 0')
+control(NEXT_TRACK, 'result 1', 'Paused 4 0 0 | 1 1 0')
+control(LAST_TRACK, 'result 1', 'Paused 4 0 0 | 1 2 0')
+control(FIRST_TRACK, 'result 1', 'Paused 4 0 0 | 1 0 0')
+
+# From First, 3 steps lead round to track 0; 4 to track 1; 2147483646, a multiple of 3, to track 0. From Last, 3 steps lead round to track 2.
+case('order 4, Goto Track')
+stand(4, 1, 100)
+control(GOTO_TRACK, 'result 1', 'Paused 4 0 0 | 1 0 0', 4)
+control(GOTO_TRACK, 'result 1', 'Paused 4 0 0 | 1 1 0', 5)
+control(GOTO_TRACK, 'result 1', 'Paused 4 0 0 | 1 2 0', -4)
+control(GOTO_TRACK, 'result 1', 'Paused 4 0 0 | 1 0 0', MOST)
+control(GOTO_TRACK, 'result 1', 'Paused 4 0 0 | 1 1 0', -5)
+
+# "5, 6 by rising stamp"; "ties by lower number in all": 1, 2, 0.
+case('order 5, rising stamp, once')
+stand(5, 0, 100)
+control(NEXT_TRACK, 'result 4', 'Paused 5 0 0 | 1 0 100')
+control(PREVIOUS_TRACK, 'result 1', 'Paused 5 0 0 | 1 2 0')
+control(PREVIOUS_TRACK, 'result 1', 'Paused 5 0 0 | 1 1 0')
+control(PREVIOUS_TRACK, 'result 4', 'Paused 5 0 0 | 1 1 0')
+control(NEXT_TRACK, 'result 1', 'Paused 5 0 0 | 1 2 0')
+control(LAST_TRACK, 'result 1', 'Paused 5 0 0 | 1 0 0')
+control(FIRST_TRACK, 'result 1', 'Paused 5 0 0 | 1 1 0')
+control(GOTO_TRACK, 'result 1', 'Paused 5 0 0 | 1 2 0', 2)
+control(GOTO_TRACK, 'result 1', 'Paused 5 0 0 | 1 0 0', 3)
+control(GOTO_TRACK, 'result 4', 'Paused 5 0 0 | 1 0 0', 4)
+control(GOTO_TRACK, 'result 1', 'Paused 5 0 0 | 1 1 0', 1)
+control(GOTO_TRACK, 'result 1', 'Paused 5 0 0 | 1 2 0', -2)
+control(GOTO_TRACK, 'result 1', 'Paused 5 0 0 | 1 0 0', -1)
+control(GOTO_TRACK, 'result 1', 'Paused 5 0 0 | 1 1 0', -3)
+control(GOTO_TRACK, 'result 4', 'Paused 5 0 0 | 1 1 0', -4)
+
+# From Last, track 0, 2147483647 steps back: one more than a multiple of 3.
+case('order 6, rising stamp, repeated')
+stand(6, 0, 100)
+control(NEXT_TRACK, 'result 1', 'Paused 6 0 0 | 1 1 0')
+control(PREVIOUS_TRACK, 'result 1', 'Paused 6 0 0 | 1 0 0')
+control(GOTO_TRACK, 'result 1', 'Paused 6 0 0 | 1 1 0', 4)
+control(GOTO_TRACK, 'result 1', 'Paused 6 0 0 | 1 2 0', LEAST)
+control(GOTO_TRACK, 'result 1', 'Paused 6 0 0 | 1 0 0', -4)
+
+# "7, 8 by falling stamp; ties by lower number in all": 0, 1, 2.
+# "Newest as the reverse of Oldest: ties come out 2, 1" is an error that looks right.
+case('order 7, falling stamp, once')
+stand(7, 0, 100)
+control(PREVIOUS_TRACK, 'result 4', 'Paused 7 0 0 | 1 0 100')
+control(NEXT_TRACK, 'result 1', 'Paused 7 0 0 | 1 1 0')
+control(NEXT_TRACK, 'result 1', 'Paused 7 0 0 | 1 2 0')
+control(NEXT_TRACK, 'result 4', 'Paused 7 0 0 | 1 2 0')
+control(PREVIOUS_TRACK, 'result 1', 'Paused 7 0 0 | 1 1 0')
+control(LAST_TRACK, 'result 1', 'Paused 7 0 0 | 1 2 0')
+control(FIRST_TRACK, 'result 1', 'Paused 7 0 0 | 1 0 0')
+control(GOTO_TRACK, 'result 1', 'Paused 7 0 0 | 1 1 0', 2)
+control(GOTO_TRACK, 'result 1', 'Paused 7 0 0 | 1 2 0', -1)
+control(GOTO_TRACK, 'result 4', 'Paused 7 0 0 | 1 2 0', 4)
+
+case('order 8, falling stamp, repeated')
+stand(8, 0, 100)
+control(PREVIOUS_TRACK, 'result 1', 'Paused 8 0 0 | 1 2 0')
+control(NEXT_TRACK, 'result 1', 'Paused 8 0 0 | 1 0 0')
+control(GOTO_TRACK, 'result 1', 'Paused 8 0 0 | 1 1 0', LEAST)
+control(GOTO_TRACK, 'result 1', 'Paused 8 0 0 | 1 2 0', 3)
+control(GOTO_TRACK, 'result 1', 'Paused 8 0 0 | 1 0 0', 4)
+
+# "1, 2 the current track alone"
+case('order 1, the current track once')
+stand(1, 1, 100)
+control(NEXT_TRACK, 'result 4', 'Paused 1 0 0 | 1 1 100')
+control(PREVIOUS_TRACK, 'result 4', 'Paused 1 0 0 | 1 1 100')
+control(GOTO_TRACK, 'result 4', 'Paused 1 0 0 | 1 1 100', 2)
+control(GOTO_TRACK, 'result 4', 'Paused 1 0 0 | 1 1 100', -2)
+control(FIRST_TRACK, 'result 1', 'Paused 1 0 0 | 1 1 0')
+position(100, 'done', 'Paused 1 0 0 | 1 1 100')
+control(LAST_TRACK, 'result 1', 'Paused 1 0 0 | 1 1 0')
+position(100, 'done', 'Paused 1 0 0 | 1 1 100')
+control(GOTO_TRACK, 'result 1', 'Paused 1 0 0 | 1 1 0', 1)
+position(100, 'done', 'Paused 1 0 0 | 1 1 100')
+control(GOTO_TRACK, 'result 1', 'Paused 1 0 0 | 1 1 0', -1)
+position(100, 'done', 'Paused 1 0 0 | 1 1 100')
+control(GOTO_TRACK, 'result 1', 'Paused 1 0 0 | 1 1 0', 0)
+
+case('order 2, the current track repeated')
+stand(2, 1, 100)
+control(NEXT_TRACK, 'result 1', 'Paused 2 0 0 | 1 1 0')
+position(100, 'done', 'Paused 2 0 0 | 1 1 100')
+control(PREVIOUS_TRACK, 'result 1', 'Paused 2 0 0 | 1 1 0')
+position(100, 'done', 'Paused 2 0 0 | 1 1 100')
+control(FIRST_TRACK, 'result 1', 'Paused 2 0 0 | 1 1 0')
+position(100, 'done', 'Paused 2 0 0 | 1 1 100')
+control(LAST_TRACK, 'result 1', 'Paused 2 0 0 | 1 1 0')
+position(100, 'done', 'Paused 2 0 0 | 1 1 100')
+control(GOTO_TRACK, 'result 1', 'Paused 2 0 0 | 1 1 0', 2)
+position(100, 'done', 'Paused 2 0 0 | 1 1 100')
+control(GOTO_TRACK, 'result 1', 'Paused 2 0 0 | 1 1 0', MOST)
+position(100, 'done', 'Paused 2 0 0 | 1 1 100')
+control(GOTO_TRACK, 'result 1', 'Paused 2 0 0 | 1 1 0', LEAST)
+position(100, 'done', 'Paused 2 0 0 | 1 1 100')
+control(GOTO_TRACK, 'result 1', 'Paused 2 0 0 | 1 1 0', 0)
+
+case('a group of one track')
+stand_in_3(5, 100)
+control(NEXT_TRACK, 'result 4', 'Paused 5 0 0 | 3 3 100')
+control(PREVIOUS_TRACK, 'result 4', 'Paused 5 0 0 | 3 3 100')
+control(LAST_TRACK, 'result 1', 'Paused 5 0 0 | 3 3 0')
+order(6, 'done', 'Paused 6 0 0 | 3 3 0')
+position(100, 'done', 'Paused 6 0 0 | 3 3 100')
+control(NEXT_TRACK, 'result 1', 'Paused 6 0 0 | 3 3 0')
+position(100, 'done', 'Paused 6 0 0 | 3 3 100')
+control(PREVIOUS_TRACK, 'result 1', 'Paused 6 0 0 | 3 3 0')
+
+
+# ---- Groups
+
+# "Group moves run over the groups of the same parent that have tracks, group 0 left out"; "No repeat".
+case('group moves')
+stand(3, 1, 100)
+control(PREVIOUS_GROUP, 'result 4', 'Paused 3 0 0 | 1 1 100')
+control(NEXT_GROUP, 'result 1', 'Paused 3 0 0 | 3 3 0')
+position(100, 'done', 'Paused 3 0 0 | 3 3 100')
+control(NEXT_GROUP, 'result 4', 'Paused 3 0 0 | 3 3 100')
+control(PREVIOUS_GROUP, 'result 1', 'Paused 3 0 0 | 1 0 0')
+control(LAST_GROUP, 'result 1', 'Paused 3 0 0 | 3 3 0')
+position(100, 'done', 'Paused 3 0 0 | 3 3 100')
+control(LAST_GROUP, 'result 1', 'Paused 3 0 0 | 3 3 0')
+control(FIRST_GROUP, 'result 1', 'Paused 3 0 0 | 1 0 0')
+
+# "Goto as above, 0 keeps the group. Then the group's first track, position 0."
+case('Goto Group')
+stand(3, 1, 100)
+control(GOTO_GROUP, 'result 4', 'Paused 3 0 0 | 1 1 100', -3)
+control(GOTO_GROUP, 'result 4', 'Paused 3 0 0 | 1 1 100', MOST)
+control(GOTO_GROUP, 'result 4', 'Paused 3 0 0 | 1 1 100', LEAST)
+control(GOTO_GROUP, 'result 1', 'Paused 3 0 0 | 1 0 0', 0)
+control(GOTO_GROUP, 'result 1', 'Paused 3 0 0 | 3 3 0', 2)
+control(GOTO_GROUP, 'result 1', 'Paused 3 0 0 | 1 0 0', 1)
+control(GOTO_GROUP, 'result 1', 'Paused 3 0 0 | 3 3 0', -1)
+control(GOTO_GROUP, 'result 1', 'Paused 3 0 0 | 1 0 0', -2)
+
+case('Goto Group 0 in group 3')
+stand_in_3(4, 100)
+control(GOTO_GROUP, 'result 1', 'Paused 4 0 0 | 3 3 0', 0)
+
+# "No repeat" holds in the repeat orders too.
+case('group moves in repeat orders')
+stand_in_3(4, 100)
+control(NEXT_GROUP, 'result 4', 'Paused 4 0 0 | 3 3 100')
+control(GOTO_GROUP, 'result 4', 'Paused 4 0 0 | 3 3 100', 3)
+stand(2, 1, 100)
+control(PREVIOUS_GROUP, 'result 4', 'Paused 2 0 0 | 1 1 100')
+
+# "1, 2 the current track alone (when a group is activated or moved to, its lowest track comes first)"; the other orders begin as they run.
+for number, first in ((1, 0), (2, 0), (3, 0), (4, 0), (5, 1), (6, 1), (7, 0), (8, 0)):
+    case('Previous Group and Goto Group 0 in order %d' % number)
+    stand_in_3(number, 100)
+    control(PREVIOUS_GROUP, 'result 1', 'Paused %d 0 0 | 1 %d 0' % (number, first))
+    stand(number, 2, 0)
+    control(GOTO_GROUP, 'result 1', 'Paused %d 0 0 | 1 %d 0' % (number, first), 0)
+
+
+# ---- State and seeking speed
+
+# "Play gives Playing, Pause Paused, Stop Paused at 0."
+case('Play, Pause, Stop')
+stand(3, 0, 1500)
+control(PAUSE, 'result 1', 'Paused 3 0 0 | 1 0 1500')
+control(PLAY, 'result 1', 'Playing 3 0 0 | 1 0 1500')
+control(PLAY, 'result 1', 'Playing 3 0 0 | 1 0 1500')
+control(PAUSE, 'result 1', 'Paused 3 0 0 | 1 0 1500')
+control(STOP, 'result 1', 'Paused 3 0 0 | 1 0 0')
+control(PLAY, 'result 1', 'Playing 3 0 0 | 1 0 0')
+position(40, 'done', 'Playing 3 0 0 | 1 0 40')
+control(STOP, 'result 1', 'Paused 3 0 0 | 1 0 0')
+
+# "Fast Forward enters Seeking at 4, Rewind at −4; while Seeking one rung up or down, staying at the end rung."
+case('Fast Forward and Rewind over all rungs')
+stand(3, 0, 1500)
+control(FORWARD, 'result 1', 'Seeking 3 0 4 | 1 0 1500')
+control(FORWARD, 'result 1', 'Seeking 3 0 8 | 1 0 1500')
+control(FORWARD, 'result 1', 'Seeking 3 0 16 | 1 0 1500')
+control(FORWARD, 'result 1', 'Seeking 3 0 32 | 1 0 1500')
+control(FORWARD, 'result 1', 'Seeking 3 0 32 | 1 0 1500')
+control(REWIND, 'result 1', 'Seeking 3 0 16 | 1 0 1500')
+control(REWIND, 'result 1', 'Seeking 3 0 8 | 1 0 1500')
+control(REWIND, 'result 1', 'Seeking 3 0 4 | 1 0 1500')
+control(REWIND, 'result 1', 'Seeking 3 0 -4 | 1 0 1500')
+control(REWIND, 'result 1', 'Seeking 3 0 -8 | 1 0 1500')
+control(REWIND, 'result 1', 'Seeking 3 0 -16 | 1 0 1500')
+control(REWIND, 'result 1', 'Seeking 3 0 -32 | 1 0 1500')
+control(REWIND, 'result 1', 'Seeking 3 0 -32 | 1 0 1500')
+control(FORWARD, 'result 1', 'Seeking 3 0 -16 | 1 0 1500')
+control(FORWARD, 'result 1', 'Seeking 3 0 -8 | 1 0 1500')
+control(FORWARD, 'result 1', 'Seeking 3 0 -4 | 1 0 1500')
+control(FORWARD, 'result 1', 'Seeking 3 0 4 | 1 0 1500')
+
+# "Outside Seeking the speed is 0."
+case('out of Seeking')
+stand(3, 0, 1500)
+control(REWIND, 'result 1', 'Seeking 3 0 -4 | 1 0 1500')
+control(PLAY, 'result 1', 'Playing 3 0 0 | 1 0 1500')
+control(FORWARD, 'result 1', 'Seeking 3 0 4 | 1 0 1500')
+control(PAUSE, 'result 1', 'Paused 3 0 0 | 1 0 1500')
+control(PLAY, 'result 1', 'Playing 3 0 0 | 1 0 1500')
+control(REWIND, 'result 1', 'Seeking 3 0 -4 | 1 0 1500')
+control(STOP, 'result 1', 'Paused 3 0 0 | 1 0 0')
+control(FORWARD, 'result 1', 'Seeking 3 0 4 | 1 0 0')
+activate(1, 'done', 'Paused 3 0 0 | 1 0 0')
+control(FORWARD, 'result 1', 'Seeking 3 0 4 | 1 0 0')
+deactivate('done', 'Inactive 3 0 0 | 0 0 0')
+
+# "Segment moves and Move Relative keep the state."
+case('Seeking stays')
+stand(3, 0, 1500)
+control(FORWARD, 'result 1', 'Seeking 3 0 4 | 1 0 1500')
+control(FORWARD, 'result 1', 'Seeking 3 0 8 | 1 0 1500')
+control(PREVIOUS_SEGMENT, 'result 1', 'Seeking 3 0 8 | 1 0 0')
+control(NEXT_SEGMENT, 'result 1', 'Seeking 3 0 8 | 1 0 1500')
+control(LAST_SEGMENT, 'result 1', 'Seeking 3 0 8 | 1 0 4000')
+control(FIRST_SEGMENT, 'result 1', 'Seeking 3 0 8 | 1 0 0')
+control(GOTO_SEGMENT, 'result 1', 'Seeking 3 0 8 | 1 0 1500', 2)
+control(GOTO_SEGMENT, 'result 1', 'Seeking 3 0 8 | 1 0 1500', 0)
+control(RELATIVE, 'result 1', 'Seeking 3 0 8 | 1 0 1400', -100)
+position(1300, 'done', 'Seeking 3 0 8 | 1 0 1300')
+speed(64, 'done', 'Seeking 3 64 8 | 1 0 1300')
+order(5, 'done', 'Seeking 5 64 8 | 1 0 1300')
+set_name(b'Radio', 'done', 'Seeking 5 64 8 | 1 0 1300')
+control(NEXT_TRACK, 'result 4', 'Seeking 5 64 8 | 1 0 1300')
+control(GOTO_TRACK, 'result 4', 'Seeking 5 64 8 | 1 0 1300', 4)
+control(PREVIOUS_GROUP, 'result 4', 'Seeking 5 64 8 | 1 0 1300')
+control(0x06, 'result 2', 'Seeking 5 64 8 | 1 0 1300')
+activate(2, 'refused 208', 'Seeking 5 64 8 | 1 0 1300')
+
+case('Playing stays by segment moves and Move Relative')
+stand(3, 0, 1500)
+control(PLAY, 'result 1', 'Playing 3 0 0 | 1 0 1500')
+control(NEXT_SEGMENT, 'result 1', 'Playing 3 0 0 | 1 0 4000')
+control(NEXT_SEGMENT, 'result 1', 'Playing 3 0 0 | 1 0 6000')
+control(RELATIVE, 'result 1', 'Playing 3 0 0 | 1 0 5999', -1)
+
+# "Track and group moves turn Seeking into Playing."
+for opcode, number, to in (
+    (NEXT_TRACK, 0, '1 2 0'),
+    (PREVIOUS_TRACK, 0, '1 0 0'),
+    (FIRST_TRACK, 0, '1 0 0'),
+    (LAST_TRACK, 0, '1 2 0'),
+    (GOTO_TRACK, 2, '1 1 0'),
+    (GOTO_TRACK, 0, '1 1 0'),
+    (NEXT_GROUP, 0, '3 3 0'),
+    (FIRST_GROUP, 0, '1 0 0'),
+    (LAST_GROUP, 0, '3 3 0'),
+    (GOTO_GROUP, -1, '3 3 0'),
+    (GOTO_GROUP, 0, '1 0 0'),
+):
+    case('0x%02X turns Seeking into Playing' % opcode)
+    stand(3, 1, 100)
+    control(FORWARD, 'result 1', 'Seeking 3 0 4 | 1 1 100')
+    control(opcode, 'result 1', 'Playing 3 0 0 | ' + to, number)
+
+case('Previous Group turns Seeking into Playing')
+stand_in_3(3, 100)
+control(REWIND, 'result 1', 'Seeking 3 0 -4 | 3 3 100')
+control(PREVIOUS_GROUP, 'result 1', 'Playing 3 0 0 | 1 0 0')
+
+case('Playing stays by track and group moves')
+stand(3, 0, 100)
+control(PLAY, 'result 1', 'Playing 3 0 0 | 1 0 100')
+control(NEXT_TRACK, 'result 1', 'Playing 3 0 0 | 1 1 0')
+control(NEXT_GROUP, 'result 1', 'Playing 3 0 0 | 3 3 0')
+
+
+# ---- Result codes
+
+# "First that applies: 2, 3, 4, 1. After 2, 3, 4 the player is as before."
+case('an opcode without a current track')
+start(b'Radio', ALL, 7, 'done', 'Inactive 3 0 0 | 0 0 0')
+for opcode in MASK_BITS:
+    control(opcode, 'result 3', 'Inactive 3 0 0 | 0 0 0', 1)
+
+# "2 opcode unknown or not in the mask; 3 Inactive"
+case('an unknown opcode')
+start(b'Radio', ALL, 7, 'done', 'Inactive 3 0 0 | 0 0 0')
+for opcode in UNKNOWN:
+    control(opcode, 'result 2', 'Inactive 3 0 0 | 0 0 0')
+activate(1, 'done', 'Paused 3 0 0 | 1 0 0')
+for opcode in UNKNOWN:
+    control(opcode, 'result 2', 'Paused 3 0 0 | 1 0 0')
+
+for opcode in MASK_BITS:
+    case('the mask bit of 0x%02X' % opcode)
+    start(b'Radio', 1 << MASK_BITS[opcode], 7, 'done', 'Inactive 3 0 0 | 0 0 0')
+    control(opcode, 'result 3', 'Inactive 3 0 0 | 0 0 0')
+    start(b'Radio', ALL - (1 << MASK_BITS[opcode]), 7, 'done', 'Inactive 3 0 0 | 0 0 0')
+    control(opcode, 'result 2', 'Inactive 3 0 0 | 0 0 0')
+    activate(1, 'done', 'Paused 3 0 0 | 1 0 0')
+    control(opcode, 'result 2', 'Paused 3 0 0 | 1 0 0')
+
+# "Higher mask bits count as 0."
+case('higher mask bits')
+start(b'Radio', 0xFFE00000, 7, 'done', 'Inactive 3 0 0 | 0 0 0')
+value(19, 'value 4 00 00 00 00', 'Inactive 3 0 0 | 0 0 0')
+for opcode in tuple(MASK_BITS) + UNKNOWN:
+    control(opcode, 'result 2', 'Inactive 3 0 0 | 0 0 0')
+start(b'Radio', 0xFFFFFFFF, 7, 'done', 'Inactive 3 0 0 | 0 0 0')
+value(19, 'value 4 ff ff 1f 00', 'Inactive 3 0 0 | 0 0 0')
+for opcode in UNKNOWN:
+    control(opcode, 'result 2', 'Inactive 3 0 0 | 0 0 0')
+start(b'Radio', 0xFFF21001, 7, 'done', 'Inactive 3 0 0 | 0 0 0')
+value(19, 'value 4 01 10 12 00', 'Inactive 3 0 0 | 0 0 0')
+
+
+# ---- Inactive, activation, deactivation
+
+# "While Inactive the write is taken and alters nothing."
+# "Deactivate leaves Inactive, order and playback speed kept."
+case('Inactive')
+start(b'Radio', ALL, 7, 'done', 'Inactive 3 0 0 | 0 0 0')
+check('done', 'Inactive 3 0 0 | 0 0 0')
+position(0, 'done', 'Inactive 3 0 0 | 0 0 0')
+position(100, 'done', 'Inactive 3 0 0 | 0 0 0')
+position(-1, 'done', 'Inactive 3 0 0 | 0 0 0')
+advance(0, 'done', 'Inactive 3 0 0 | 0 0 0')
+advance(LONGEST, 'done', 'Inactive 3 0 0 | 0 0 0')
+deactivate('done', 'Inactive 3 0 0 | 0 0 0')
+speed(127, 'done', 'Inactive 3 127 0 | 0 0 0')
+speed(-128, 'done', 'Inactive 3 -128 0 | 0 0 0')
+speed(-1, 'done', 'Inactive 3 -1 0 | 0 0 0')
+order(8, 'done', 'Inactive 8 -1 0 | 0 0 0')
+order(5, 'done', 'Inactive 5 -1 0 | 0 0 0')
+activate(1, 'done', 'Paused 5 -1 0 | 1 1 0')
+control(PLAY, 'result 1', 'Playing 5 -1 0 | 1 1 0')
+advance(10, 'done', 'Playing 5 -1 0 | 1 1 10')
+deactivate('done', 'Inactive 5 -1 0 | 0 0 0')
+deactivate('done', 'Inactive 5 -1 0 | 0 0 0')
+start(b'Radio', ALL, 7, 'done', 'Inactive 3 0 0 | 0 0 0')
+
+# "Activate: the group's first track in the order, position 0, Paused, seeking speed 0."
+for number, first in ((1, 0), (2, 0), (3, 0), (4, 0), (5, 1), (6, 1), (7, 0), (8, 0)):
+    case('activation in order %d' % number)
+    start(b'Radio', ALL, 7, 'done', 'Inactive 3 0 0 | 0 0 0')
+    order(number, 'done', 'Inactive %d 0 0 | 0 0 0' % number)
+    activate(1, 'done', 'Paused %d 0 0 | 1 %d 0' % (number, first))
+    activate(3, 'done', 'Paused %d 0 0 | 3 3 0' % number)
+
+case('activation of the current group')
+stand(1, 2, 0)
+activate(1, 'done', 'Paused 1 0 0 | 1 0 0')
+position(9, 'done', 'Paused 1 0 0 | 1 0 9')
+control(PLAY, 'result 1', 'Playing 1 0 0 | 1 0 9')
+activate(1, 'done', 'Paused 1 0 0 | 1 0 0')
+
+# "group absent or without tracks"
+case('groups that cannot be activated')
+start(b'Radio', ALL, 7, 'done', 'Inactive 3 0 0 | 0 0 0')
+for group in (0, 2, 4, 9, 64, LONGEST):
+    activate(group, 'refused 208', 'Inactive 3 0 0 | 0 0 0')
+stand(3, 1, 100)
+for group in (0, 2, 4, 9, 64, LONGEST):
+    activate(group, 'refused 208', 'Paused 3 0 0 | 1 1 100')
+
+# An order that is written moves neither track nor position.
+case('written orders')
+stand(3, 2, 0)
+for number in (1, 2, 3, 4, 5, 6, 7, 8):
+    order(number, 'done', 'Paused %d 0 0 | 1 2 0' % number)
+stand(3, 1, 99)
+order(8, 'done', 'Paused 8 0 0 | 1 1 99')
+
+# "order not 1..8"
+case('orders that are refused')
+start(b'Radio', ALL, 7, 'done', 'Inactive 3 0 0 | 0 0 0')
+order(0, 'refused 19', 'Inactive 3 0 0 | 0 0 0')
+order(9, 'refused 19', 'Inactive 3 0 0 | 0 0 0')
+order(255, 'refused 19', 'Inactive 3 0 0 | 0 0 0')
+stand(6, 1, 100)
+order(0, 'refused 19', 'Paused 6 0 0 | 1 1 100')
+order(9, 'refused 19', 'Paused 6 0 0 | 1 1 100')
+order(131, 'refused 19', 'Paused 6 0 0 | 1 1 100')
+
+
+# ---- Advance
+
+# "Otherwise nothing."
+case('advance while Paused')
+stand(3, 0, 5999)
+advance(0, 'done', 'Paused 3 0 0 | 1 0 5999')
+advance(1, 'done', 'Paused 3 0 0 | 1 0 5999')
+advance(LONGEST, 'done', 'Paused 3 0 0 | 1 0 5999')
+
+# "Playing adds d; at D or beyond, the next track at 0, or, where none, Paused at D. One move per call."
+case('advance below D, then to D')
+stand(3, 0, 0)
+control(PLAY, 'result 1', 'Playing 3 0 0 | 1 0 0')
+advance(0, 'done', 'Playing 3 0 0 | 1 0 0')
+advance(1, 'done', 'Playing 3 0 0 | 1 0 1')
+advance(5998, 'done', 'Playing 3 0 0 | 1 0 5999')
+advance(1, 'done', 'Playing 3 0 0 | 1 1 0')
+advance(299, 'done', 'Playing 3 0 0 | 1 1 299')
+advance(1, 'done', 'Playing 3 0 0 | 1 2 0')
+advance(0, 'done', 'Paused 3 0 0 | 1 2 0')
+
+case('advance by 4294967295')
+stand(3, 0, 1)
+control(PLAY, 'result 1', 'Playing 3 0 0 | 1 0 1')
+advance(LONGEST, 'done', 'Playing 3 0 0 | 1 1 0')
+advance(LONGEST, 'done', 'Playing 3 0 0 | 1 2 0')
+advance(LONGEST, 'done', 'Paused 3 0 0 | 1 2 0')
+advance(LONGEST, 'done', 'Paused 3 0 0 | 1 2 0')
+
+case('advance beyond D by 4294967295')
+stand(3, 0, 6000)
+control(PLAY, 'result 1', 'Playing 3 0 0 | 1 0 6000')
+advance(LONGEST, 'done', 'Playing 3 0 0 | 1 1 0')
+
+case('advance by 0 at D')
+stand(3, 0, 6000)
+control(PLAY, 'result 1', 'Playing 3 0 0 | 1 0 6000')
+advance(0, 'done', 'Playing 3 0 0 | 1 1 0')
+advance(0, 'done', 'Playing 3 0 0 | 1 1 0')
+
+# One move per call, also where what is left of d is longer than the next track.
+case('one move per call')
+stand(4, 0, 5999)
+control(PLAY, 'result 1', 'Playing 4 0 0 | 1 0 5999')
+advance(900, 'done', 'Playing 4 0 0 | 1 1 0')
+advance(900, 'done', 'Playing 4 0 0 | 1 2 0')
+advance(900, 'done', 'Playing 4 0 0 | 1 0 0')
+advance(900, 'done', 'Playing 4 0 0 | 1 0 900')
+
+case('the last track in order 3: Paused at D')
+stand_in_3(3, 0)
+control(PLAY, 'result 1', 'Playing 3 0 0 | 3 3 0')
+advance(899, 'done', 'Playing 3 0 0 | 3 3 899')
+advance(1, 'done', 'Paused 3 0 0 | 3 3 900')
+control(PLAY, 'result 1', 'Playing 3 0 0 | 3 3 900')
+advance(0, 'done', 'Paused 3 0 0 | 3 3 900')
+position(1, 'done', 'Paused 3 0 0 | 3 3 1')
+control(PLAY, 'result 1', 'Playing 3 0 0 | 3 3 1')
+advance(LONGEST, 'done', 'Paused 3 0 0 | 3 3 900')
+
+case('a track of duration 0')
+stand(3, 2, 0)
+control(PLAY, 'result 1', 'Playing 3 0 0 | 1 2 0')
+advance(0, 'done', 'Paused 3 0 0 | 1 2 0')
+order(4, 'done', 'Paused 4 0 0 | 1 2 0')
+control(PLAY, 'result 1', 'Playing 4 0 0 | 1 2 0')
+advance(0, 'done', 'Playing 4 0 0 | 1 0 0')
+
+# The current track alone: none follows in order 1, itself in order 2.
+case('advance in orders 1 and 2')
+stand(1, 1, 299)
+control(PLAY, 'result 1', 'Playing 1 0 0 | 1 1 299')
+advance(5, 'done', 'Paused 1 0 0 | 1 1 300')
+order(2, 'done', 'Paused 2 0 0 | 1 1 300')
+control(PLAY, 'result 1', 'Playing 2 0 0 | 1 1 300')
+advance(0, 'done', 'Playing 2 0 0 | 1 1 0')
+advance(300, 'done', 'Playing 2 0 0 | 1 1 0')
+advance(LONGEST, 'done', 'Playing 2 0 0 | 1 1 0')
+advance(299, 'done', 'Playing 2 0 0 | 1 1 299')
+
+case('advance in orders 5 to 8')
+stand(5, 1, 0)
+control(PLAY, 'result 1', 'Playing 5 0 0 | 1 1 0')
+advance(300, 'done', 'Playing 5 0 0 | 1 2 0')
+advance(1, 'done', 'Playing 5 0 0 | 1 0 0')
+advance(6000, 'done', 'Paused 5 0 0 | 1 0 6000')
+order(6, 'done', 'Paused 6 0 0 | 1 0 6000')
+control(PLAY, 'result 1', 'Playing 6 0 0 | 1 0 6000')
+advance(1, 'done', 'Playing 6 0 0 | 1 1 0')
+order(7, 'done', 'Playing 7 0 0 | 1 1 0')
+advance(301, 'done', 'Playing 7 0 0 | 1 2 0')
+advance(0, 'done', 'Paused 7 0 0 | 1 2 0')
+order(8, 'done', 'Paused 8 0 0 | 1 2 0')
+control(PLAY, 'result 1', 'Playing 8 0 0 | 1 2 0')
+advance(0, 'done', 'Playing 8 0 0 | 1 0 0')
+advance(6000, 'done', 'Playing 8 0 0 | 1 1 0')
+
+case('a group of one track in a repeat order')
+stand_in_3(4, 899)
+control(PLAY, 'result 1', 'Playing 4 0 0 | 3 3 899')
+advance(2, 'done', 'Playing 4 0 0 | 3 3 0')
+
+# "Playing adds d", whatever the playback speed.
+case('playback speed and advance')
+stand(3, 0, 0)
+speed(64, 'done', 'Paused 3 64 0 | 1 0 0')
+control(PLAY, 'result 1', 'Playing 3 64 0 | 1 0 0')
+advance(100, 'done', 'Playing 3 64 0 | 1 0 100')
+speed(-64, 'done', 'Playing 3 -64 0 | 1 0 100')
+advance(100, 'done', 'Playing 3 -64 0 | 1 0 200')
+
+# "Seeking adds d times the seeking speed, held to 0..D."
+case('advance while Seeking forward')
+stand(3, 0, 1500)
+control(FORWARD, 'result 1', 'Seeking 3 0 4 | 1 0 1500')
+advance(0, 'done', 'Seeking 3 0 4 | 1 0 1500')
+advance(10, 'done', 'Seeking 3 0 4 | 1 0 1540')
+control(FORWARD, 'result 1', 'Seeking 3 0 8 | 1 0 1540')
+advance(10, 'done', 'Seeking 3 0 8 | 1 0 1620')
+control(FORWARD, 'result 1', 'Seeking 3 0 16 | 1 0 1620')
+advance(10, 'done', 'Seeking 3 0 16 | 1 0 1780')
+control(FORWARD, 'result 1', 'Seeking 3 0 32 | 1 0 1780')
+advance(10, 'done', 'Seeking 3 0 32 | 1 0 2100')
+advance(121, 'done', 'Seeking 3 0 32 | 1 0 5972')
+advance(1, 'done', 'Seeking 3 0 32 | 1 0 6000')
+advance(1, 'done', 'Seeking 3 0 32 | 1 0 6000')
+position(1500, 'done', 'Seeking 3 0 32 | 1 0 1500')
+advance(134217728, 'done', 'Seeking 3 0 32 | 1 0 6000')
+position(1500, 'done', 'Seeking 3 0 32 | 1 0 1500')
+advance(LONGEST, 'done', 'Seeking 3 0 32 | 1 0 6000')
+
+case('advance while Seeking back')
+stand(3, 0, 6000)
+control(REWIND, 'result 1', 'Seeking 3 0 -4 | 1 0 6000')
+advance(0, 'done', 'Seeking 3 0 -4 | 1 0 6000')
+advance(10, 'done', 'Seeking 3 0 -4 | 1 0 5960')
+control(REWIND, 'result 1', 'Seeking 3 0 -8 | 1 0 5960')
+advance(10, 'done', 'Seeking 3 0 -8 | 1 0 5880')
+control(REWIND, 'result 1', 'Seeking 3 0 -16 | 1 0 5880')
+advance(10, 'done', 'Seeking 3 0 -16 | 1 0 5720')
+control(REWIND, 'result 1', 'Seeking 3 0 -32 | 1 0 5720')
+advance(10, 'done', 'Seeking 3 0 -32 | 1 0 5400')
+advance(168, 'done', 'Seeking 3 0 -32 | 1 0 24')
+advance(1, 'done', 'Seeking 3 0 -32 | 1 0 0')
+advance(1, 'done', 'Seeking 3 0 -32 | 1 0 0')
+position(1500, 'done', 'Seeking 3 0 -32 | 1 0 1500')
+advance(134217728, 'done', 'Seeking 3 0 -32 | 1 0 0')
+position(1500, 'done', 'Seeking 3 0 -32 | 1 0 1500')
+advance(LONGEST, 'done', 'Seeking 3 0 -32 | 1 0 0')
+
+case('advance while Seeking in a track of duration 0')
+stand(4, 2, 0)
+control(FORWARD, 'result 1', 'Seeking 4 0 4 | 1 2 0')
+advance(5, 'done', 'Seeking 4 0 4 | 1 2 0')
+control(REWIND, 'result 1', 'Seeking 4 0 -4 | 1 2 0')
+advance(5, 'done', 'Seeking 4 0 -4 | 1 2 0')
+
+
+# ---- Values
+
+# "title is then empty, duration and position read −1"; "Orders supported reads 0x00FF."
+# "Values: 1 and 5 text; 4 empty; 6, 7, 19 four octets; 16 two; 18 two; the rest one."
+case('values while Inactive')
+start(b'Radio', ALL, 7, 'done', 'Inactive 3 0 0 | 0 0 0')
+value(1, 'value 5 52 61 64 69 6f', 'Inactive 3 0 0 | 0 0 0')
+value(5, 'value 0', 'Inactive 3 0 0 | 0 0 0')
+value(6, 'value 4 ff ff ff ff', 'Inactive 3 0 0 | 0 0 0')
+value(7, 'value 4 ff ff ff ff', 'Inactive 3 0 0 | 0 0 0')
+value(8, 'value 1 00', 'Inactive 3 0 0 | 0 0 0')
+value(9, 'value 1 00', 'Inactive 3 0 0 | 0 0 0')
+value(15, 'value 1 03', 'Inactive 3 0 0 | 0 0 0')
+value(16, 'value 2 ff 00', 'Inactive 3 0 0 | 0 0 0')
+value(17, 'value 1 00', 'Inactive 3 0 0 | 0 0 0')
+value(19, 'value 4 ff ff 1f 00', 'Inactive 3 0 0 | 0 0 0')
+value(22, 'value 1 07', 'Inactive 3 0 0 | 0 0 0')
+
+case('values of track 0')
+stand(6, 0, 1501)
+speed(-64, 'done', 'Paused 6 -64 0 | 1 0 1501')
+value(1, 'value 5 52 61 64 69 6f', 'Paused 6 -64 0 | 1 0 1501')
+value(5, 'value 10 c3 9c 62 65 72 66 61 68 72 74', 'Paused 6 -64 0 | 1 0 1501')
+value(6, 'value 4 70 17 00 00', 'Paused 6 -64 0 | 1 0 1501')
+value(7, 'value 4 dd 05 00 00', 'Paused 6 -64 0 | 1 0 1501')
+value(8, 'value 1 c0', 'Paused 6 -64 0 | 1 0 1501')
+value(9, 'value 1 00', 'Paused 6 -64 0 | 1 0 1501')
+value(15, 'value 1 06', 'Paused 6 -64 0 | 1 0 1501')
+value(16, 'value 2 ff 00', 'Paused 6 -64 0 | 1 0 1501')
+value(17, 'value 1 02', 'Paused 6 -64 0 | 1 0 1501')
+value(19, 'value 4 ff ff 1f 00', 'Paused 6 -64 0 | 1 0 1501')
+value(22, 'value 1 07', 'Paused 6 -64 0 | 1 0 1501')
+control(REWIND, 'result 1', 'Seeking 6 -64 -4 | 1 0 1501')
+value(9, 'value 1 fc', 'Seeking 6 -64 -4 | 1 0 1501')
+value(17, 'value 1 03', 'Seeking 6 -64 -4 | 1 0 1501')
+control(PLAY, 'result 1', 'Playing 6 -64 0 | 1 0 1501')
+value(17, 'value 1 01', 'Playing 6 -64 0 | 1 0 1501')
+
+case('values of the other tracks')
+stand(3, 1, 299)
+value(5, 'value 4 52 61 73 74', 'Paused 3 0 0 | 1 1 299')
+value(6, 'value 4 2c 01 00 00', 'Paused 3 0 0 | 1 1 299')
+value(7, 'value 4 2b 01 00 00', 'Paused 3 0 0 | 1 1 299')
+stand(3, 2, 0)
+value(5, 'value 0', 'Paused 3 0 0 | 1 2 0')
+value(6, 'value 4 00 00 00 00', 'Paused 3 0 0 | 1 2 0')
+value(7, 'value 4 00 00 00 00', 'Paused 3 0 0 | 1 2 0')
+stand_in_3(3, 256)
+value(5, 'value 4 5a 69 65 6c', 'Paused 3 0 0 | 3 3 256')
+value(6, 'value 4 84 03 00 00', 'Paused 3 0 0 | 3 3 256')
+value(7, 'value 4 00 01 00 00', 'Paused 3 0 0 | 3 3 256')
+deactivate('done', 'Inactive 3 0 0 | 0 0 0')
+value(5, 'value 0', 'Inactive 3 0 0 | 0 0 0')
+value(7, 'value 4 ff ff ff ff', 'Inactive 3 0 0 | 0 0 0')
+
+case('another Content Control ID')
+start(b'', 0x00ABCDEF, 255, 'done', 'Inactive 3 0 0 | 0 0 0')
+value(1, 'value 0', 'Inactive 3 0 0 | 0 0 0')
+value(19, 'value 4 ef cd 0b 00', 'Inactive 3 0 0 | 0 0 0')
+value(22, 'value 1 ff', 'Inactive 3 0 0 | 0 0 0')
+
+# "the lent output of a read or take is under 128 octets"
+case('an output of 127 octets')
+stand(3, 0, 1501)
+for characteristic in (1, 5, 6, 7, 8, 9, 15, 16, 17, 19, 22):
+    value(characteristic, 'refused 205', 'Paused 3 0 0 | 1 0 1501', room=127)
+value(7, 'refused 205', 'Paused 3 0 0 | 1 0 1501', room=0)
+value(7, 'value 4 dd 05 00 00', 'Paused 3 0 0 | 1 0 1501', room=128)
+
+
+# ---- Names
+
+# "name over 128 octets or not UTF-8"
+case('names')
+start(b'Radio', ALL, 7, 'done', 'Inactive 3 0 0 | 0 0 0')
+set_name(b'a' * 128, 'done', 'Inactive 3 0 0 | 0 0 0')
+value(1, 'value 128' + ' 61' * 128, 'Inactive 3 0 0 | 0 0 0')
+set_name(b'a' * 129, 'refused 207', 'Inactive 3 0 0 | 0 0 0')
+set_name(b'a' * 255, 'refused 207', 'Inactive 3 0 0 | 0 0 0')
+value(1, 'value 128' + ' 61' * 128, 'Inactive 3 0 0 | 0 0 0')
+set_name(b'\xC3\xA9', 'done', 'Inactive 3 0 0 | 0 0 0')
+value(1, 'value 2 c3 a9', 'Inactive 3 0 0 | 0 0 0')
+set_name(b'\xC3\xA9' * 64 + b'a', 'refused 207', 'Inactive 3 0 0 | 0 0 0')
+set_name(b'a\xFF', 'refused 207', 'Inactive 3 0 0 | 0 0 0')
+set_name(b'a\xC3', 'refused 207', 'Inactive 3 0 0 | 0 0 0')
+set_name(b'\xC0\x80', 'refused 207', 'Inactive 3 0 0 | 0 0 0')
+set_name(b'\xED\xA0\x80', 'refused 207', 'Inactive 3 0 0 | 0 0 0')
+set_name(b'\xF4\x90\x80\x80', 'refused 207', 'Inactive 3 0 0 | 0 0 0')
+value(1, 'value 2 c3 a9', 'Inactive 3 0 0 | 0 0 0')
+set_name(b'\xC3\xA9' * 64, 'done', 'Inactive 3 0 0 | 0 0 0')
+value(1, 'value 128' + ' c3 a9' * 64, 'Inactive 3 0 0 | 0 0 0')
+set_name(b'', 'done', 'Inactive 3 0 0 | 0 0 0')
+value(1, 'value 0', 'Inactive 3 0 0 | 0 0 0')
+
+case('a name is kept and keeps the rest')
+stand(7, 1, 100)
+speed(3, 'done', 'Paused 7 3 0 | 1 1 100')
+control(FORWARD, 'result 1', 'Seeking 7 3 4 | 1 1 100')
+set_name(b'Box', 'done', 'Seeking 7 3 4 | 1 1 100')
+set_name(b'\x80', 'refused 207', 'Seeking 7 3 4 | 1 1 100')
+control(NEXT_GROUP, 'result 1', 'Playing 7 3 0 | 3 3 0')
+deactivate('done', 'Inactive 7 3 0 | 0 0 0')
+value(1, 'value 3 42 6f 78', 'Inactive 7 3 0 | 0 0 0')
+
+# A refused start leaves the state that there was.
+case('a start with a wrong name')
+stand(7, 1, 100)
+start(b'a' * 129, ALL, 7, 'refused 207', 'Paused 7 0 0 | 1 1 100')
+start(b'\xE2\x82', ALL, 7, 'refused 207', 'Paused 7 0 0 | 1 1 100')
+start(b'a' * 128, ALL, 9, 'done', 'Inactive 3 0 0 | 0 0 0')
+value(1, 'value 128' + ' 61' * 128, 'Inactive 3 0 0 | 0 0 0')
+value(22, 'value 1 09', 'Inactive 3 0 0 | 0 0 0')
+
+
+# ---- Refusals: "A refusal returns its number alone and alters nothing."; "Several at once: the first in the table."
+
+# "a catalogue rule above fails, or a lent table ends inside a record"
+for catalogue in (OWN_PARENT, CUT):
+    case('a wrong catalogue')
+    stand(3, 1, 100)
+    control(PLAY, 'result 1', 'Playing 3 0 0 | 1 1 100')
+    start(b'Radio', ALL, 7, 'refused 200', 'Playing 3 0 0 | 1 1 100', catalogue)
+    set_name(b'Box', 'refused 200', 'Playing 3 0 0 | 1 1 100', catalogue)
+    activate(1, 'refused 200', 'Playing 3 0 0 | 1 1 100', catalogue)
+    deactivate('refused 200', 'Playing 3 0 0 | 1 1 100', catalogue)
+    advance(10, 'refused 200', 'Playing 3 0 0 | 1 1 100', catalogue)
+    position(10, 'refused 200', 'Playing 3 0 0 | 1 1 100', catalogue)
+    speed(10, 'refused 200', 'Playing 3 0 0 | 1 1 100', catalogue)
+    order(4, 'refused 200', 'Playing 3 0 0 | 1 1 100', catalogue)
+    control(PAUSE, 'refused 200', 'Playing 3 0 0 | 1 1 100', catalogue=catalogue)
+    value(7, 'refused 200', 'Playing 3 0 0 | 1 1 100', catalogue=catalogue)
+    check('refused 200', 'Playing 3 0 0 | 1 1 100', catalogue)
+    # 200 before 205, 207, 208, 0x13.
+    value(7, 'refused 200', 'Playing 3 0 0 | 1 1 100', 127, catalogue)
+    start(b'\xFF', ALL, 7, 'refused 200', 'Playing 3 0 0 | 1 1 100', catalogue)
+    set_name(b'\xFF', 'refused 200', 'Playing 3 0 0 | 1 1 100', catalogue)
+    activate(9, 'refused 200', 'Playing 3 0 0 | 1 1 100', catalogue)
+    order(0, 'refused 200', 'Playing 3 0 0 | 1 1 100', catalogue)
+    control(0xFF, 'refused 200', 'Playing 3 0 0 | 1 1 100', catalogue=catalogue)
+    # 200 before 201.
+    damage(TRACK, 3, 'Playing 3 0 0 | 1 3 100')
+    check('refused 200', 'Playing 3 0 0 | 1 3 100', catalogue)
+    value(7, 'refused 200', 'Playing 3 0 0 | 1 3 100', 127, catalogue)
+    check('refused 201', 'Playing 3 0 0 | 1 3 100')
+
+# "the state breaks a player rule above for this catalogue (group, track in it, position, state, seeking speed, order), its name breaks 207"
+case('every call refuses a wrong state')
+stand(3, 0, 1500)
+damage(PLACE, 6001, 'Paused 3 0 0 | 1 0 6001')
+check('refused 201', 'Paused 3 0 0 | 1 0 6001')
+set_name(b'Box', 'refused 201', 'Paused 3 0 0 | 1 0 6001')
+activate(1, 'refused 201', 'Paused 3 0 0 | 1 0 6001')
+deactivate('refused 201', 'Paused 3 0 0 | 1 0 6001')
+advance(10, 'refused 201', 'Paused 3 0 0 | 1 0 6001')
+position(10, 'refused 201', 'Paused 3 0 0 | 1 0 6001')
+speed(10, 'refused 201', 'Paused 3 0 0 | 1 0 6001')
+order(4, 'refused 201', 'Paused 3 0 0 | 1 0 6001')
+control(PLAY, 'refused 201', 'Paused 3 0 0 | 1 0 6001')
+value(7, 'refused 201', 'Paused 3 0 0 | 1 0 6001')
+# 201 before 207, 208, 0x13 and any result; 205 before 201.
+set_name(b'\xFF', 'refused 201', 'Paused 3 0 0 | 1 0 6001')
+activate(9, 'refused 201', 'Paused 3 0 0 | 1 0 6001')
+order(0, 'refused 201', 'Paused 3 0 0 | 1 0 6001')
+control(0xFF, 'refused 201', 'Paused 3 0 0 | 1 0 6001')
+value(7, 'refused 205', 'Paused 3 0 0 | 1 0 6001', room=127)
+# Start takes no state.
+start(b'Box', ALL, 7, 'done', 'Inactive 3 0 0 | 0 0 0')
+
+case('a wrong group')
+stand(3, 0, 1500)
+for group in (0, 2, 3, 4, 9, LONGEST):
+    damage(GROUP, group, 'Paused 3 0 0 | %d 0 1500' % group)
+    check('refused 201', 'Paused 3 0 0 | %d 0 1500' % group)
+damage(GROUP, 1, 'Paused 3 0 0 | 1 0 1500')
+check('done', 'Paused 3 0 0 | 1 0 1500')
+
+case('a wrong track')
+stand(3, 0, 0)
+for track in (3, 4, 256, LONGEST):
+    damage(TRACK, track, 'Paused 3 0 0 | 1 %d 0' % track)
+    check('refused 201', 'Paused 3 0 0 | 1 %d 0' % track)
+damage(TRACK, 2, 'Paused 3 0 0 | 1 2 0')
+check('done', 'Paused 3 0 0 | 1 2 0')
+stand_in_3(3, 0)
+damage(TRACK, 2, 'Paused 3 0 0 | 3 2 0')
+check('refused 201', 'Paused 3 0 0 | 3 2 0')
+
+# "Otherwise the position is 0 to the duration, D."
+case('a wrong position')
+stand(3, 1, 0)
+damage(PLACE, 300, 'Paused 3 0 0 | 1 1 300')
+check('done', 'Paused 3 0 0 | 1 1 300')
+damage(PLACE, 301, 'Paused 3 0 0 | 1 1 301')
+check('refused 201', 'Paused 3 0 0 | 1 1 301')
+damage(PLACE, LONGEST, 'Paused 3 0 0 | 1 1 4294967295')
+check('refused 201', 'Paused 3 0 0 | 1 1 4294967295')
+stand(3, 2, 0)
+damage(PLACE, 1, 'Paused 3 0 0 | 1 2 1')
+check('refused 201', 'Paused 3 0 0 | 1 2 1')
+
+# "Inactive exactly when there is no current track"
+case('a wrong state')
+stand(3, 0, 0)
+damage(MEDIA, 0, 'Inactive 3 0 0 | 1 0 0')
+check('refused 201', 'Inactive 3 0 0 | 1 0 0')
+damage(MEDIA, 1, 'Playing 3 0 0 | 1 0 0')
+check('done', 'Playing 3 0 0 | 1 0 0')
+damage(MEDIA, 4, '4 3 0 0 | 1 0 0')
+check('refused 201', '4 3 0 0 | 1 0 0')
+damage(MEDIA, 255, '255 3 0 0 | 1 0 0')
+check('refused 201', '255 3 0 0 | 1 0 0')
+start(b'Radio', ALL, 7, 'done', 'Inactive 3 0 0 | 0 0 0')
+damage(MEDIA, 2, 'Paused 3 0 0 | 0 0 0')
+check('refused 201', 'Paused 3 0 0 | 0 0 0')
+
+case('a place while Inactive')
+start(b'Radio', ALL, 7, 'done', 'Inactive 3 0 0 | 0 0 0')
+damage(GROUP, 1, 'Inactive 3 0 0 | 1 0 0')
+check('refused 201', 'Inactive 3 0 0 | 1 0 0')
+damage(GROUP, 0, 'Inactive 3 0 0 | 0 0 0')
+damage(TRACK, 1, 'Inactive 3 0 0 | 0 1 0')
+check('refused 201', 'Inactive 3 0 0 | 0 1 0')
+damage(TRACK, 0, 'Inactive 3 0 0 | 0 0 0')
+damage(PLACE, 1, 'Inactive 3 0 0 | 0 0 1')
+check('refused 201', 'Inactive 3 0 0 | 0 0 1')
+damage(PLACE, 0, 'Inactive 3 0 0 | 0 0 0')
+check('done', 'Inactive 3 0 0 | 0 0 0')
+
+# "Seeking speed rungs: −32, −16, −8, −4, 4, 8, 16, 32."; "Outside Seeking the speed is 0."
+case('a wrong seeking speed')
+stand(3, 0, 0)
+damage(SEEKING_SPEED, 4, 'Paused 3 0 4 | 1 0 0')
+check('refused 201', 'Paused 3 0 4 | 1 0 0')
+damage(MEDIA, 1, 'Playing 3 0 4 | 1 0 0')
+check('refused 201', 'Playing 3 0 4 | 1 0 0')
+damage(MEDIA, 3, 'Seeking 3 0 4 | 1 0 0')
+check('done', 'Seeking 3 0 4 | 1 0 0')
+for rung in (-32, -16, -8, -4, 4, 8, 16, 32):
+    damage(SEEKING_SPEED, rung, 'Seeking 3 0 %d | 1 0 0' % rung)
+    check('done', 'Seeking 3 0 %d | 1 0 0' % rung)
+for other in (0, 1, 2, 5, 31, 64, 127, -1, -2, -3, -5, -31, -33, -64, -128):
+    damage(SEEKING_SPEED, other, 'Seeking 3 0 %d | 1 0 0' % other)
+    check('refused 201', 'Seeking 3 0 %d | 1 0 0' % other)
+start(b'Radio', ALL, 7, 'done', 'Inactive 3 0 0 | 0 0 0')
+damage(SEEKING_SPEED, 4, 'Inactive 3 0 4 | 0 0 0')
+check('refused 201', 'Inactive 3 0 4 | 0 0 0')
+
+case('a wrong order')
+stand(3, 0, 0)
+for number in (1, 2, 3, 4, 5, 6, 7, 8):
+    damage(PLAYING_ORDER, number, 'Paused %d 0 0 | 1 0 0' % number)
+    check('done', 'Paused %d 0 0 | 1 0 0' % number)
+for number in (0, 9, 255):
+    damage(PLAYING_ORDER, number, 'Paused %d 0 0 | 1 0 0' % number)
+    check('refused 201', 'Paused %d 0 0 | 1 0 0' % number)
+start(b'Radio', ALL, 7, 'done', 'Inactive 3 0 0 | 0 0 0')
+damage(PLAYING_ORDER, 0, 'Inactive 0 0 0 | 0 0 0')
+check('refused 201', 'Inactive 0 0 0 | 0 0 0')
+
+# The octets behind the length of a name are no part of it.
+case('a wrong name')
+stand(3, 0, 0)
+damage(NAME_LENGTH, 128, 'Paused 3 0 0 | 1 0 0')
+check('done', 'Paused 3 0 0 | 1 0 0')
+damage(NAME_LENGTH, 129, 'Paused 3 0 0 | 1 0 0')
+check('refused 201', 'Paused 3 0 0 | 1 0 0')
+damage(NAME_LENGTH, 255, 'Paused 3 0 0 | 1 0 0')
+check('refused 201', 'Paused 3 0 0 | 1 0 0')
+damage(NAME_LENGTH, 5, 'Paused 3 0 0 | 1 0 0')
+check('done', 'Paused 3 0 0 | 1 0 0')
+damage(NAME_FIRST, 0xFF, 'Paused 3 0 0 | 1 0 0')
+check('refused 201', 'Paused 3 0 0 | 1 0 0')
+value(1, 'refused 201', 'Paused 3 0 0 | 1 0 0')
+set_name(b'Box', 'refused 201', 'Paused 3 0 0 | 1 0 0')
+damage(NAME_FIRST, 0xC3, 'Paused 3 0 0 | 1 0 0')
+check('refused 201', 'Paused 3 0 0 | 1 0 0')
+damage(NAME_LENGTH, 0, 'Paused 3 0 0 | 1 0 0')
+check('done', 'Paused 3 0 0 | 1 0 0')
+value(1, 'value 0', 'Paused 3 0 0 | 1 0 0')
+
+
+# ---- Files
+
+def files():
+    return {
+        'crates/cases/stdin': b''.join(FRAMES),
+        'crates/cases/stdout': ''.join(line + '\n' for line in LINES).encode('ascii'),
+    }
+
+
+def read(path):
+    if not os.path.exists(path):
+        return None
+    with open(path, 'rb') as file:
+        return file.read()
+
+
+def main(arguments):
+    if arguments not in ([], ['--check']):
+        sys.exit(__doc__)
+    differing = 0
+    for name, octets in files().items():
+        path = os.path.join(ROOT, name)
+        if not arguments:
+            with open(path, 'wb') as file:
+                file.write(octets)
+        elif read(path) != octets:
+            print(name + ' differs')
+            differing += 1
+    print('cases: %d, calls: %d' % (CASES[0], len(LINES) - CASES[0]))
+    if differing:
+        sys.exit(1)
+
+
+main(sys.argv[1:])
