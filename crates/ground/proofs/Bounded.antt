@@ -1,13 +1,13 @@
 -- Laws of `allBelow` and `sumBelow`: a loop's turn and end, and what they tell of each number. Assumes nothing.
-use mathlib.Core.Path.{_≡_, refl, sym, ap, _∙_}
-use mathlib.Core.Bool.{Bool, true, false, _&&_}
+use mathlib.Core.Path.{_≡_, ap, _∙_}
+use mathlib.Core.Bool.{Bool, true, _&&_}
 use mathlib.Core.Logic.{⊎-elim}
 use Prim.Native.Nat.{ℕ, zero, suc, _+_, _<_, _≤_}
 use native.Mathlib.Nat.{eq-or-lt-of-le, le-antisymm, not-suc-le-zero}
 use native.Mathlib.Numerals.{add-one}
 use native.Mathlib.Omega.{arith}
 use Rattle.ground.specs.Lists.{allBelow, sumBelow}
-use Rattle.ground.proofs.Cases.{and-left, and-right, and-both, and-fails}
+use Rattle.ground.proofs.Cases.{and-left, and-right}
 
 module _ (test : ℕ → Bool) where
   -- one number more, as a loop with no early exit counts it: `good = good & test`
@@ -19,10 +19,6 @@ module _ (test : ℕ → Bool) where
   pub all-end : {n i : ℕ} {good : Bool} → i ≤ n → n ≤ i → good ≡ allBelow i test → good ≡ allBelow n test
   all-end {n} {i} h k g = g ∙ ap (λ (m : ℕ). allBelow m test) (le-antisymm h k)
 
-  pub all-more : (i : ℕ) → allBelow i test ≡ true → test i ≡ true → allBelow (i + 1) test ≡ true
-  unfolding allBelow
-  all-more i g e = rw add-one (and-both g e)
-
   pub all-at : (n : ℕ) → allBelow n test ≡ true → (i : ℕ) → i < n → test i ≡ true
   unfolding allBelow
   all-at zero g i h = absurd (not-suc-le-zero h)
@@ -32,22 +28,6 @@ module _ (test : ℕ → Bool) where
       (λ e. ap test e ∙ and-right (allBelow n test) (test n) g)
       (λ l. all-at n (and-left (allBelow n test) (test n) g) i l)
       (eq-or-lt-of-le q)
-
-  -- one number that fails fails all
-  pub all-fails : (n i : ℕ) → i < n → test i ≡ false → allBelow n test ≡ false
-  unfolding allBelow
-  all-fails zero i h e = absurd (not-suc-le-zero h)
-  all-fails (suc n) i h e =
-      let q : i ≤ n = omega arith in
-      ⊎-elim
-      (λ p. and-fails (allBelow n test) (sym (ap test p) ∙ e))
-      (λ l. rw (all-fails n i l e))
-      (eq-or-lt-of-le q)
-
-  pub all-intro : (n : ℕ) → ((i : ℕ) → i < n → test i ≡ true) → allBelow n test ≡ true
-  unfolding allBelow
-  all-intro zero h = refl
-  all-intro (suc n) h = and-both (all-intro n (λ i l. h i (omega arith))) (h n (omega arith))
 
 module _ (f : ℕ → ℕ) where
   pub sum-turn : (i : ℕ) → sumBelow (i + 1) f ≡ sumBelow i f + f i

@@ -14,11 +14,6 @@ past {A} {t} a {b} {r} e h = subst (λ (u : Bool). r ≡ pick u a b) (sym e) h
 pub here : {A : Type 0} {t : Bool} {a : A} (b : A) {r : A} → t ≡ true → r ≡ a → r ≡ pick t a b
 here {A} {t} {a} b {r} e h = subst (λ (u : Bool). r ≡ pick u a b) (sym e) h
 
--- a choice between two like ones is none
-pub pick-same : {A : Type 0} (t : Bool) (a : A) → pick t a a ≡ a
-pick-same true a = refl
-pick-same false a = refl
-
 pub le-or : (a b : ℕ) → (a ≤ b) ⊎ (b < a)
 le-or a b = elim (decLe a b) [ yes h ↦ inl h | no h ↦ inr (omega arith) ]
 
