@@ -7,7 +7,7 @@ use native.Mathlib.Nat.{add-zero, add-suc, suc-add, zero-add, le-of-suc-le-suc, 
 use native.Mathlib.Numerals.{add-one}
 use native.Mathlib.Omega.{arith}
 use lib.ListN.{length, getD, set, take, drop, length-take}
-use lib.Seq.{drop-cons, take-suc, take-length, set-at}
+use lib.Seq.{drop-cons, drop-length, take-suc, take-length, set-at}
 use Rattle.ground.specs.Lists.{mapFrom}
 
 module _ {A : Type 0} (f : ℕ → A → A) where
@@ -45,6 +45,20 @@ module _ {A : Type 0} (f : ℕ → A → A) where
   -- the loop's end
   pub swept : (k : ℕ) (xs out : List A) → length xs ≤ k → out ≡ upTo 0 k xs → out ≡ mapFrom f 0 xs
   swept k xs out h o = o ∙ ends 0 k xs h
+
+-- the n elements from the place i on, spelled out: at numerals it computes to a list of `getD`s
+module _ {A : Type 0} (d : A) (xs : List A) where
+  abbrev pub spell : ℕ → ℕ → List A
+  spell i zero = []
+  spell i (suc n) = getD xs i d ∷ spell (suc i) n
+
+  pub spelled : (i n : ℕ) → length xs ≡ i + n → spell i n ≡ drop i xs
+  spelled i zero h =
+      let e : length xs ≡ i = omega arith in
+      sym (rw e at (drop-length xs))
+  spelled i (suc n) h =
+      let k : i < length xs = omega arith in
+      rw (drop-cons xs i d) (ap (λ (l : List A). getD xs i d ∷ l) (spelled (suc i) n (omega arith)))
 
 -- a loop that copies s over the front of d: after i turns
 module _ {A : Type 0} (s d : List A) where

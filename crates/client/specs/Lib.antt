@@ -1,0 +1,3 @@
+-- A client record.
+pub mod Client
+pub mod Queue

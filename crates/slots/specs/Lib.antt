@@ -1,0 +1,3 @@
+-- The slots of a client as words of bits, and the round.
+pub mod Slots
+pub mod Round

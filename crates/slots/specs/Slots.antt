@@ -1,0 +1,65 @@
+-- The slots (document 01, "What the player does"), and sets of slots as numbers: slot s is in a set where its bit s is set (`has`).
+-- Assumes nothing.
+use mathlib.Core.Bool.{Bool, not}
+use mathlib.Core.List.{List, [], _∷_}
+use Prim.Native.Nat.{ℕ, suc, _-_, _^_}
+use lib.Bits.{bitAnd, bitOr, bitXor}
+use lib.Dec.{eqb, ltb}
+use lib.ListN.{getD}
+use Rattle.ground.specs.Cases.{pick}
+
+-- "The ten slots"
+abbrev pub slotCount : ℕ
+slotCount = 10
+
+-- "the layer of four clients (0 to 3)"
+abbrev pub clientCount : ℕ
+clientCount = 4
+
+-- "The ten slots 1, 4, 5, 6, 7, 8, 9, 15, 17, 18 may be subscribed to.": the characteristics, by the number of their slot
+abbrev pub slotTable : List ℕ
+slotTable = 1 ∷ 4 ∷ 5 ∷ 6 ∷ 7 ∷ 8 ∷ 9 ∷ 15 ∷ 17 ∷ 18 ∷ []
+
+-- the first place at which x stands; the length where it stands nowhere
+abbrev pub placeIn : List ℕ → ℕ → ℕ
+placeIn [] x = 0
+placeIn (y ∷ s) x = pick (eqb x y) 0 (suc (placeIn s x))
+
+-- the slot of a characteristic; slotCount where it has none
+unfoldable pub slotOf : ℕ → ℕ
+slotOf characteristic = placeIn slotTable characteristic
+
+unfoldable pub characteristicOf : ℕ → ℕ
+characteristicOf slot = getD slotTable slot 0
+
+-- the set of all slots
+abbrev pub everySlot : ℕ
+everySlot = 2 ^ slotCount - 1
+
+-- no bit outside the slots is set
+unfoldable pub onlySlots : ℕ → Bool
+onlySlots w = ltb w (2 ^ slotCount)
+
+-- w with the slot s
+unfoldable pub insert : ℕ → ℕ → ℕ
+insert w s = bitOr w (2 ^ s)
+
+-- w without the slot s
+unfoldable pub remove : ℕ → ℕ → ℕ
+remove w s = bitXor w (bitAnd w (2 ^ s))
+
+-- what is in w or in v
+unfoldable pub union : ℕ → ℕ → ℕ
+union w v = bitOr w v
+
+-- what is in w and in v
+unfoldable pub inter : ℕ → ℕ → ℕ
+inter w v = bitAnd w v
+
+-- what is in w and not in v
+unfoldable pub minus : ℕ → ℕ → ℕ
+minus w v = bitXor w (bitAnd w v)
+
+-- client c is owed something, by the clients' sets
+unfoldable pub owing : List ℕ → ℕ → Bool
+owing sets c = not (eqb (getD sets c 0) 0)
