@@ -1,5 +1,5 @@
 -- Laws of `allBelow` and `sumBelow`: a loop's turn and end, and what they tell of each number. Assumes nothing.
-use mathlib.Core.Path.{_≡_, ap, _∙_}
+use mathlib.Core.Path.{_≡_, refl, ap, _∙_}
 use mathlib.Core.Bool.{Bool, true, _&&_}
 use mathlib.Core.Logic.{⊎-elim}
 use Prim.Native.Nat.{ℕ, zero, suc, _+_, _<_, _≤_}
@@ -7,7 +7,7 @@ use native.Mathlib.Nat.{eq-or-lt-of-le, le-antisymm, not-suc-le-zero}
 use native.Mathlib.Numerals.{add-one}
 use native.Mathlib.Omega.{arith}
 use Rattle.ground.specs.Lists.{allBelow, sumBelow}
-use Rattle.ground.proofs.Cases.{and-left, and-right}
+use Rattle.ground.proofs.Cases.{and-left, and-right, and-both}
 
 module _ (test : ℕ → Bool) where
   -- one number more, as a loop with no early exit counts it: `good = good & test`
@@ -28,6 +28,11 @@ module _ (test : ℕ → Bool) where
       (λ e. ap test e ∙ and-right (allBelow n test) (test n) g)
       (λ l. all-at n (and-left (allBelow n test) (test n) g) i l)
       (eq-or-lt-of-le q)
+
+  pub all-intro : (n : ℕ) → ((i : ℕ) → i < n → test i ≡ true) → allBelow n test ≡ true
+  unfolding allBelow
+  all-intro zero h = refl
+  all-intro (suc n) h = and-both (all-intro n (λ i l. h i (omega arith))) (h n (omega arith))
 
 module _ (f : ℕ → ℕ) where
   pub sum-turn : (i : ℕ) → sumBelow (i + 1) f ≡ sumBelow i f + f i
