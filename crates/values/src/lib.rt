@@ -70,7 +70,7 @@ fn put_title(out: &mut [u8], tracks: &[u32], text: &[u8], p: player::Player) -> 
     put(out, title)
 }
 
-fn duration_word(tracks: &[u32], p: player::Player) -> u32
+pub fn duration_word(tracks: &[u32], p: player::Player) -> u32
     ensures { λ r. ⌜ wordOctets r ≡ durationValue (now (tracks .entry)) p ⌝ }
 {
     if p.mode.media == 0 {
@@ -80,7 +80,7 @@ fn duration_word(tracks: &[u32], p: player::Player) -> u32
     d.0
 }
 
-fn position_word(p: player::Player) -> u32
+pub fn position_word(p: player::Player) -> u32
     ensures { λ r. ⌜ wordOctets r ≡ positionValue p ⌝ }
 {
     if p.mode.media == 0 {
