@@ -11,11 +11,11 @@
 Each vector has its answer beside it, worked out by hand from document 01. Only the check numbers of the tables are
 computed, from the tables that the vector was made of. A comment in quotation marks is a sentence of document 01.
 """
-import os
 import struct
 import sys
 
-ROOT = os.path.dirname(os.path.dirname(os.path.abspath(__file__)))
+from vector_files import write_or_compare
+
 WORD = 0xFFFFFFFF
 
 CARD, CATALOGUE, TEXT = 1, 2, 3
@@ -589,25 +589,8 @@ def files():
     }
 
 
-def read(path):
-    if not os.path.exists(path):
-        return None
-    with open(path, 'rb') as file:
-        return file.read()
-
-
 def main(arguments):
-    if arguments not in ([], ['--check']):
-        sys.exit(__doc__)
-    differing = 0
-    for name, octets in files().items():
-        path = os.path.join(ROOT, name)
-        if not arguments:
-            with open(path, 'wb') as file:
-                file.write(octets)
-        elif read(path) != octets:
-            print(name + ' differs')
-            differing += 1
+    differing = write_or_compare(__doc__, arguments, files())
     for kind, kind_name in ((CARD, 'cards'), (CATALOGUE, 'catalogues'), (TEXT, 'texts')):
         print('%s: %d' % (kind_name, sum(1 for vector in VECTORS if vector[0] == kind)))
     if differing:

@@ -13,11 +13,10 @@ Each call has its answer and the state that it leaves beside it, worked out by h
 
 A comment in quotation marks is a sentence of document 01.
 """
-import os
 import struct
 import sys
 
-ROOT = os.path.dirname(os.path.dirname(os.path.abspath(__file__)))
+from vector_files import write_or_compare
 
 # The catalogues of the program: document 01's sample; one whose group 3 is its own parent; one whose groups end inside a record.
 SAMPLE, OWN_PARENT, CUT = 0, 1, 2
@@ -1138,25 +1137,8 @@ def files():
     }
 
 
-def read(path):
-    if not os.path.exists(path):
-        return None
-    with open(path, 'rb') as file:
-        return file.read()
-
-
 def main(arguments):
-    if arguments not in ([], ['--check']):
-        sys.exit(__doc__)
-    differing = 0
-    for name, octets in files().items():
-        path = os.path.join(ROOT, name)
-        if not arguments:
-            with open(path, 'wb') as file:
-                file.write(octets)
-        elif read(path) != octets:
-            print(name + ' differs')
-            differing += 1
+    differing = write_or_compare(__doc__, arguments, files())
     print('cases: %d, calls: %d' % (CASES[0], len(LINES) - CASES[0]))
     if differing:
         sys.exit(1)
