@@ -1,5 +1,4 @@
 -- The laws that belong to no one function.
-pub mod Guard
 pub mod Tests
 pub mod Output
 pub mod Settled

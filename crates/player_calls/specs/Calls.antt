@@ -9,14 +9,13 @@ use Rattle.ground.specs.Cases.{pick, within, Said, granted, refused}
 use Rattle.ground.specs.Lists.{filled}
 use Rattle.tables.specs.Tables.{Tables, groupCount, tracksIn}
 use Rattle.catalogue.specs.Catalogue.{catalogueRule}
+use Rattle.admission.specs.Admission as admission
 use Rattle.player.specs.declared.Player.{Player}
 use Rattle.player.specs.Player.{startedPlayer, renamed, deactivated, withOrder, withSpeed}
 use Rattle.standing.specs.Standing.{textRule, playerRule}
 use Rattle.moves.specs.Control.{controlled}
 use Rattle.moves.specs.Clock.{advanced, positioned, activated}
 use Rattle.values.specs.Values.{valueOf}
-use Rattle.player_calls.specs.declared.Admitted.{Admitted}
-use Rattle.player_calls.specs.declared.Admitted.the-variants.{Fine, Catalogue, State}
 use Rattle.player_calls.specs.declared.Answer.{Answer}
 use Rattle.player_calls.specs.declared.Answer.the-variants.{Done, Value, BadCatalogue, SmallOutput, BadState, BadOrder, BadName, BadGroup}
 use Rattle.player_calls.specs.declared.Outcome.{Outcome}
@@ -51,15 +50,8 @@ refuse applies number p behind = pick applies (leaves (refused number) p) behind
 abbrev pub stateRight : Tables → Player → Bool
 stateRight k p = playerRule (k .groups) (k .tracks) p
 
-unfoldable pub guarded : Tables → Player → Left → Left
-guarded k p work =
-    refuse (not (catalogueRule k)) 200 p
-    (refuse (not (stateRight k p)) 201 p
-    work)
-
--- which of the two rows applies, if any
-unfoldable pub admittedOf : Tables → Player → Admitted
-admittedOf k p = pick (not (catalogueRule k)) Catalogue (pick (not (stateRight k p)) State Fine)
+abbrev pub guarded : Tables → Player → Left → Left
+guarded k p work = admission.guarded k (stateRight k p) (λ said. leaves said p) work
 
 -- 200, 201: the state check by itself
 unfoldable pub checkCall : Tables → Player → Left

@@ -3,7 +3,8 @@ ghost use mathlib.Core.Path.{_≡_};
 ghost use lib.ListN.{length};
 ghost use Rattle.values.specs.Values.{valueOf};
 ghost use Rattle.tables.specs.Tables.{tables};
-ghost use Rattle.player_calls.specs.Calls.{leftBy, leaves, guarded, admittedOf, groupRight, checkCall, startCall, nameCall, activateCall, deactivateCall, advanceCall, positionCall, speedCall, orderCall, controlCall, valueCall, outputAfter, saidOf};
+ghost use Rattle.admission.specs.Admission.{admittedOf};
+ghost use Rattle.player_calls.specs.Calls.{leftBy, leaves, stateRight, groupRight, checkCall, startCall, nameCall, activateCall, deactivateCall, advanceCall, positionCall, speedCall, orderCall, controlCall, valueCall, outputAfter, saidOf};
 
 pub enum Answer {
     Done,
@@ -28,13 +29,6 @@ pub struct Outcome {
     pub player: player::Player,
 }
 
-// Whether a call may go on to its work.
-enum Admitted {
-    Fine,
-    Catalogue,
-    State,
-}
-
 fn left(answer: Answer, p: player::Player) -> Outcome
     ensures { λ r. ⌜ leftBy r ≡ leaves (saidOf answer) p ⌝ }
 {
@@ -50,19 +44,11 @@ fn admit(
     segments: &[u32],
     text: &[u8],
     p: player::Player,
-) -> Admitted
-    ensures { λ r. ⌜ r ≡ admittedOf (tables (now (groups .entry)) (now (tracks .entry)) (now (segments .entry)) (now (text .entry))) p ⌝ }
+) -> admission::Admitted
+    ensures { λ r. ⌜ r ≡ admittedOf (tables (now (groups .entry)) (now (tracks .entry)) (now (segments .entry)) (now (text .entry))) (stateRight (tables (now (groups .entry)) (now (tracks .entry)) (now (segments .entry)) (now (text .entry))) p) ⌝ }
 {
-    let c = catalogue::check(groups, tracks, segments, text);
-    match c {
-        catalogue::Catalogue::Wrong => Admitted::Catalogue,
-        catalogue::Catalogue::Fine => {
-            if standing::player_right(groups, tracks, p) {
-                return Admitted::Fine;
-            }
-            Admitted::State
-        }
-    }
+    let stands = standing::player_right(groups, tracks, p);
+    admission::admit(groups, tracks, segments, text, stands)
 }
 
 // Whether a state stands in a catalogue.
@@ -77,9 +63,9 @@ pub fn check(
 {
     let a = admit(groups, tracks, segments, text, p);
     match a {
-        Admitted::Catalogue => left(Answer::BadCatalogue, p),
-        Admitted::State => left(Answer::BadState, p),
-        Admitted::Fine => left(Answer::Done, p),
+        admission::Admitted::Catalogue => left(Answer::BadCatalogue, p),
+        admission::Admitted::State => left(Answer::BadState, p),
+        admission::Admitted::Fine => left(Answer::Done, p),
     }
 }
 
@@ -123,9 +109,9 @@ pub fn set_name(
 {
     let a = admit(groups, tracks, segments, text, p);
     match a {
-        Admitted::Catalogue => left(Answer::BadCatalogue, p),
-        Admitted::State => left(Answer::BadState, p),
-        Admitted::Fine => {
+        admission::Admitted::Catalogue => left(Answer::BadCatalogue, p),
+        admission::Admitted::State => left(Answer::BadState, p),
+        admission::Admitted::Fine => {
             if !standing::text_right(name) {
                 return left(Answer::BadName, p);
             }
@@ -156,9 +142,9 @@ pub fn activate(
 {
     let a = admit(groups, tracks, segments, text, p);
     match a {
-        Admitted::Catalogue => left(Answer::BadCatalogue, p),
-        Admitted::State => left(Answer::BadState, p),
-        Admitted::Fine => {
+        admission::Admitted::Catalogue => left(Answer::BadCatalogue, p),
+        admission::Admitted::State => left(Answer::BadState, p),
+        admission::Admitted::Fine => {
             if !group_right(groups, g) {
                 return left(Answer::BadGroup, p);
             }
@@ -180,9 +166,9 @@ pub fn deactivate(
 {
     let a = admit(groups, tracks, segments, text, p);
     match a {
-        Admitted::Catalogue => left(Answer::BadCatalogue, p),
-        Admitted::State => left(Answer::BadState, p),
-        Admitted::Fine => {
+        admission::Admitted::Catalogue => left(Answer::BadCatalogue, p),
+        admission::Admitted::State => left(Answer::BadState, p),
+        admission::Admitted::Fine => {
             let q = moves::deactivate(p);
             left(Answer::Done, q)
         }
@@ -202,9 +188,9 @@ pub fn advance(
 {
     let a = admit(groups, tracks, segments, text, p);
     match a {
-        Admitted::Catalogue => left(Answer::BadCatalogue, p),
-        Admitted::State => left(Answer::BadState, p),
-        Admitted::Fine => {
+        admission::Admitted::Catalogue => left(Answer::BadCatalogue, p),
+        admission::Admitted::State => left(Answer::BadState, p),
+        admission::Admitted::Fine => {
             let q = moves::advance(groups, tracks, p, d);
             left(Answer::Done, q)
         }
@@ -224,9 +210,9 @@ pub fn write_position(
 {
     let a = admit(groups, tracks, segments, text, p);
     match a {
-        Admitted::Catalogue => left(Answer::BadCatalogue, p),
-        Admitted::State => left(Answer::BadState, p),
-        Admitted::Fine => {
+        admission::Admitted::Catalogue => left(Answer::BadCatalogue, p),
+        admission::Admitted::State => left(Answer::BadState, p),
+        admission::Admitted::Fine => {
             let q = moves::write_position(tracks, p, number);
             left(Answer::Done, q)
         }
@@ -246,9 +232,9 @@ pub fn write_speed(
 {
     let a = admit(groups, tracks, segments, text, p);
     match a {
-        Admitted::Catalogue => left(Answer::BadCatalogue, p),
-        Admitted::State => left(Answer::BadState, p),
-        Admitted::Fine => {
+        admission::Admitted::Catalogue => left(Answer::BadCatalogue, p),
+        admission::Admitted::State => left(Answer::BadState, p),
+        admission::Admitted::Fine => {
             let q = player::with_speed(p, speed);
             left(Answer::Done, q)
         }
@@ -268,9 +254,9 @@ pub fn write_order(
 {
     let a = admit(groups, tracks, segments, text, p);
     match a {
-        Admitted::Catalogue => left(Answer::BadCatalogue, p),
-        Admitted::State => left(Answer::BadState, p),
-        Admitted::Fine => {
+        admission::Admitted::Catalogue => left(Answer::BadCatalogue, p),
+        admission::Admitted::State => left(Answer::BadState, p),
+        admission::Admitted::Fine => {
             let right = (1 <= order) & (order <= 8);
             if !right {
                 return left(Answer::BadOrder, p);
@@ -295,9 +281,9 @@ pub fn control(
 {
     let a = admit(groups, tracks, segments, text, p);
     match a {
-        Admitted::Catalogue => left(Answer::BadCatalogue, p),
-        Admitted::State => left(Answer::BadState, p),
-        Admitted::Fine => {
+        admission::Admitted::Catalogue => left(Answer::BadCatalogue, p),
+        admission::Admitted::State => left(Answer::BadState, p),
+        admission::Admitted::Fine => {
             let c = moves::control(groups, tracks, segments, p, opcode, number);
             let q = c.player;
             left(Answer::Value(c.result as usize), q)
@@ -321,14 +307,14 @@ pub fn value(
     let a = admit(groups, tracks, segments, text, p);
     let small = out.len() < 128;
     match a {
-        Admitted::Catalogue => left(Answer::BadCatalogue, p),
-        Admitted::State => {
+        admission::Admitted::Catalogue => left(Answer::BadCatalogue, p),
+        admission::Admitted::State => {
             if small {
                 return left(Answer::SmallOutput, p);
             }
             left(Answer::BadState, p)
         }
-        Admitted::Fine => {
+        admission::Admitted::Fine => {
             if small {
                 return left(Answer::SmallOutput, p);
             }

@@ -9,7 +9,7 @@ use Rattle.tables.specs.Tables.{Tables, tables}
 use Rattle.moves.proofs.Ready.{shaped, run-of}
 use Rattle.player_calls.specs.Calls.{leaves, activateCall}
 use Rattle.player_calls.proofs.Tests.{group-there}
-use Rattle.player_calls.proofs.Guard.{says-catalogue, says-state, goes-on, fine-right}
+use Rattle.admission.proofs.Guard.{says-catalogue, says-state, goes-on, fine-right}
 use borrow.Author.Needs.{needs}
 use Rattle.player_calls.proofs.activate.Statement.{statement}
 use Rattle.player_calls.proofs.activate.Tie as tie
@@ -47,7 +47,7 @@ returns c =
     let g = c .before .before in
     let t = g .before in
     let m = t .before .before in
-    goes-on (lent (m .before .before .before .before .before)) _ (m .admit .ensures) (t .enum-told3 .given .1)
+    goes-on (lent (m .before .before .before .before .before)) _ (m .admit .ensures) (t .enum-told3 .given .1) _
     (here _ (ap not (sym (g .group-right .ensures)) ∙ c .before .if1 .taken) (c .left3 .ensures))
 
 activate-requires : tie.Need-activate-requires
@@ -63,13 +63,13 @@ returns-2 : tie.Need-returns-2
 unfolding activateCall
 returns-2 c =
     let m = c .before .before .before in
-    c .left .ensures ∙ says-catalogue (lent (m .before .before .before .before .before)) _ (m .admit .ensures) (c .before .enum-told .given .1) _
+    c .left .ensures ∙ says-catalogue (lent (m .before .before .before .before .before)) _ (m .admit .ensures) (c .before .enum-told .given .1) _ _
 
 returns-3 : tie.Need-returns-3
 unfolding activateCall
 returns-3 c =
     let m = c .before .before .before in
-    c .left2 .ensures ∙ says-state (lent (m .before .before .before .before .before)) _ (m .admit .ensures) (c .before .enum-told2 .given .1) _
+    c .left2 .ensures ∙ says-state (lent (m .before .before .before .before .before)) _ (m .admit .ensures) (c .before .enum-told2 .given .1) _ _
 
 returns-4 : tie.Need-returns-4
 unfolding activateCall
@@ -77,7 +77,7 @@ returns-4 c =
     let g = c .before .before .before in
     let t = g .before in
     let m = t .before .before in
-    goes-on (lent (m .before .before .before .before .before)) _ (m .admit .ensures) (t .enum-told3 .given .1)
+    goes-on (lent (m .before .before .before .before .before)) _ (m .admit .ensures) (t .enum-told3 .given .1) _
     (past _ (ap not (sym (g .group-right .ensures)) ∙ c .before .before .if1 .left) (c .left4 .ensures ∙ ap (leaves (granted [])) (c .before .activate .ensures)))
 
 pub activate-spec : {M : Type 1} → statement M

@@ -6,7 +6,7 @@ use Rattle.tables.specs.Tables.{Tables, tables}
 use Rattle.moves.specs.declared.Controlled.{Controlled}
 use Rattle.moves.proofs.Ready.{shaped}
 use Rattle.player_calls.specs.Calls.{leaves, controlCall}
-use Rattle.player_calls.proofs.Guard.{says-catalogue, says-state, goes-on, fine-right, fine-stands}
+use Rattle.admission.proofs.Guard.{says-catalogue, says-state, goes-on, fine-right, fine-stands}
 use borrow.Author.Needs.{needs}
 use Rattle.player_calls.proofs.control.Statement.{statement}
 use Rattle.player_calls.proofs.control.Tie as tie
@@ -48,20 +48,20 @@ returns : tie.Need-returns
 unfolding controlCall
 returns c =
     let m = c .before .before .before in
-    c .left .ensures ∙ says-catalogue (lent (m .before .before .before .before .before)) _ (m .admit .ensures) (c .before .enum-told .given .1) _
+    c .left .ensures ∙ says-catalogue (lent (m .before .before .before .before .before)) _ (m .admit .ensures) (c .before .enum-told .given .1) _ _
 
 returns-2 : tie.Need-returns-2
 unfolding controlCall
 returns-2 c =
     let m = c .before .before .before in
-    c .left2 .ensures ∙ says-state (lent (m .before .before .before .before .before)) _ (m .admit .ensures) (c .before .enum-told2 .given .1) _
+    c .left2 .ensures ∙ says-state (lent (m .before .before .before .before .before)) _ (m .admit .ensures) (c .before .enum-told2 .given .1) _ _
 
 returns-3 : tie.Need-returns-3
 unfolding controlCall
 returns-3 c =
     let t = c .before .before .before .before in
     let m = t .before .before in
-    goes-on (lent (m .before .before .before .before .before)) _ (m .admit .ensures) (t .enum-told3 .given .1)
+    goes-on (lent (m .before .before .before .before .before)) _ (m .admit .ensures) (t .enum-told3 .given .1) _
     (c .left3 .ensures ∙ ap (λ (x : Controlled). leaves (granted (x .result ∷ [])) (x .player)) (c .before .before .before .control .ensures))
 
 pub control-spec : {M : Type 1} → statement M

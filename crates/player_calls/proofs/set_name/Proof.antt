@@ -8,7 +8,7 @@ use Rattle.ground.proofs.Cases.{past, here}
 use Rattle.tables.specs.Tables.{Tables, tables}
 use Rattle.player_calls.specs.Calls.{leaves, nameCall}
 use Rattle.player_calls.proofs.Tests.{text-short}
-use Rattle.player_calls.proofs.Guard.{says-catalogue, says-state, goes-on}
+use Rattle.admission.proofs.Guard.{says-catalogue, says-state, goes-on}
 use borrow.Author.Needs.{needs}
 use Rattle.player_calls.proofs.set_name.Statement.{statement}
 use Rattle.player_calls.proofs.set_name.Tie as tie
@@ -46,7 +46,7 @@ returns c =
     let g = c .before .before in
     let t = g .before in
     let m = t .before .before in
-    goes-on (lent (m .before .before .before .before .before .before)) _ (m .admit .ensures) (t .enum-told3 .given .1)
+    goes-on (lent (m .before .before .before .before .before .before)) _ (m .admit .ensures) (t .enum-told3 .given .1) _
     (here _ (ap not (sym (g .text-right .ensures)) ∙ c .before .if1 .taken) (c .left3 .ensures))
 
 set-name-requires : tie.Need-set-name-requires
@@ -59,13 +59,13 @@ returns-2 : tie.Need-returns-2
 unfolding nameCall
 returns-2 c =
     let m = c .before .before .before in
-    c .left .ensures ∙ says-catalogue (lent (m .before .before .before .before .before .before)) _ (m .admit .ensures) (c .before .enum-told .given .1) _
+    c .left .ensures ∙ says-catalogue (lent (m .before .before .before .before .before .before)) _ (m .admit .ensures) (c .before .enum-told .given .1) _ _
 
 returns-3 : tie.Need-returns-3
 unfolding nameCall
 returns-3 c =
     let m = c .before .before .before in
-    c .left2 .ensures ∙ says-state (lent (m .before .before .before .before .before .before)) _ (m .admit .ensures) (c .before .enum-told2 .given .1) _
+    c .left2 .ensures ∙ says-state (lent (m .before .before .before .before .before .before)) _ (m .admit .ensures) (c .before .enum-told2 .given .1) _ _
 
 returns-4 : tie.Need-returns-4
 unfolding nameCall
@@ -73,7 +73,7 @@ returns-4 c =
     let g = c .before .before .before in
     let t = g .before in
     let m = t .before .before in
-    goes-on (lent (m .before .before .before .before .before .before)) _ (m .admit .ensures) (t .enum-told3 .given .1)
+    goes-on (lent (m .before .before .before .before .before .before)) _ (m .admit .ensures) (t .enum-told3 .given .1) _
     (past _ (ap not (sym (g .text-right .ensures)) ∙ c .before .before .if1 .left) (c .left4 .ensures ∙ ap (leaves (granted [])) (c .before .set-name .ensures)))
 
 pub set-name-spec : {M : Type 1} → statement M

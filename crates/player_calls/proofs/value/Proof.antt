@@ -10,7 +10,7 @@ use Rattle.ground.proofs.Cases.{past, here}
 use Rattle.tables.specs.Tables.{Tables, tables}
 use Rattle.player_calls.specs.Calls.{leaves, valueCall}
 use Rattle.player_calls.proofs.Output.{kept, shown, name-short, title-fits}
-use Rattle.player_calls.proofs.Guard.{catalogue-wrong, state-wrong, both-right, fine-right, fine-stands}
+use Rattle.admission.proofs.Guard.{catalogue-wrong, state-wrong, both-right, fine-right, fine-stands}
 use Rattle.values.specs.Values.{valueOf}
 use borrow.Author.Needs.{needs}
 use Rattle.player_calls.proofs.value.Statement.{statement}

@@ -5,7 +5,7 @@ use Rattle.ground.specs.Cases.{granted}
 use Rattle.ground.proofs.Cases.{past, here}
 use Rattle.tables.specs.Tables.{Tables, tables}
 use Rattle.player_calls.specs.Calls.{leaves, orderCall}
-use Rattle.player_calls.proofs.Guard.{says-catalogue, says-state, goes-on}
+use Rattle.admission.proofs.Guard.{says-catalogue, says-state, goes-on}
 use borrow.Author.Needs.{needs}
 use Rattle.player_calls.proofs.write_order.Statement.{statement}
 use Rattle.player_calls.proofs.write_order.Tie as tie
@@ -40,7 +40,7 @@ returns c =
     let t = c .before .before in
     let m = t .before .before in
     let s = m .before .before .before .before .before in
-    goes-on (lent s) _ (m .admit .ensures) (t .enum-told3 .given .1) (here _ (c .before .if1 .taken) (c .left3 .ensures))
+    goes-on (lent s) _ (m .admit .ensures) (t .enum-told3 .given .1) _ (here _ (c .before .if1 .taken) (c .left3 .ensures))
 
 with-order-requires : tie.Need-with-order-requires
 with-order-requires c κs = search needs
@@ -52,13 +52,13 @@ returns-2 : tie.Need-returns-2
 unfolding orderCall
 returns-2 c =
     let m = c .before .before .before in
-    c .left .ensures ∙ says-catalogue (lent (m .before .before .before .before .before)) _ (m .admit .ensures) (c .before .enum-told .given .1) _
+    c .left .ensures ∙ says-catalogue (lent (m .before .before .before .before .before)) _ (m .admit .ensures) (c .before .enum-told .given .1) _ _
 
 returns-3 : tie.Need-returns-3
 unfolding orderCall
 returns-3 c =
     let m = c .before .before .before in
-    c .left2 .ensures ∙ says-state (lent (m .before .before .before .before .before)) _ (m .admit .ensures) (c .before .enum-told2 .given .1) _
+    c .left2 .ensures ∙ says-state (lent (m .before .before .before .before .before)) _ (m .admit .ensures) (c .before .enum-told2 .given .1) _ _
 
 returns-4 : tie.Need-returns-4
 unfolding orderCall
@@ -66,7 +66,7 @@ returns-4 c =
     let t = c .before .before .before in
     let m = t .before .before in
     let s = m .before .before .before .before .before in
-    goes-on (lent s) _ (m .admit .ensures) (t .enum-told3 .given .1)
+    goes-on (lent s) _ (m .admit .ensures) (t .enum-told3 .given .1) _
     (past _ (c .before .before .if1 .left) (c .left4 .ensures ∙ ap (leaves (granted [])) (c .before .with-order .ensures)))
 
 pub write-order-spec : {M : Type 1} → statement M

@@ -4,7 +4,7 @@ use mathlib.Core.List.{[]}
 use Rattle.ground.specs.Cases.{granted}
 use Rattle.tables.specs.Tables.{Tables, tables}
 use Rattle.player_calls.specs.Calls.{leaves, positionCall}
-use Rattle.player_calls.proofs.Guard.{says-catalogue, says-state, goes-on}
+use Rattle.admission.proofs.Guard.{says-catalogue, says-state, goes-on}
 use borrow.Author.Needs.{needs}
 use Rattle.player_calls.proofs.write_position.Statement.{statement}
 use Rattle.player_calls.proofs.write_position.Tie as tie
@@ -40,20 +40,20 @@ returns : tie.Need-returns
 unfolding positionCall
 returns c =
     let m = c .before .before .before in
-    c .left .ensures ∙ says-catalogue (lent (m .before .before .before .before .before)) _ (m .admit .ensures) (c .before .enum-told .given .1) _
+    c .left .ensures ∙ says-catalogue (lent (m .before .before .before .before .before)) _ (m .admit .ensures) (c .before .enum-told .given .1) _ _
 
 returns-2 : tie.Need-returns-2
 unfolding positionCall
 returns-2 c =
     let m = c .before .before .before in
-    c .left2 .ensures ∙ says-state (lent (m .before .before .before .before .before)) _ (m .admit .ensures) (c .before .enum-told2 .given .1) _
+    c .left2 .ensures ∙ says-state (lent (m .before .before .before .before .before)) _ (m .admit .ensures) (c .before .enum-told2 .given .1) _ _
 
 returns-3 : tie.Need-returns-3
 unfolding positionCall
 returns-3 c =
     let t = c .before .before in
     let m = t .before .before in
-    goes-on (lent (m .before .before .before .before .before)) _ (m .admit .ensures) (t .enum-told3 .given .1) (c .left3 .ensures ∙ ap (leaves (granted [])) (c .before .write-position .ensures))
+    goes-on (lent (m .before .before .before .before .before)) _ (m .admit .ensures) (t .enum-told3 .given .1) _ (c .left3 .ensures ∙ ap (leaves (granted [])) (c .before .write-position .ensures))
 
 pub write-position-spec : {M : Type 1} → statement M
 write-position-spec =

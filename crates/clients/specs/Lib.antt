@@ -1,0 +1,3 @@
+-- The calls of the clients.
+pub mod Answers
+pub mod Links
