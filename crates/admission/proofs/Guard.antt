@@ -3,14 +3,15 @@ use mathlib.Core.Path.{_≡_, refl, sym, ap, _∙_}
 use mathlib.Core.Bool.{Bool, true, false, not}
 use Prim.Native.Nat.{ℕ}
 use native.Mathlib.Omega.{arith}
-use Rattle.ground.specs.Cases.{pick, Said, refused}
+use Rattle.ground.specs.Cases.{pick, refused}
 use Rattle.ground.proofs.Cases.{past, here}
 use Rattle.tables.specs.Tables.{Tables}
 use Rattle.catalogue.specs.Catalogue.{catalogueRule, Right}
 use Rattle.catalogue.proofs.Laws.{is-right}
 use Rattle.admission.specs.declared.Admitted.{Admitted}
 use Rattle.admission.specs.declared.Admitted.the-variants.{Fine, Catalogue, State}
-use Rattle.admission.specs.Admission.{guarded, admittedOf}
+use Rattle.admission.specs.Refusals.{Left, leaves}
+use Rattle.admission.specs.Admission.{admittedOf}
 
 abbrev chosen : Bool → Bool → Admitted
 chosen c s = pick (not c) Catalogue (pick (not s) State Fine)
@@ -30,6 +31,10 @@ both false s e = absurd (let z : _≡_ {A = ℕ} 0 1 = cc in omega arith)
 both true false e = absurd (let z : _≡_ {A = ℕ} 0 1 = cc in omega arith)
 both true true e = (refl, refl)
 
+-- what stands behind the two rows
+abbrev behind : {S : Type 0} → Tables → Bool → S → Left S → Left S
+behind k stands s rest = pick (not (catalogueRule k)) (leaves (refused 200) s) (pick (not stands) (leaves (refused 201) s) rest)
+
 module _ (k : Tables) (stands : Bool) {a : Admitted} (e : a ≡ admittedOf k stands) where
   pub catalogue-wrong : a ≡ Catalogue → catalogueRule k ≡ false
   unfolding admittedOf
@@ -43,17 +48,14 @@ module _ (k : Tables) (stands : Bool) {a : Admitted} (e : a ≡ admittedOf k sta
   unfolding admittedOf
   both-right q = both (catalogueRule k) stands (sym e ∙ q)
 
-  pub says-catalogue : {L : Type 0} → a ≡ Catalogue → (refusal : Said → L) (work : L) → refusal (refused 200) ≡ guarded k stands refusal work
-  unfolding guarded
-  says-catalogue q refusal work = here _ (ap not (catalogue-wrong q)) refl
+  pub says-catalogue : {S : Type 0} → a ≡ Catalogue → (s : S) (rest : Left S) → leaves (refused 200) s ≡ behind k stands s rest
+  says-catalogue q s rest = here _ (ap not (catalogue-wrong q)) refl
 
-  pub says-state : {L : Type 0} → a ≡ State → (refusal : Said → L) (work : L) → refusal (refused 201) ≡ guarded k stands refusal work
-  unfolding guarded
-  says-state q refusal work = past _ (ap not (state-wrong q .0)) (here _ (ap not (state-wrong q .1)) refl)
+  pub says-state : {S : Type 0} → a ≡ State → (s : S) (rest : Left S) → leaves (refused 201) s ≡ behind k stands s rest
+  says-state q s rest = past _ (ap not (state-wrong q .0)) (here _ (ap not (state-wrong q .1)) refl)
 
-  pub goes-on : {L : Type 0} → a ≡ Fine → (refusal : Said → L) {left work : L} → left ≡ work → left ≡ guarded k stands refusal work
-  unfolding guarded
-  goes-on q refusal h = past _ (ap not (both-right q .0)) (past _ (ap not (both-right q .1)) h)
+  pub goes-on : {S : Type 0} → a ≡ Fine → (s : S) {left rest : Left S} → left ≡ rest → left ≡ behind k stands s rest
+  goes-on q s h = past _ (ap not (both-right q .0)) (past _ (ap not (both-right q .1)) h)
 
   pub fine-right : a ≡ Fine → Right k
   fine-right q = is-right k (both-right q .0)

@@ -1,15 +1,17 @@
--- The two rows that every call on a state has (document 01, "Refusal numbers"): 200, the catalogue; 201, the state. The first that applies is said.
+-- The two rows that every call on a state has (document 01, "Refusal numbers"): 200, the catalogue; 201, the state.
 -- Assumes nothing.
 use mathlib.Core.Bool.{Bool, not}
-use Rattle.ground.specs.Cases.{pick, Said, refused}
+use mathlib.Core.List.{List, _∷_}
+use Rattle.ground.specs.Cases.{pick}
 use Rattle.tables.specs.Tables.{Tables}
 use Rattle.catalogue.specs.Catalogue.{catalogueRule}
+use Rattle.admission.specs.Refusals.{Row, row}
 use Rattle.admission.specs.declared.Admitted.{Admitted}
 use Rattle.admission.specs.declared.Admitted.the-variants.{Fine, Catalogue, State}
 
--- what a call leaves: by a refusal where one of the two rows applies, else by its work
-unfoldable pub guarded : {L : Type 0} → Tables → Bool → (Said → L) → L → L
-guarded k stands refusal work = pick (not (catalogueRule k)) (refusal (refused 200)) (pick (not stands) (refusal (refused 201)) work)
+-- 200 and 201, before the other rows of a call
+abbrev pub guarded : Tables → Bool → List Row → List Row
+guarded k stands rows = row 200 (not (catalogueRule k)) ∷ row 201 (not stands) ∷ rows
 
 -- which of the two rows applies, if any
 unfoldable pub admittedOf : Tables → Bool → Admitted

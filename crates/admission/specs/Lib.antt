@@ -1,2 +1,3 @@
 -- What the contracts name.
+pub mod Refusals
 pub mod Admission

@@ -10,13 +10,17 @@ use borrow.Author.Tests.{eq-eqb, ne-eqb, eqb-true, not-false}
 use lib.Dec.{eqb}
 use lib.ListN.{length, take}
 use lib.Seq.{take-all}
-use Rattle.ground.specs.Cases.{has}
+use Rattle.ground.specs.Cases.{pick, has}
 use Rattle.ground.proofs.Cases.{clash, and-left, and-right, and-both, le-or, true-or}
 use Rattle.player.specs.declared.Player.{Player}
 use Rattle.values.specs.Values.{wordOctets, valueOf}
 use Rattle.values.proofs.Laws.{word-apart, value-none}
-use Rattle.slots.proofs.Bits.{has-zero, ext}
-use Rattle.changes.specs.Changes.{sameOctets, changed, readables, isIn, trackNumber, trackChanged}
+use Rattle.slots.specs.Slots.{insert}
+use Rattle.slots.proofs.Bits.{has-zero}
+use Rattle.slots.proofs.SlotLaws.{has-insert}
+use Rattle.slots.specs.Characteristics.{readables, isIn, setOf}
+use Rattle.slots.proofs.SetLaws.{set-is}
+use Rattle.changes.specs.Changes.{sameOctets, changed, trackNumber, trackChanged}
 
 pub same-self : (s : List ℕ) → sameOctets s s ≡ true
 unfolding sameOctets
@@ -107,20 +111,24 @@ both-bits true false = refl
 both-bits false true = refl
 both-bits false false = refl
 
+-- what is in a set that a number is put in where a test says so
+has-put : (on : Bool) (w k c : ℕ) → has (pick on (insert w k) w) c ≡ (has w c || (on && eqb k c))
+has-put true w k c = has-insert w k c
+has-put false w k c = sym (or-false (has w c))
+
 module _ (f : ℕ → Bool) where
   pub gathers-none : Gathers f [] 0
   unfolding isIn
   gathers-none = record { bits = has-zero }
 
   -- the bit k, put where f holds of k
-  pub gathers-bit : {s : List ℕ} {w v : ℕ} (k : ℕ) {on : Bool} → Gathers f s w → on ≡ f k → ((d : ℕ) → has v d ≡ (has w d || (on && eqb k d)))
-      → Gathers f (k ∷ s) v
+  pub gathers-bit : {s : List ℕ} {w v : ℕ} (k : ℕ) {on : Bool} → Gathers f s w → on ≡ f k → v ≡ pick on (insert w k) w → Gathers f (k ∷ s) v
   unfolding isIn
   gathers-bit {s} {w} {v} k {on} g e h = record { bits = λ c. at c (ℕ-discrete k c) }
     where
       at : (c : ℕ) → Dec (k ≡ c) → has v c ≡ ((eqb k c || isIn s c) && f c)
-      at c (yes q) = rw (h c, g .bits c, eq-eqb k c q, e, ap f q) (both-bits (isIn s c) (f c))
-      at c (no q) = rw (h c, g .bits c, ne-eqb k c q, and-false on) (or-false (isIn s c && f c))
+      at c (yes q) = rw (h, has-put on w k c, g .bits c, eq-eqb k c q, e, ap f q) (both-bits (isIn s c) (f c))
+      at c (no q) = rw (h, has-put on w k c, g .bits c, ne-eqb k c q, and-false on) (or-false (isIn s c && f c))
 
   -- a number of which f does not hold
   pub gathers-past : {s : List ℕ} {w : ℕ} (k : ℕ) → Gathers f s w → f k ≡ false → Gathers f (k ∷ s) w
@@ -131,6 +139,6 @@ module _ (f : ℕ → Bool) where
       at c (yes q) = rw (g .bits c, eq-eqb k c q, sym (ap f q) ∙ e) (and-false (isIn s c))
       at c (no q) = rw (g .bits c, ne-eqb k c q)
 
--- a word of 32 bits is settled by what each of its bits is
-pub word-settled : (f : ℕ → Bool) (v w : ℕ) → v < 2 ^ 32 → w < 2 ^ 32 → ((c : ℕ) → has v c ≡ f c) → ((c : ℕ) → has w c ≡ f c) → v ≡ w
-word-settled f v w h k a b = ext 32 v w h k (λ c l. a c ∙ sym (b c))
+-- the word that gathers the readable characteristics that changed is the set of all that did
+pub gathered : (tracks text : List ℕ) (p q : Player) (w : ℕ) → w < 2 ^ 32 → Gathers (changed tracks text p q) readables w → w ≡ setOf 32 (changed tracks text p q)
+gathered tracks text p q w h g = set-is (changed tracks text p q) 32 w h (λ c l. g .bits c ∙ changed-readable tracks text p q c)

@@ -1,6 +1,6 @@
 -- What a call changes (document 01, "What is owed"): "A slot is owed to a subscribed client when a call changes its value."
 -- Assumes nothing.
-use mathlib.Core.Bool.{Bool, true, false, not, _&&_, _||_}
+use mathlib.Core.Bool.{Bool, true, false, not, _&&_}
 use mathlib.Core.List.{List, [], _∷_}
 use Prim.Native.Nat.{ℕ, _+_}
 use lib.Dec.{eqb}
@@ -19,14 +19,6 @@ sameOctets (x ∷ s) (y ∷ t) = eqb x y && sameOctets s t
 -- the value of a characteristic differs between the players p and q
 unfoldable pub changed : List ℕ → List ℕ → Player → Player → ℕ → Bool
 changed tracks text p q c = not (sameOctets (valueOf tracks text p c) (valueOf tracks text q c))
-
--- the characteristics with a value; that of each other number is empty in every state
-abbrev pub readables : List ℕ
-readables = 1 ∷ 5 ∷ 6 ∷ 7 ∷ 8 ∷ 9 ∷ 15 ∷ 16 ∷ 17 ∷ 19 ∷ 22 ∷ []
-
-unfoldable pub isIn : List ℕ → ℕ → Bool
-isIn [] c = false
-isIn (k ∷ s) c = eqb k c || isIn s c
 
 -- 0 where no track is current, else its number and one
 unfoldable pub trackNumber : Player → ℕ

@@ -1,13 +1,12 @@
 // What differs between two states of the player: the values of the characteristics, and the track number.
 ghost use mathlib.Core.Path.{_≡_};
-ghost use mathlib.Core.Bool.{not, _&&_, _||_};
+ghost use mathlib.Core.Bool.{not};
 ghost use mathlib.Core.List.{_∷_, []};
-ghost use Prim.Native.Nat.{ℕ, min, _<_};
-ghost use lib.Dec.{eqb};
-ghost use Rattle.ground.specs.Cases.{has};
+ghost use Prim.Native.Nat.{min, _<_};
 ghost use Rattle.player.specs.Player.{nameOf};
 ghost use Rattle.values.specs.Values.{wordOctets, titleValue, durationValue, positionValue};
-ghost use Rattle.changes.specs.Changes.{sameOctets, changed, readables, isIn, trackNumber, trackChanged};
+ghost use Rattle.changes.specs.Changes.{sameOctets, changed, trackNumber, trackChanged};
+ghost use Rattle.slots.specs.Characteristics.{setOf};
 
 pub fn same(a: &[u8], b: &[u8]) -> bool
     ensures { λ r. ⌜ r ≡ sameOctets (now (a .entry)) (now (b .entry)) ⌝ }
@@ -91,20 +90,9 @@ pub fn position_changed(p: player::Player, q: player::Player) -> bool
     words_differ(a, b)
 }
 
-// The word w, with bit c where `on` says so.
-fn put_bit(w: u32, c: u32, on: bool) -> u32
-    requires { ⌜ c < 32 ⌝ }
-    ensures { λ r. ⌜ ((d : ℕ) → has r d ≡ (has w d || (on && eqb c d))) ⌝ }
-{
-    if on {
-        return w | (1 << c);
-    }
-    w
-}
-
 // The characteristics whose values differ: bit c is characteristic c. 16 is the same in every state.
 pub fn changed_word(tracks: &[u32], text: &[u8], p: player::Player, q: player::Player) -> u32
-    ensures { λ r. ⌜ ((c : ℕ) → has r c ≡ (isIn readables c && changed (now (tracks .entry)) (now (text .entry)) p q c)) ⌝ }
+    ensures { λ r. ⌜ r ≡ setOf 32 (changed (now (tracks .entry)) (now (text .entry)) p q) ⌝ }
 {
     let title = title_changed(tracks, text, p, q);
     let duration = duration_changed(tracks, p, q);
@@ -116,16 +104,16 @@ pub fn changed_word(tracks: &[u32], text: &[u8], p: player::Player, q: player::P
     let media = octets_differ(p.mode.media, q.mode.media);
     let opcodes = words_differ(p.offer.mask % 2097152, q.offer.mask % 2097152);
     let ccid = octets_differ(p.offer.ccid, q.offer.ccid);
-    let w22 = put_bit(0, 22, ccid);
-    let w19 = put_bit(w22, 19, opcodes);
-    let w17 = put_bit(w19, 17, media);
-    let w15 = put_bit(w17, 15, order);
-    let w9 = put_bit(w15, 9, seeking);
-    let w8 = put_bit(w9, 8, speed);
-    let w7 = put_bit(w8, 7, position);
-    let w6 = put_bit(w7, 6, duration);
-    let w5 = put_bit(w6, 5, title);
-    put_bit(w5, 1, name)
+    let w22 = slots::with_if(0, 22, ccid);
+    let w19 = slots::with_if(w22, 19, opcodes);
+    let w17 = slots::with_if(w19, 17, media);
+    let w15 = slots::with_if(w17, 15, order);
+    let w9 = slots::with_if(w15, 9, seeking);
+    let w8 = slots::with_if(w9, 8, speed);
+    let w7 = slots::with_if(w8, 7, position);
+    let w6 = slots::with_if(w7, 6, duration);
+    let w5 = slots::with_if(w6, 5, title);
+    slots::with_if(w5, 1, name)
 }
 
 // 0 where no track is current, else its number and one.

@@ -9,6 +9,7 @@ use lib.ListN.{getD, replicate}
 use Rattle.ground.specs.Cases.{pick, within, has}
 use Rattle.ground.specs.Lists.{allBelow}
 use Rattle.slots.specs.Slots.{slotCount, onlySlots, inter}
+use Rattle.slots.specs.Characteristics.{readables, isIn, setOf}
 use Rattle.client.specs.declared.Entry.{Entry}
 use Rattle.client.specs.declared.Client.{Client}
 
@@ -23,12 +24,9 @@ controlSlot = 9
 abbrev pub mostResults : ℕ
 mostResults = 8
 
--- the characteristics that may be read, as bits: 1, 5, 6, 7, 8, 9, 15, 16, 17, 19, 22
-abbrev pub readable : ℕ
-readable = 0x004B83E2
-
+-- the changed marks are of characteristics that may be read
 abbrev pub onlyReadable : ℕ → Bool
-onlyReadable w = eqb (bitAnd w readable) w
+onlyReadable w = eqb (bitAnd w (setOf 32 (isIn readables))) w
 
 abbrev pub blankEntry : Entry
 blankEntry = record { opcode = 0; code = 0 }

@@ -1,3 +1,5 @@
 -- A client record.
 pub mod Client
+pub mod Setters
 pub mod Queue
+pub mod Duties

@@ -6,26 +6,13 @@ use lib.Dec.{eqb, ltb}
 use lib.ListN.{take, drop, set}
 use Rattle.ground.specs.Cases.{pick}
 use Rattle.client.specs.Client.{mostResults, blankEntry}
+use Rattle.client.specs.Setters.{withQueue}
 use Rattle.client.specs.declared.Entry.{Entry}
 use Rattle.client.specs.declared.Client.{Client}
 
 -- those that wait
 abbrev pub queueOf : Client → List Entry
 queueOf c = take (c .waiting) (c .results)
-
-abbrev pub withQueue : ℕ → List Entry → Client → Client
-withQueue waiting results c =
-    record {
-      connected = c .connected;
-      encrypted = c .encrypted;
-      mtu = c .mtu;
-      subscribed = c .subscribed;
-      owed = c .owed;
-      fresh = c .fresh;
-      mark = c .mark;
-      waiting = waiting;
-      results = results;
-    }
 
 -- one more behind those that wait, where there is room
 unfoldable pub pushed : ℕ → ℕ → Client → Client

@@ -1,8 +1,10 @@
 // A client record: what is known of one of the four devices.
 ghost use mathlib.Core.Path.{_≡_};
-ghost use Prim.Native.Nat.{_≤_};
+ghost use Prim.Native.Nat.{_≤_, _<_};
+ghost use Rattle.slots.specs.Slots.{slotCount};
 ghost use Rattle.client.specs.Client.{alike, codesRight, blankRule, connectedRule, clientRule, startClient, connectedClient};
 ghost use Rattle.client.specs.Queue.{withoutOldest, pushed, popped};
+ghost use Rattle.client.specs.Duties.{joined, dropped, noted, wasRead, resulted, resultTaken, served};
 
 // A result that waits: the requested opcode and the result code.
 pub struct Entry {
@@ -27,8 +29,6 @@ pub struct Client {
 pub const CONTROL_SLOT: u32 = 9;
 
 pub const MOST_RESULTS: usize = 8;
-
-pub const READABLE: u32 = 0x004B83E2;
 
 fn codes_right(waiting: usize, results: [Entry; 8]) -> bool
     requires { ⌜ waiting ≤ 8 ⌝ }
@@ -64,7 +64,7 @@ fn connected_right(c: Client) -> bool
     let mtu = (23 <= c.mtu) & (c.mtu <= 517);
     let subscribed = slots::only_slots(c.subscribed);
     let owed = slots::only_slots(c.owed);
-    let fresh = c.fresh & READABLE == c.fresh;
+    let fresh = c.fresh & slots::READABLE == c.fresh;
     let covered = c.owed & c.subscribed == c.owed;
     let control = ground::has_bit(c.owed, CONTROL_SLOT);
     let told = agree(control, 0 < c.waiting);
@@ -171,5 +171,92 @@ pub fn pop_result(c: Client) -> Client
     let next = shifted(rs);
     d.results = next;
     d.waiting = n - 1;
+    d
+}
+
+// The client subscribes to a slot.
+pub fn join(c: Client, s: u32) -> Client
+    requires { ⌜ s < slotCount ⌝ }
+    ensures { λ r. ⌜ r ≡ joined s c ⌝ }
+{
+    let mut d = c;
+    d.subscribed = slots::with(c.subscribed, s);
+    d
+}
+
+// The client unsubscribes from a slot, and what that owes is dropped.
+pub fn leave(c: Client, s: u32) -> Client
+    requires { ⌜ s < slotCount ⌝ }
+    ensures { λ r. ⌜ r ≡ dropped s c ⌝ }
+{
+    let mut d = c;
+    d.subscribed = slots::without(c.subscribed, s);
+    d.owed = slots::without(c.owed, s);
+    if s == CONTROL_SLOT {
+        d.waiting = 0;
+        return d;
+    }
+    d
+}
+
+// Values changed: `due` are the slots that fell due, `altered` the characteristics.
+pub fn note(c: Client, due: u32, altered: u32) -> Client
+    ensures { λ r. ⌜ r ≡ noted due altered c ⌝ }
+{
+    let mut d = c;
+    let wanted = slots::intersection(c.subscribed, due);
+    d.owed = slots::union_of(c.owed, wanted);
+    d.fresh = slots::difference(c.fresh, altered);
+    d
+}
+
+// The client read a characteristic at 0.
+pub fn mark_read(c: Client, characteristic: u32) -> Client
+    requires { ⌜ characteristic < 32 ⌝ }
+    ensures { λ r. ⌜ r ≡ wasRead characteristic c ⌝ }
+{
+    let mut d = c;
+    d.fresh = slots::with(c.fresh, characteristic);
+    d
+}
+
+// A control write of the client came to a result.
+pub fn note_result(c: Client, opcode: u8, code: u8) -> Client
+    ensures { λ r. ⌜ r ≡ resulted opcode code c ⌝ }
+{
+    if !ground::has_bit(c.subscribed, CONTROL_SLOT) {
+        return c;
+    }
+    let mut d = push_result(c, opcode, code);
+    d.owed = slots::with(c.owed, CONTROL_SLOT);
+    d
+}
+
+// The oldest result was handed out.
+fn result_taken(c: Client) -> Client
+    ensures { λ r. ⌜ r ≡ resultTaken c ⌝ }
+{
+    let mut d = pop_result(c);
+    if 1 < c.waiting {
+        d.owed = c.owed;
+        return d;
+    }
+    d.owed = slots::without(c.owed, CONTROL_SLOT);
+    d
+}
+
+// A slot was served.
+pub fn serve(c: Client, s: u32) -> Client
+    requires { ⌜ s < slotCount ⌝ }
+    ensures { λ r. ⌜ r ≡ served s c ⌝ }
+{
+    if s == CONTROL_SLOT {
+        let mut d = result_taken(c);
+        d.mark = s;
+        return d;
+    }
+    let mut d = c;
+    d.owed = slots::without(c.owed, s);
+    d.mark = s;
     d
 }

@@ -1,3 +1,2 @@
--- The calls of the clients.
-pub mod Answers
+-- What the contracts name.
 pub mod Links

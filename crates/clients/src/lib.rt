@@ -1,52 +1,8 @@
-// The calls of the four clients. Each checks catalogue and state itself, and refuses by document 01's numbers.
+// Devices come and go, and say which values they want to be told of. Each call checks catalogue and state itself, and refuses by document 01's numbers.
 ghost use mathlib.Core.Path.{_≡_};
 ghost use Rattle.tables.specs.Tables.{tables};
-ghost use Rattle.admission.specs.Admission.{admittedOf};
-ghost use Rattle.clients.specs.Answers.{saidOf, leftBy, leaves, stateRight};
-ghost use Rattle.clients.specs.Links.{connectCall, disconnectCall};
-
-pub enum Answer {
-    Done,
-    // 200
-    BadCatalogue,
-    // 201
-    BadState,
-    // 202
-    NoClient,
-    // 203
-    NotConnected,
-    // 204
-    Connected,
-    // 206
-    BadMtu,
-}
-
-pub struct Outcome {
-    pub answer: Answer,
-    pub desk: desk::Desk,
-}
-
-fn left(answer: Answer, d: desk::Desk) -> Outcome
-    ensures { λ r. ⌜ leftBy r ≡ leaves (saidOf answer) d ⌝ }
-{
-    Outcome {
-        answer: answer,
-        desk: d,
-    }
-}
-
-fn admit(
-    groups: &[u32],
-    tracks: &[u32],
-    segments: &[u32],
-    text: &[u8],
-    d: desk::Desk,
-) -> admission::Admitted
-    ensures { λ r. ⌜ r ≡ admittedOf (tables (now (groups .entry)) (now (tracks .entry)) (now (segments .entry)) (now (text .entry))) (stateRight (tables (now (groups .entry)) (now (tracks .entry)) (now (segments .entry)) (now (text .entry))) d) ⌝ }
-{
-    let stands = desk::desk_right(groups, tracks, d);
-    admission::admit(groups, tracks, segments, text, stands)
-}
+ghost use Rattle.replies.specs.Replies.{Gated, leftBy};
+ghost use Rattle.clients.specs.Links.{connectCall, disconnectCall, slotRows, subscribeCall, unsubscribeCall};
 
 // A device connects, with its ATT_MTU, encrypted or not.
 pub fn connect(
@@ -58,30 +14,27 @@ pub fn connect(
     who: u32,
     mtu: u32,
     encrypted: bool,
-) -> Outcome
+) -> replies::Outcome
     ensures { λ r. ⌜ leftBy r ≡ connectCall (tables (now (groups .entry)) (now (tracks .entry)) (now (segments .entry)) (now (text .entry))) d who mtu encrypted ⌝ }
 {
-    let a = admit(groups, tracks, segments, text, d);
-    match a {
-        admission::Admitted::Catalogue => left(Answer::BadCatalogue, d),
-        admission::Admitted::State => left(Answer::BadState, d),
-        admission::Admitted::Fine => {
-            if slots::CLIENTS <= who {
-                return left(Answer::NoClient, d);
-            }
-            let c = desk::client_at(d, who);
-            if c.connected {
-                return left(Answer::Connected, d);
-            }
-            let right = (23 <= mtu) & (mtu <= 517);
-            if !right {
-                return left(Answer::BadMtu, d);
-            }
-            let fresh = client::connected_client(mtu, encrypted);
-            let e = desk::with_client(d, who, fresh);
-            left(Answer::Done, e)
-        }
+    let g = replies::front_gate(groups, tracks, segments, text, false, d);
+    if !g.passes {
+        return replies::shut(g, d);
     }
+    if slots::CLIENTS <= who {
+        return replies::left(replies::Answer::NoClient, d);
+    }
+    let c = desk::client_at(d, who);
+    let right = (23 <= mtu) & (mtu <= 517);
+    if c.connected {
+        return replies::left(replies::Answer::AlreadyConnected, d);
+    }
+    if !right {
+        return replies::left(replies::Answer::BadMtu, d);
+    }
+    let fresh = client::connected_client(mtu, encrypted);
+    let e = desk::with_client(d, who, fresh);
+    replies::left(replies::Answer::Done, e)
 }
 
 // A device leaves.
@@ -92,24 +45,89 @@ pub fn disconnect(
     text: &[u8],
     d: desk::Desk,
     who: u32,
-) -> Outcome
+) -> replies::Outcome
     ensures { λ r. ⌜ leftBy r ≡ disconnectCall (tables (now (groups .entry)) (now (tracks .entry)) (now (segments .entry)) (now (text .entry))) d who ⌝ }
 {
-    let a = admit(groups, tracks, segments, text, d);
-    match a {
-        admission::Admitted::Catalogue => left(Answer::BadCatalogue, d),
-        admission::Admitted::State => left(Answer::BadState, d),
-        admission::Admitted::Fine => {
-            if slots::CLIENTS <= who {
-                return left(Answer::NoClient, d);
-            }
-            let c = desk::client_at(d, who);
-            if !c.connected {
-                return left(Answer::NotConnected, d);
-            }
-            let fresh = client::fresh_client();
-            let e = desk::with_client(d, who, fresh);
-            left(Answer::Done, e)
-        }
+    let g = replies::client_gate(groups, tracks, segments, text, false, d, who);
+    if !g.passes {
+        return replies::shut(g, d);
     }
+    let fresh = client::fresh_client();
+    let e = desk::with_client(d, who, fresh);
+    replies::left(replies::Answer::Done, e)
+}
+
+// The refusals of subscribe and unsubscribe.
+fn slot_gate(
+    groups: &[u32],
+    tracks: &[u32],
+    segments: &[u32],
+    text: &[u8],
+    d: desk::Desk,
+    who: u32,
+    characteristic: u32,
+) -> replies::Gate
+    ensures { λ r. ⌜ Gated (slotRows (tables (now (groups .entry)) (now (tracks .entry)) (now (segments .entry)) (now (text .entry))) d who characteristic) r ⌝ }
+{
+    let g = replies::client_gate(groups, tracks, segments, text, false, d, who);
+    if !g.passes {
+        return g;
+    }
+    if !slots::is_characteristic(characteristic) {
+        return replies::gate_at(false, replies::Answer::NoCharacteristic);
+    }
+    if slots::SLOTS <= slots::slot_of(characteristic) {
+        return replies::gate_at(false, replies::Answer::NoSlot);
+    }
+    let c = desk::client_at(d, who);
+    if !c.encrypted {
+        return replies::gate_at(false, replies::Answer::NotEncrypted);
+    }
+    replies::gate_at(true, replies::Answer::Done)
+}
+
+// A client asks to be told of a characteristic.
+pub fn subscribe(
+    groups: &[u32],
+    tracks: &[u32],
+    segments: &[u32],
+    text: &[u8],
+    d: desk::Desk,
+    who: u32,
+    characteristic: u32,
+) -> replies::Outcome
+    ensures { λ r. ⌜ leftBy r ≡ subscribeCall (tables (now (groups .entry)) (now (tracks .entry)) (now (segments .entry)) (now (text .entry))) d who characteristic ⌝ }
+{
+    let g = slot_gate(groups, tracks, segments, text, d, who, characteristic);
+    if !g.passes {
+        return replies::shut(g, d);
+    }
+    let s = slots::slot_of(characteristic);
+    let c = desk::client_at(d, who);
+    let next = client::join(c, s);
+    let e = desk::with_client(d, who, next);
+    replies::left(replies::Answer::Done, e)
+}
+
+// A client no longer wants to be told of a characteristic.
+pub fn unsubscribe(
+    groups: &[u32],
+    tracks: &[u32],
+    segments: &[u32],
+    text: &[u8],
+    d: desk::Desk,
+    who: u32,
+    characteristic: u32,
+) -> replies::Outcome
+    ensures { λ r. ⌜ leftBy r ≡ unsubscribeCall (tables (now (groups .entry)) (now (tracks .entry)) (now (segments .entry)) (now (text .entry))) d who characteristic ⌝ }
+{
+    let g = slot_gate(groups, tracks, segments, text, d, who, characteristic);
+    if !g.passes {
+        return replies::shut(g, d);
+    }
+    let s = slots::slot_of(characteristic);
+    let c = desk::client_at(d, who);
+    let next = client::leave(c, s);
+    let e = desk::with_client(d, who, next);
+    replies::left(replies::Answer::Done, e)
 }

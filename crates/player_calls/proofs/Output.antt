@@ -1,27 +1,10 @@
--- The lent output of a value, and what the value asks of catalogue and state. Assumes nothing.
+-- The lent output of a value. Assumes nothing.
 use mathlib.Core.Path.{_≡_}
-use mathlib.Core.Bool.{true}
 use mathlib.Core.List.{List}
-use mathlib.Core.Logic.{⊎-elim}
-use Prim.Native.Nat.{ℕ, _≤_}
-use native.Mathlib.Omega.{arith}
-use borrow.Author.Tests.{leb-true, ne-eqb}
-use lib.Dec.{leb}
-use lib.ListN.{length}
+use Prim.Native.Nat.{ℕ}
+use borrow.Author.Tests.{ne-eqb}
 use Rattle.ground.specs.Cases.{Said, granted, refused}
-use Rattle.ground.specs.Limits.{mostTitle}
 use Rattle.ground.specs.Lists.{filled}
-use Rattle.ground.proofs.Cases.{true-or, and-left}
-use Rattle.tables.specs.Tables.{Tables}
-use Rattle.catalogue.specs.Catalogue.{Right}
-use Rattle.catalogue.proofs.Laws.{title-short}
-use Rattle.player.specs.declared.Player.{Player}
-use Rattle.player.specs.Player.{isActive}
-use Rattle.standing.specs.Standing.{nameRule, playerRule}
-use Rattle.standing.proofs.Laws.{name-kept}
-use Rattle.values.specs.Values.{titleValue}
-use Rattle.moves.proofs.Choices.{active-above}
-use Rattle.moves.proofs.Ready.{shaped, track-there}
 use Rattle.player_calls.specs.Calls.{outputAfter}
 
 -- a refusal leaves the output
@@ -31,16 +14,3 @@ kept said number value out e h = rw (e, ne-eqb number 0 h)
 -- an answer fills its front
 pub shown : (said : Said) (values value out : List ℕ) → said ≡ granted values → filled value out ≡ outputAfter said value out
 shown said values value out e = rw e
-
-module _ (k : Tables) (right : Right k) (p : Player) (stands : playerRule (k .groups) (k .tracks) p ≡ true) where
-  pub name-short : p .name .len ≤ mostTitle
-  unfolding nameRule
-  name-short = leb-true _ _ (and-left (leb (p .name .len) mostTitle) _ (name-kept (k .groups) (k .tracks) p stands))
-
-  pub title-fits : length (titleValue (k .tracks) (k .text) p) ≤ mostTitle
-  unfolding titleValue
-  title-fits =
-      ⊎-elim
-      (λ e. rw e (title-short k right (p .place .track .0) (track-there _ _ _ (shaped k right) p stands (active-above p e))))
-      (λ e. rw e (omega arith))
-      (true-or (isActive p))

@@ -7,13 +7,14 @@ use denote.Ref.{RefT, at-last}
 use lib.Dec.{eqb}
 use Rattle.ground.specs.Cases.{pick, Said}
 use Rattle.ground.proofs.Settled.{settled}
+use Rattle.admission.specs.Refusals.{Left}
 use Rattle.player.specs.declared.Player.{Player}
 use Rattle.tables.specs.declared.GroupNo.{GroupNo}
 use Rattle.values.specs.Values.{valueOf}
 use Rattle.player_calls.specs.declared.Answer.{Answer}
 use Rattle.player_calls.specs.declared.Answer.the-variants.{Done, Value, BadCatalogue, SmallOutput, BadState, BadOrder, BadName, BadGroup}
 use Rattle.player_calls.specs.declared.Outcome.{Outcome}
-use Rattle.player_calls.specs.Calls.{Left, saidOf, leftBy, outputAfter}
+use Rattle.player_calls.specs.Calls.{saidOf, leftBy, outputAfter}
 use Rattle.player_calls.proofs.activate.Reads as activate
 use Rattle.player_calls.proofs.advance.Reads as advance
 use Rattle.player_calls.proofs.check.Reads as check
@@ -54,8 +55,8 @@ said-back BadGroup = refl
 -- outcomes that leave the same are the same
 pub left-settles : (o₁ o₂ : Outcome) → leftBy o₁ ≡ leftBy o₂ → o₁ ≡ o₂
 left-settles o₁ o₂ e =
-    let a : o₁ .answer ≡ o₂ .answer = sym (said-back (o₁ .answer)) ∙ ap (λ (l : Left). answerOf (l .said)) e ∙ said-back (o₂ .answer) in
-    λ k. record { answer = a k; player = e k .player }
+    let a : o₁ .answer ≡ o₂ .answer = sym (said-back (o₁ .answer)) ∙ ap (λ (l : Left Player). answerOf (l .said)) e ∙ said-back (o₂ .answer) in
+    λ k. record { answer = a k; player = e k .state }
 
 module _ (κs : Lfts 4) (groups tracks segments text : RefT (List ℕ)) (p : Player) (o₁ o₂ : Outcome) where
   pub check-settled : check.Post κs (groups, (tracks, (segments, (text, (p, tt))))) o₁ (groups, (tracks, (segments, (text, (p, tt))))) → check.Post κs (groups, (tracks, (segments, (text, (p, tt))))) o₂ (groups, (tracks, (segments, (text, (p, tt))))) → o₁ ≡ o₂

@@ -3,8 +3,9 @@ ghost use mathlib.Core.Path.{_≡_};
 ghost use lib.ListN.{length};
 ghost use Rattle.values.specs.Values.{valueOf};
 ghost use Rattle.tables.specs.Tables.{tables};
+ghost use Rattle.admission.specs.Refusals.{leaves};
 ghost use Rattle.admission.specs.Admission.{admittedOf};
-ghost use Rattle.player_calls.specs.Calls.{leftBy, leaves, stateRight, groupRight, checkCall, startCall, nameCall, activateCall, deactivateCall, advanceCall, positionCall, speedCall, orderCall, controlCall, valueCall, outputAfter, saidOf};
+ghost use Rattle.player_calls.specs.Calls.{leftBy, stateRight, checkCall, startCall, nameCall, activateCall, deactivateCall, advanceCall, positionCall, speedCall, orderCall, controlCall, valueCall, outputAfter, saidOf};
 
 pub enum Answer {
     Done,
@@ -121,14 +122,6 @@ pub fn set_name(
     }
 }
 
-fn group_right(groups: &[u32], g: tables::GroupNo) -> bool
-    ensures { λ r. ⌜ r ≡ groupRight (now (groups .entry)) (g .0) ⌝ }
-{
-    let count = tables::tracks_in(groups, g);
-    let number = ground::wide_word(g.0);
-    (number < tables::group_count(groups)) & (0 < count)
-}
-
 // A group becomes current.
 pub fn activate(
     groups: &[u32],
@@ -145,7 +138,7 @@ pub fn activate(
         admission::Admitted::Catalogue => left(Answer::BadCatalogue, p),
         admission::Admitted::State => left(Answer::BadState, p),
         admission::Admitted::Fine => {
-            if !group_right(groups, g) {
+            if !standing::group_right(groups, g) {
                 return left(Answer::BadGroup, p);
             }
             let q = moves::activate(groups, tracks, p, g);

@@ -40,7 +40,3 @@ remove-code m n w s l h k =
     (ap (λ (x : ℕ). bitAnd w (2 ^ m - 1 - x)) (bit-code m s (omega arith))
     ∙ minus-code m w (2 ^ s) (lt-of-lt-of-le h (pow-mono l)) (pow-lt (lt-of-lt-of-le k l)))
     (remove-lt n w s h)
-
--- `w & !v`
-pub minus-both : (m n w v : ℕ) → w < 2 ^ n → w < 2 ^ m → v < 2 ^ m → (bitAnd w (2 ^ m - 1 - v) < 2 ^ n) × (bitAnd w (2 ^ m - 1 - v) ≡ minus w v)
-minus-both m n w v h hw hv = both n (bitAnd w (2 ^ m - 1 - v)) (minus w v) (minus-code m w v hw hv) (minus-lt n w v h)

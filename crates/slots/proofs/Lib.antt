@@ -2,6 +2,7 @@
 pub mod Bits
 pub mod Zeros
 pub mod SlotLaws
+pub mod SetLaws
 pub mod CodeLaws
 pub mod RoundLaws
 pub mod NextLaws

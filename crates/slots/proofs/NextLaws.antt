@@ -160,3 +160,15 @@ served n p m h st t ht (suc k) l e = go (ℕ-discrete (next n (p 0) (m 0)) t) (�
         let g = next-nearest n (p 0) (m 0) h t ht (e 0 (zero-lt-suc k)) in
         let w = ih (subst (λ (x : ℕ). x < n) (sym (st 0)) (g .inside)) (omega arith) in
         (suc (w .0), suc-le-suc (w .1), w .2)
+
+-- tests that agree on the places of the round have the same next
+pub next-same : (n : ℕ) (p q : ℕ → Bool) (a : ℕ) → a < n → ((s : ℕ) → s < n → p s ≡ q s) → next n p a ≡ next n q a
+next-same n p q a h f =
+    ⊎-elim
+    (λ w. w .0 ∙ sym (next-none n q a h (λ s l. sym (f s l) ∙ w .1 s l)))
+    (λ w. sym (next-unique n q a h (next n p a) (record {
+      inside = w .inside;
+      holds = sym (f (next n p a) (w .inside)) ∙ w .holds;
+      least = λ t l e. w .least t l (f t l ∙ e);
+    })))
+    (next-cases n p a h)

@@ -1,3 +1,4 @@
--- The slots of a client as words of bits, and the round.
+-- The characteristics, the slots of a client as words of bits, and the round.
 pub mod Slots
+pub mod Characteristics
 pub mod Round

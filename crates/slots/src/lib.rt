@@ -1,7 +1,10 @@
-// The slots of a client: their characteristics, sets of them as words of bits, and the round.
+// The characteristics, the slots of a client, sets of them as words of bits, and the round.
 ghost use mathlib.Core.Path.{_≡_};
 ghost use Prim.Native.Nat.{_≤_, _<_, _^_};
-ghost use Rattle.ground.specs.Cases.{has};
+ghost use Rattle.ground.specs.Cases.{pick, has};
+ghost use mathlib.Core.Bool.{_&&_};
+ghost use lib.Dec.{ltb};
+ghost use Rattle.slots.specs.Characteristics.{thirteen, readables, writables, isIn};
 ghost use Rattle.slots.specs.Round.{next};
 ghost use Rattle.slots.specs.Slots.{slotCount, clientCount, slotOf, characteristicOf, onlySlots, insert, remove, union, inter, minus, owing};
 
@@ -9,6 +12,40 @@ ghost use Rattle.slots.specs.Slots.{slotCount, clientCount, slotOf, char
 pub const SLOTS: u32 = 10;
 
 pub const CLIENTS: u32 = 4;
+
+// The characteristics as words of bits: the thirteen, those that may be read, those that may be written.
+const THIRTEEN: u32 = 0x004F83F2;
+
+pub const READABLE: u32 = 0x004B83E2;
+
+const WRITABLE: u32 = 0x00048180;
+
+fn in_word(word: u32, c: u32) -> bool
+    ensures { λ r. ⌜ r ≡ (ltb c 32 && has word c) ⌝ }
+{
+    if c < 32 {
+        return ground::has_bit(word, c);
+    }
+    false
+}
+
+pub fn is_characteristic(c: u32) -> bool
+    ensures { λ r. ⌜ r ≡ isIn thirteen c ⌝ }
+{
+    in_word(THIRTEEN, c)
+}
+
+pub fn may_read(c: u32) -> bool
+    ensures { λ r. ⌜ r ≡ isIn readables c ⌝ }
+{
+    in_word(READABLE, c)
+}
+
+pub fn may_write(c: u32) -> bool
+    ensures { λ r. ⌜ r ≡ isIn writables c ⌝ }
+{
+    in_word(WRITABLE, c)
+}
 
 // The slot of a characteristic; SLOTS where it has none.
 pub fn slot_of(characteristic: u32) -> u32
@@ -31,7 +68,7 @@ pub fn slot_of(characteristic: u32) -> u32
 
 pub fn characteristic_of(slot: u32) -> u32
     requires { ⌜ slot < slotCount ⌝ }
-    ensures { λ r. ⌜ (r < 256) × (r ≡ characteristicOf slot) ⌝ }
+    ensures { λ r. ⌜ (r < 32) × (r ≡ characteristicOf slot) ⌝ }
 {
     match slot {
         0 => 1,
@@ -54,42 +91,50 @@ pub fn only_slots(w: u32) -> bool
     w < 1 << SLOTS
 }
 
-// The set w with slot s.
+// The set w with the number s.
 pub fn with(w: u32, s: u32) -> u32
-    requires { ⌜ (s < slotCount) × (w < 2 ^ slotCount) ⌝ }
-    ensures { λ r. ⌜ (r < 2 ^ slotCount) × (r ≡ insert w s) ⌝ }
+    requires { ⌜ s < 32 ⌝ }
+    ensures { λ r. ⌜ r ≡ insert w s ⌝ }
 {
     w | (1 << s)
 }
 
-// The set w without slot s.
+// The set w, with the number s where `on` says so.
+pub fn with_if(w: u32, s: u32, on: bool) -> u32
+    requires { ⌜ s < 32 ⌝ }
+    ensures { λ r. ⌜ r ≡ pick on (insert w s) w ⌝ }
+{
+    if on {
+        return with(w, s);
+    }
+    w
+}
+
+// The set w without the number s.
 pub fn without(w: u32, s: u32) -> u32
-    requires { ⌜ (s < slotCount) × (w < 2 ^ slotCount) ⌝ }
-    ensures { λ r. ⌜ (r < 2 ^ slotCount) × (r ≡ remove w s) ⌝ }
+    requires { ⌜ s < 32 ⌝ }
+    ensures { λ r. ⌜ r ≡ remove w s ⌝ }
 {
     w & !(1 << s)
 }
 
 // What is in w or in v.
 pub fn union_of(w: u32, v: u32) -> u32
-    requires { ⌜ (w < 2 ^ slotCount) × (v < 2 ^ slotCount) ⌝ }
-    ensures { λ r. ⌜ (r < 2 ^ slotCount) × (r ≡ union w v) ⌝ }
+    ensures { λ r. ⌜ r ≡ union w v ⌝ }
 {
     w | v
 }
 
 // What is in w and in v.
 pub fn intersection(w: u32, v: u32) -> u32
-    requires { ⌜ w < 2 ^ slotCount ⌝ }
-    ensures { λ r. ⌜ (r < 2 ^ slotCount) × (r ≡ inter w v) ⌝ }
+    ensures { λ r. ⌜ r ≡ inter w v ⌝ }
 {
     w & v
 }
 
 // What is in w and not in v.
 pub fn difference(w: u32, v: u32) -> u32
-    requires { ⌜ w < 2 ^ slotCount ⌝ }
-    ensures { λ r. ⌜ (r < 2 ^ slotCount) × (r ≡ minus w v) ⌝ }
+    ensures { λ r. ⌜ r ≡ minus w v ⌝ }
 {
     w & !v
 }

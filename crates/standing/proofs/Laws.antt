@@ -9,13 +9,14 @@ use lib.Dec.{eqb, ltb, leb}
 use lib.ListN.{length, drop}
 use lib.Seq.{take-append-seam}
 use Rattle.ground.specs.Cases.{pick, within}
+use Rattle.ground.specs.Limits.{mostTitle}
 use Rattle.ground.proofs.Cases.{past, here, and-left, and-right, and-both}
 use Rattle.tables.specs.Tables.{groupCount, firstTrackOf, tracksIn, durationOf}
 use Rattle.player.specs.declared.Mode.{Mode}
 use Rattle.player.specs.declared.Player.{Player}
 use Rattle.player.specs.Player.{inactive, seeking, named}
 use Rattle.player.specs.Modes.{rungs}
-use Rattle.standing.specs.Standing.{textRule, nameRule, member, modeRule, noPlace, inGroup, somePlace, placeRule, playerRule}
+use Rattle.standing.specs.Standing.{textRule, groupRule, nameRule, member, modeRule, noPlace, inGroup, somePlace, placeRule, playerRule}
 
 -- the side of a choice that its test leaves
 chosen : {t : Bool} (a b : Bool) → t ≡ true → pick t a b ≡ true → a ≡ true
@@ -25,6 +26,18 @@ left-over : {t : Bool} (a b : Bool) → t ≡ false → pick t a b ≡ true → 
 left-over a b e h = rw e at h
 
 -- a name that passes as it is handed in stands as it is stored
+pub text-short : (name : List ℕ) → textRule name ≡ true → length name ≤ mostTitle
+unfolding textRule
+text-short name e = leb-true _ _ (and-left (leb (length name) mostTitle) _ e)
+
+pub group-there : (groups : List ℕ) (g : ℕ) → groupRule groups g ≡ true → g < groupCount groups
+unfolding groupRule
+group-there groups g e = ltb-true _ _ (and-left (ltb g (groupCount groups)) (ltb 0 (tracksIn groups g)) e)
+
+pub group-used : (groups : List ℕ) (g : ℕ) → groupRule groups g ≡ true → 0 < tracksIn groups g
+unfolding groupRule
+group-used groups g e = ltb-true _ _ (and-right (ltb g (groupCount groups)) (ltb 0 (tracksIn groups g)) e)
+
 pub name-stands : (name old : List ℕ) → textRule name ≡ true → nameRule (named name old) ≡ true
 unfolding textRule nameRule
 name-stands name old h = rw (take-append-seam name (drop (length name) old)) h

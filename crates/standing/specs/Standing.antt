@@ -25,6 +25,10 @@ textRule name = leb (length name) mostTitle && isFine (textOf name)
 unfoldable pub nameRule : Name → Bool
 nameRule n = leb (n .len) mostTitle && isFine (textOf (take (n .len) (n .octets)))
 
+-- 208: "group absent or without tracks"
+unfoldable pub groupRule : List ℕ → ℕ → Bool
+groupRule groups g = ltb g (groupCount groups) && ltb 0 (tracksIn groups g)
+
 abbrev pub member : ℕ → List ℕ → Bool
 member x [] = false
 member x (y ∷ l) = pick (eqb x y) true (member x l)

@@ -1,7 +1,6 @@
 // Whether a state of the player stands in a catalogue. Any state and any tables are taken.
 ghost use mathlib.Core.Path.{_≡_};
-ghost use Prim.Native.Nat.{_≤_};
-ghost use Rattle.standing.specs.Standing.{textRule, nameRule, member, modeRule, noPlace, inGroup, somePlace, placeRule, playerRule};
+ghost use Rattle.standing.specs.Standing.{textRule, groupRule, nameRule, member, modeRule, inGroup, placeRule, playerRule};
 ghost use Rattle.player.specs.Modes.{rungs};
 
 // A name that is handed in: at most 128 octets of UTF-8.
@@ -84,4 +83,13 @@ pub fn player_right(groups: &[u32], tracks: &[u32], p: player::Player) -> bool
     let mode = mode_right(p.mode);
     let place = place_right(groups, tracks, active, p.place);
     name & mode & place
+}
+
+// 208: whether a group is there and has tracks.
+pub fn group_right(groups: &[u32], g: tables::GroupNo) -> bool
+    ensures { λ r. ⌜ r ≡ groupRule (now (groups .entry)) (g .0) ⌝ }
+{
+    let count = tables::tracks_in(groups, g);
+    let number = ground::wide_word(g.0);
+    (number < tables::group_count(groups)) & (0 < count)
 }

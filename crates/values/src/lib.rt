@@ -11,7 +11,7 @@ ghost use Rattle.values.specs.Values.{wordOctets, titleValue, durationVa
 const MINUS_ONE: u32 = 0xFFFF_FFFF;
 
 // Copies s over the front of out, and says how many octets that are.
-fn put(out: &mut [u8], s: &[u8]) -> usize
+pub fn put(out: &mut [u8], s: &[u8]) -> usize
     requires { ⌜ length (now s) ≤ length (now out) ⌝ }
     ensures { λ r. ⌜ r ≡ length (now (s .entry)) ⌝ }
     ensures { λ _. ⌜ now (out .exit) ≡ filled (now (s .entry)) (now (out .entry)) ⌝ }

@@ -2,7 +2,7 @@
 use mathlib.Core.Path.{refl}
 use Rattle.values.specs.Values.{valueOf, opcodesValue}
 use Rattle.changes.specs.Changes.{sameOctets, changed}
-use Rattle.changes.proofs.Laws.{gathers-none, gathers-bit, gathers-past}
+use Rattle.changes.proofs.Laws.{gathered, gathers-none, gathers-bit, gathers-past}
 use borrow.Author.Needs.{needs}
 use Rattle.changes.proofs.changed_word.Statement.{statement}
 use Rattle.changes.proofs.changed_word.Tie as tie
@@ -37,35 +37,35 @@ words-differ-requires c κs = search needs
 octets-differ-requires-5 : tie.Need-octets-differ-requires-5
 octets-differ-requires-5 c κs = search needs
 
-put-bit-requires : tie.Need-put-bit-requires
-put-bit-requires c κs = search needs
+with-if-requires : tie.Need-with-if-requires
+with-if-requires c κs = search needs
 
-put-bit-requires-2 : tie.Need-put-bit-requires-2
-put-bit-requires-2 c κs = search needs
+with-if-requires-2 : tie.Need-with-if-requires-2
+with-if-requires-2 c κs = search needs
 
-put-bit-requires-3 : tie.Need-put-bit-requires-3
-put-bit-requires-3 c κs = search needs
+with-if-requires-3 : tie.Need-with-if-requires-3
+with-if-requires-3 c κs = search needs
 
-put-bit-requires-4 : tie.Need-put-bit-requires-4
-put-bit-requires-4 c κs = search needs
+with-if-requires-4 : tie.Need-with-if-requires-4
+with-if-requires-4 c κs = search needs
 
-put-bit-requires-5 : tie.Need-put-bit-requires-5
-put-bit-requires-5 c κs = search needs
+with-if-requires-5 : tie.Need-with-if-requires-5
+with-if-requires-5 c κs = search needs
 
-put-bit-requires-6 : tie.Need-put-bit-requires-6
-put-bit-requires-6 c κs = search needs
+with-if-requires-6 : tie.Need-with-if-requires-6
+with-if-requires-6 c κs = search needs
 
-put-bit-requires-7 : tie.Need-put-bit-requires-7
-put-bit-requires-7 c κs = search needs
+with-if-requires-7 : tie.Need-with-if-requires-7
+with-if-requires-7 c κs = search needs
 
-put-bit-requires-8 : tie.Need-put-bit-requires-8
-put-bit-requires-8 c κs = search needs
+with-if-requires-8 : tie.Need-with-if-requires-8
+with-if-requires-8 c κs = search needs
 
-put-bit-requires-9 : tie.Need-put-bit-requires-9
-put-bit-requires-9 c κs = search needs
+with-if-requires-9 : tie.Need-with-if-requires-9
+with-if-requires-9 c κs = search needs
 
-put-bit-requires-10 : tie.Need-put-bit-requires-10
-put-bit-requires-10 c κs = search needs
+with-if-requires-10 : tie.Need-with-if-requires-10
+with-if-requires-10 c κs = search needs
 
 returns : tie.Need-returns
 unfolding changed valueOf opcodesValue sameOctets
@@ -91,17 +91,17 @@ returns c =
     let title = duration .before in
     let a = title .before .before .before .args in
     let f = changed (a .tracks .now) (a .text .now) (a .p) (a .q) in
-    let g22 = gathers-bit f 22 (gathers-none f) (ccid .octets-differ5 .ensures) (w22 .put-bit .ensures) in
-    let g19 = gathers-bit f 19 g22 (opcodes .words-differ .ensures) (w19 .put-bit2 .ensures) in
-    let g17 = gathers-bit f 17 g19 (media .octets-differ4 .ensures) (w17 .put-bit3 .ensures) in
+    let g22 = gathers-bit f 22 (gathers-none f) (ccid .octets-differ5 .ensures) (w22 .with-if .ensures) in
+    let g19 = gathers-bit f 19 g22 (opcodes .words-differ .ensures) (w19 .with-if2 .ensures) in
+    let g17 = gathers-bit f 17 g19 (media .octets-differ4 .ensures) (w17 .with-if3 .ensures) in
     let g16 = gathers-past f 16 g17 refl in
-    let g15 = gathers-bit f 15 g16 (order .octets-differ3 .ensures) (w15 .put-bit4 .ensures) in
-    let g9 = gathers-bit f 9 g15 (seeking .octets-differ2 .ensures) (w9 .put-bit5 .ensures) in
-    let g8 = gathers-bit f 8 g9 (speed .octets-differ .ensures) (w8 .put-bit6 .ensures) in
-    let g7 = gathers-bit f 7 g8 (position .position-changed .ensures) (w7 .put-bit7 .ensures) in
-    let g6 = gathers-bit f 6 g7 (duration .duration-changed .ensures) (w6 .put-bit8 .ensures) in
-    let g5 = gathers-bit f 5 g6 (title .title-changed .ensures) (w5 .put-bit9 .ensures) in
-    gathers-bit f 1 g5 (name .name-changed .ensures) (c .put-bit10 .ensures) .bits
+    let g15 = gathers-bit f 15 g16 (order .octets-differ3 .ensures) (w15 .with-if4 .ensures) in
+    let g9 = gathers-bit f 9 g15 (seeking .octets-differ2 .ensures) (w9 .with-if5 .ensures) in
+    let g8 = gathers-bit f 8 g9 (speed .octets-differ .ensures) (w8 .with-if6 .ensures) in
+    let g7 = gathers-bit f 7 g8 (position .position-changed .ensures) (w7 .with-if7 .ensures) in
+    let g6 = gathers-bit f 6 g7 (duration .duration-changed .ensures) (w6 .with-if8 .ensures) in
+    let g5 = gathers-bit f 5 g6 (title .title-changed .ensures) (w5 .with-if9 .ensures) in
+    gathered (a .tracks .now) (a .text .now) (a .p) (a .q) _ (search needs) (gathers-bit f 1 g5 (name .name-changed .ensures) (c .with-if10 .ensures))
 
 pub changed-word-spec : {M : Type 1} → statement M
 changed-word-spec =
@@ -117,14 +117,14 @@ changed-word-spec =
     octets-differ-requires-4
     words-differ-requires
     octets-differ-requires-5
-    put-bit-requires
-    put-bit-requires-2
-    put-bit-requires-3
-    put-bit-requires-4
-    put-bit-requires-5
-    put-bit-requires-6
-    put-bit-requires-7
-    put-bit-requires-8
-    put-bit-requires-9
-    put-bit-requires-10
+    with-if-requires
+    with-if-requires-2
+    with-if-requires-3
+    with-if-requires-4
+    with-if-requires-5
+    with-if-requires-6
+    with-if-requires-7
+    with-if-requires-8
+    with-if-requires-9
+    with-if-requires-10
     returns)

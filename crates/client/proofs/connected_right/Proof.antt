@@ -7,6 +7,7 @@ use lib.Dec.{eqb, ltb, leb}
 use Rattle.ground.specs.Cases.{has}
 use Rattle.ground.proofs.Cases.{and-fails}
 use Rattle.slots.specs.Slots.{slotCount, onlySlots, inter}
+use Rattle.slots.proofs.SetLaws.{readable-word}
 use Rattle.client.specs.Client.{mtuRight, onlyReadable, alike, controlSlot, codesRight, connectedRule}
 use Rattle.client.specs.declared.Client.{Client}
 use borrow.Author.Needs.{needs}
@@ -52,7 +53,7 @@ returns-2 c =
     mtuRight (x .mtu)
     && o .before .only-slots .ensures i
     && o .only-slots2 .ensures i
-    && onlyReadable (x .fresh)
+    && eqb (bitAnd (x .fresh) (sym readable-word i)) (x .fresh)
     && eqb (bitAnd (x .owed) (x .subscribed)) (x .owed)
     && (a .agree .ensures ∙ ap (λ (t : Bool). alike t (ltb 0 (x .waiting))) (h .has-bit .ensures)) i
     && leb (x .waiting) 8

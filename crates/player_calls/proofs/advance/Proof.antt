@@ -4,7 +4,8 @@ use mathlib.Core.List.{[]}
 use Rattle.ground.specs.Cases.{granted}
 use Rattle.tables.specs.Tables.{Tables, tables}
 use Rattle.moves.proofs.Ready.{shaped, seated}
-use Rattle.player_calls.specs.Calls.{leaves, advanceCall}
+use Rattle.admission.specs.Refusals.{leaves}
+use Rattle.player_calls.specs.Calls.{advanceCall}
 use Rattle.admission.proofs.Guard.{says-catalogue, says-state, goes-on, fine-right, fine-stands}
 use borrow.Author.Needs.{needs}
 use Rattle.player_calls.proofs.advance.Statement.{statement}

@@ -5,7 +5,8 @@ use Rattle.ground.specs.Cases.{granted}
 use Rattle.tables.specs.Tables.{Tables, tables}
 use Rattle.moves.specs.declared.Controlled.{Controlled}
 use Rattle.moves.proofs.Ready.{shaped}
-use Rattle.player_calls.specs.Calls.{leaves, controlCall}
+use Rattle.admission.specs.Refusals.{leaves}
+use Rattle.player_calls.specs.Calls.{controlCall}
 use Rattle.admission.proofs.Guard.{says-catalogue, says-state, goes-on, fine-right, fine-stands}
 use borrow.Author.Needs.{needs}
 use Rattle.player_calls.proofs.control.Statement.{statement}

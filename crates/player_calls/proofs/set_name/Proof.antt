@@ -6,8 +6,9 @@ use borrow.Author.Tests.{not-false}
 use Rattle.ground.specs.Cases.{granted}
 use Rattle.ground.proofs.Cases.{past, here}
 use Rattle.tables.specs.Tables.{Tables, tables}
-use Rattle.player_calls.specs.Calls.{leaves, nameCall}
-use Rattle.player_calls.proofs.Tests.{text-short}
+use Rattle.admission.specs.Refusals.{leaves}
+use Rattle.player_calls.specs.Calls.{nameCall}
+use Rattle.standing.proofs.Laws.{text-short}
 use Rattle.admission.proofs.Guard.{says-catalogue, says-state, goes-on}
 use borrow.Author.Needs.{needs}
 use Rattle.player_calls.proofs.set_name.Statement.{statement}

@@ -6,9 +6,10 @@ use borrow.Author.Tests.{not-false}
 use Rattle.ground.specs.Cases.{granted, refused}
 use Rattle.ground.proofs.Cases.{past, here}
 use Rattle.tables.specs.Tables.{Tables, tables}
-use Rattle.player_calls.specs.Calls.{leaves, startCall}
+use Rattle.admission.specs.Refusals.{leaves}
+use Rattle.player_calls.specs.Calls.{startCall}
 use Rattle.catalogue.proofs.Laws.{passed, failed}
-use Rattle.player_calls.proofs.Tests.{text-short}
+use Rattle.standing.proofs.Laws.{text-short}
 use Rattle.catalogue.specs.Catalogue.{saidOf}
 use borrow.Author.Needs.{needs}
 use Rattle.player_calls.proofs.start.Statement.{statement}

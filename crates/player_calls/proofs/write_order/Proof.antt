@@ -4,7 +4,8 @@ use mathlib.Core.List.{[]}
 use Rattle.ground.specs.Cases.{granted}
 use Rattle.ground.proofs.Cases.{past, here}
 use Rattle.tables.specs.Tables.{Tables, tables}
-use Rattle.player_calls.specs.Calls.{leaves, orderCall}
+use Rattle.admission.specs.Refusals.{leaves}
+use Rattle.player_calls.specs.Calls.{orderCall}
 use Rattle.admission.proofs.Guard.{says-catalogue, says-state, goes-on}
 use borrow.Author.Needs.{needs}
 use Rattle.player_calls.proofs.write_order.Statement.{statement}

@@ -3,7 +3,8 @@ use mathlib.Core.Path.{ap, _∙_}
 use mathlib.Core.List.{[]}
 use Rattle.ground.specs.Cases.{granted}
 use Rattle.tables.specs.Tables.{Tables, tables}
-use Rattle.player_calls.specs.Calls.{leaves, positionCall}
+use Rattle.admission.specs.Refusals.{leaves}
+use Rattle.player_calls.specs.Calls.{positionCall}
 use Rattle.admission.proofs.Guard.{says-catalogue, says-state, goes-on}
 use borrow.Author.Needs.{needs}
 use Rattle.player_calls.proofs.write_position.Statement.{statement}

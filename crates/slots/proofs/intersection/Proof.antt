@@ -1,13 +1,12 @@
 -- `slots::intersection`: the intersection is `&` of the words.
 use mathlib.Core.Path.{refl}
-use Rattle.slots.specs.Slots.{slotCount, inter}
-use Rattle.slots.proofs.SlotLaws.{inter-lt}
+use Rattle.slots.specs.Slots.{inter}
 use Rattle.slots.proofs.intersection.Statement.{statement}
 use Rattle.slots.proofs.intersection.Tie as tie
 
 returns : tie.Need-returns
 unfolding inter
-returns c = (inter-lt slotCount (c .args .w) (c .args .v) (c .pre), refl)
+returns c = refl
 
 pub intersection-spec : {M : Type 1} → statement M
 intersection-spec = tie.close (tie.spec returns)

@@ -1,13 +1,12 @@
 -- `slots::union_of`: the union is `|` of the words.
 use mathlib.Core.Path.{refl}
-use Rattle.slots.specs.Slots.{slotCount, union}
-use Rattle.slots.proofs.SlotLaws.{union-lt}
+use Rattle.slots.specs.Slots.{union}
 use Rattle.slots.proofs.union_of.Statement.{statement}
 use Rattle.slots.proofs.union_of.Tie as tie
 
 returns : tie.Need-returns
 unfolding union
-returns c = (union-lt slotCount (c .args .w) (c .args .v) (c .pre .0) (c .pre .1), refl)
+returns c = refl
 
 pub union-of-spec : {M : Type 1} → statement M
 union-of-spec = tie.close (tie.spec returns)

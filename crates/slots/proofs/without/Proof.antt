@@ -1,7 +1,6 @@
 -- `slots::without`: a bit cleared by the complement of one bit is a slot taken out.
 use borrow.Author.Needs.{needs}
 use lib.Dec.{lit≤}
-use Rattle.slots.specs.Slots.{slotCount}
 use Rattle.slots.proofs.CodeLaws.{remove-code}
 use Rattle.slots.proofs.without.Statement.{statement}
 use Rattle.slots.proofs.without.Tie as tie
@@ -10,7 +9,7 @@ shl-result : tie.Need-shl-result
 shl-result c = search needs
 
 returns : tie.Need-returns
-returns c = remove-code 32 slotCount (c .args .w) (c .args .s) (lit≤ tt) (c .pre .1) (c .pre .0)
+returns c = remove-code 32 32 (c .args .w) (c .args .s) (lit≤ tt) (c .fits .w .fits) (c .pre) .1
 
 pub without-spec : {M : Type 1} → statement M
 without-spec = tie.close (tie.spec shl-result returns)

@@ -1,0 +1,12 @@
+-- `notices::is_spared`: the two exceptions.
+use mathlib.Core.Path.{refl}
+use Rattle.notices.specs.Owed.{spared}
+use Rattle.notices.proofs.is_spared.Statement.{statement}
+use Rattle.notices.proofs.is_spared.Tie as tie
+
+returns : tie.Need-returns
+unfolding spared
+returns c = refl
+
+pub is-spared-spec : {M : Type 1} → statement M
+is-spared-spec = tie.close (tie.spec returns)

@@ -1,0 +1,696 @@
+// Plays an office's day from standard input with the twelve calls on the whole, over the sample catalogue of document 01, and writes a line for each
+// call: its answer; the media state, order and both speeds; the group, track and position; and each of the four clients, as ATT_MTU: subscribed; owed;
+// waiting results, or - while it is unconnected. A ! ends the line where lent octets behind the answer did not stay.
+// A frame of the script: an octet for the catalogue (0 the sample, 1 the sample with long titles, 2 and 3 wrong ones), one for the call (0 a note, 1 to 12
+// in document 01's order from start to take, 13 damage to the state), one for the client and one for the characteristic, a little endian word that the
+// call takes, an octet for the room of the lent output, one for the length of the text, the text.
+ghost use Prim.Native.Nat.{_-_, _<_, _≤_};
+ghost use lib.ListN.{length};
+ghost use Rattle.slots.specs.Slots.{slotCount};
+use replies::Answer;
+use replies::Outcome;
+
+// "Groups: 0 (no tracks), 1 (tracks 0–2), 2 (none), 3 (track 3); parents 0."
+const GROUPS: [u32; 12] = [0, 0, 0, 0, 0, 3, 0, 3, 0, 0, 3, 1];
+// Group 3 is its own parent.
+const WRONG_GROUPS: [u32; 12] = [0, 0, 0, 0, 0, 3, 0, 3, 0, 3, 3, 1];
+// The last record of the groups lacks its count.
+const CUT_GROUPS: [u32; 11] = [0, 0, 0, 0, 0, 3, 0, 3, 0, 0, 3];
+// "Track, duration, stamp: 0, 6000, 30 with starts 0, 1500, 4000; 1, 300, 10; 2, 0, 10; 3, 900, 5." The titles are Überfahrt, Rast, an empty one, Ziel.
+const TRACKS: [u32; 24] = [
+    6000,
+    30,
+    0,
+    3,
+    0,
+    10,
+    300,
+    10,
+    3,
+    0,
+    10,
+    4,
+    0,
+    10,
+    3,
+    0,
+    14,
+    0,
+    900,
+    5,
+    3,
+    0,
+    14,
+    4,
+];
+// The same tracks. Two of them have equal titles of 64 octets in two places of the text; that of track 3 has the 128 octets of both.
+const LONG_TRACKS: [u32; 24] = [
+    6000,
+    30,
+    0,
+    3,
+    0,
+    64,
+    300,
+    10,
+    3,
+    0,
+    64,
+    64,
+    0,
+    10,
+    3,
+    0,
+    128,
+    0,
+    900,
+    5,
+    3,
+    0,
+    0,
+    128,
+];
+
+const SEGMENTS: [u32; 3] = [0, 1500, 4000];
+
+// More than the 128 octets of the longest value, so that octets behind it are seen too.
+const MOST_ROOM: usize = 160;
+// What the lent octets hold before a call.
+const LENT: u8 = 0xA5;
+
+// What a frame asks, but for its text. The octet is the characteristic; of a start the Content Control ID, of a connect whether it is encrypted, of
+// damage the part of the state.
+struct Ask {
+    kind: u8,
+    who: u32,
+    octet: u8,
+    number: u32,
+    room: usize,
+}
+
+fn at_most(n: usize, most: usize) -> usize
+    ensures { λ r. ⌜ r ≤ most ⌝ }
+{
+    if n < most {
+        return n;
+    }
+    most
+}
+
+// The first n octets, or all where there are fewer.
+fn front(s: &[u8], n: usize) -> &[u8] {
+    let e = at_most(n, s.len());
+    &s[0..e]
+}
+
+// What follows the first n octets.
+fn rest(s: &[u8], n: usize) -> &[u8]
+    ensures { λ r. ⌜ length (now r) ≤ length (now (s .entry)) - n ⌝ }
+{
+    if s.len() < n {
+        let e = s.len();
+        return &s[e..];
+    }
+    &s[n..]
+}
+
+// The octet of a word's lowest eight bits.
+fn low(n: u32) -> u8 {
+    (n % 256) as u8
+}
+
+fn write_number(n: u32) {
+    io::write_all(1, b" ");
+    io::print_decimal(1, n as u64);
+}
+
+// An octet in two's complement.
+fn write_signed(x: u8) {
+    if x < 0x80 {
+        write_number(ground::wide_octet(x));
+        return;
+    }
+    io::write_all(1, b" -");
+    io::print_decimal(1, 0x100 - (x as u64));
+}
+
+fn write_octet(x: u8) {
+    io::write_all(1, b" ");
+    io::print_hex(1, x as u64, 2);
+}
+
+fn write_octets(s: &[u8]) {
+    let mut i: usize = 0;
+    while i < s.len() {
+        write_octet(s[i]);
+        i += 1;
+    }
+}
+
+fn write_media(media: u8) {
+    match media {
+        0 => {
+            io::write_all(1, b" | Inactive");
+        }
+        1 => {
+            io::write_all(1, b" | Playing");
+        }
+        2 => {
+            io::write_all(1, b" | Paused");
+        }
+        3 => {
+            io::write_all(1, b" | Seeking");
+        }
+        _ => {
+            io::write_all(1, b" |");
+            write_number(ground::wide_octet(media));
+        }
+    }
+}
+
+fn write_player(p: player::Player) {
+    write_media(p.mode.media);
+    write_number(ground::wide_octet(p.mode.order));
+    write_signed(p.mode.speed);
+    write_signed(p.mode.seeking);
+    io::write_all(1, b" |");
+    write_number(p.place.group.0);
+    write_number(p.place.track.0);
+    write_number(p.place.position.0);
+}
+
+fn write_slot(w: u32, s: u32)
+    requires { ⌜ s < slotCount ⌝ }
+{
+    if ground::has_bit(w, s) {
+        write_number(slots::characteristic_of(s));
+    }
+}
+
+// The characteristics of a word of slots.
+fn write_slots(w: u32) {
+    let mut s: u32 = 0;
+    while s < slots::SLOTS {
+        write_slot(w, s);
+        s += 1;
+    }
+}
+
+// The same, and a + for bits outside the slots.
+fn write_set(w: u32) {
+    write_slots(w);
+    if !slots::only_slots(w) {
+        io::write_all(1, b" +");
+    }
+}
+
+fn write_client(c: client::Client) {
+    io::write_all(1, b" |");
+    if !c.connected {
+        io::write_all(1, b" -");
+        return;
+    }
+    write_number(c.mtu);
+    io::write_all(1, b":");
+    write_set(c.subscribed);
+    io::write_all(1, b";");
+    write_set(c.owed);
+    io::write_all(1, b"; ");
+    io::print_decimal(1, c.waiting as u64);
+}
+
+fn write_state(d: desk::Desk) {
+    let p = d.player;
+    write_player(p);
+    write_client(desk::client_at(d, 0));
+    write_client(desk::client_at(d, 1));
+    write_client(desk::client_at(d, 2));
+    write_client(desk::client_at(d, 3));
+}
+
+// A refusal by a number of this project.
+fn refuse(number: u64) {
+    io::write_all(1, b"refused ");
+    io::print_decimal(1, number);
+}
+
+// A refusal by a code of ATT, in the document's digits.
+fn refuse_att(code: &[u8]) {
+    io::write_all(1, b"refused ");
+    io::write_all(1, code);
+}
+
+fn write_answer(answer: Answer) {
+    match answer {
+        Answer::Done => {
+            io::write_all(1, b"done");
+        }
+        Answer::Octets(_) => {
+            io::write_all(1, b"read");
+        }
+        Answer::Served(who, characteristic, _) => {
+            io::write_all(1, b"take");
+            write_number(who);
+            write_number(characteristic);
+        }
+        Answer::BadCatalogue => {
+            refuse(200);
+        }
+        Answer::SmallOutput => {
+            refuse(205);
+        }
+        Answer::BadState => {
+            refuse(201);
+        }
+        Answer::NoClient => {
+            refuse(202);
+        }
+        Answer::NotConnected => {
+            refuse(203);
+        }
+        Answer::AlreadyConnected => {
+            refuse(204);
+        }
+        Answer::BadMtu => {
+            refuse(206);
+        }
+        Answer::NoCharacteristic => {
+            refuse_att(b"0x01");
+        }
+        Answer::NoSlot => {
+            refuse(209);
+        }
+        Answer::NotReadable => {
+            refuse_att(b"0x02");
+        }
+        Answer::NotWritable => {
+            refuse_att(b"0x03");
+        }
+        Answer::NotEncrypted => {
+            refuse_att(b"0x0F");
+        }
+        Answer::ValueChanged => {
+            refuse_att(b"0x80");
+        }
+        Answer::BeyondEnd => {
+            refuse_att(b"0x07");
+        }
+        Answer::BadLength => {
+            refuse_att(b"0x0D");
+        }
+        Answer::BadOrder => {
+            refuse_att(b"0x13");
+        }
+        Answer::TooManyResults => {
+            refuse_att(b"0x11");
+        }
+        Answer::BadName => {
+            refuse(207);
+        }
+        Answer::BadGroup => {
+            refuse(208);
+        }
+    }
+}
+
+// "Nothing owed: the answer says so and nothing changes."
+fn write_taken(answer: Answer) {
+    match answer {
+        Answer::Done => {
+            io::write_all(1, b"nothing");
+        }
+        _ => {
+            write_answer(answer);
+        }
+    }
+}
+
+// Writes the line of a call, and hands back the state that it left.
+fn report(o: Outcome) -> desk::Desk {
+    let answer = o.answer;
+    let d = o.desk;
+    write_answer(answer);
+    write_state(d);
+    io::write_all(1, b"\n");
+    d
+}
+
+// The same of a start; a refused one leaves the state that there was.
+fn report_start(o: Outcome, before: desk::Desk) -> desk::Desk {
+    let answer = o.answer;
+    match answer {
+        Answer::Done => report(o),
+        _ => {
+            write_answer(answer);
+            write_state(before);
+            io::write_all(1, b"\n");
+            before
+        }
+    }
+}
+
+// How many octets an answer says were handed out.
+fn handed(answer: Answer) -> usize {
+    match answer {
+        Answer::Octets(n) => n,
+        Answer::Served(_, _, n) => n,
+        _ => 0,
+    }
+}
+
+// Whether all octets are as they were lent.
+fn is_untouched(s: &[u8]) -> bool {
+    let mut same = true;
+    let mut i: usize = 0;
+    while i < s.len() {
+        same = same & (s[i] == LENT);
+        i += 1;
+    }
+    same
+}
+
+// The rest of the line of a read or a take, from the octets on. "lent octets behind the answer stay"
+fn report_lent(o: Outcome, out: &[u8; MOST_ROOM]) -> desk::Desk {
+    let whole = &out[..];
+    let answer = o.answer;
+    let d = o.desk;
+    let n = handed(answer);
+    write_octets(front(whole, n));
+    write_state(d);
+    if !is_untouched(rest(whole, n)) {
+        io::write_all(1, b" !");
+    }
+    io::write_all(1, b"\n");
+    d
+}
+
+fn read(
+    groups: &[u32],
+    tracks: &[u32],
+    segments: &[u32],
+    text: &[u8],
+    d: desk::Desk,
+    c: Ask,
+) -> desk::Desk {
+    let mut out = [LENT; MOST_ROOM];
+    let room = at_most(c.room, MOST_ROOM);
+    let o = exchange::read(
+        groups,
+        tracks,
+        segments,
+        text,
+        d,
+        c.who,
+        ground::wide_octet(c.octet),
+        c.number,
+        &mut out[0..room],
+    );
+    let answer = o.answer;
+    write_answer(answer);
+    report_lent(o, &out)
+}
+
+fn take(
+    groups: &[u32],
+    tracks: &[u32],
+    segments: &[u32],
+    text: &[u8],
+    d: desk::Desk,
+    c: Ask,
+) -> desk::Desk {
+    let mut out = [LENT; MOST_ROOM];
+    let room = at_most(c.room, MOST_ROOM);
+    let o = takes::take(groups, tracks, segments, text, d, &mut out[0..room]);
+    let answer = o.answer;
+    write_taken(answer);
+    report_lent(o, &out)
+}
+
+fn with_name_length(p: player::Player, len: u8) -> player::Player {
+    let octets = p.name.octets;
+    let name = player::Name {
+        octets: octets,
+        len: len,
+    };
+    let mut q = p;
+    q.name = name;
+    q
+}
+
+// Sets one part of the player to anything.
+fn damage_player(p: player::Player, part: u8, number: u32) -> player::Player {
+    match part {
+        1 => player::in_mode(p, low(number), p.mode.seeking),
+        2 => player::with_order(p, low(number)),
+        3 => player::in_mode(p, p.mode.media, low(number)),
+        4 => player::at_place(p, tables::GroupNo(number), p.place.track, p.place.position),
+        5 => player::at_place(p, p.place.group, tables::TrackNo(number), p.place.position),
+        6 => player::at_position(p, tables::Position(number)),
+        7 => with_name_length(p, low(number)),
+        _ => p,
+    }
+}
+
+// The code of the result at a place: the place is the second octet of the number, the code its first.
+fn with_code(c: client::Client, number: u32) -> client::Client {
+    let mut results = c.results;
+    let at = ground::wide_word(number / 256 % 8);
+    let e = results[at];
+    results[at] = client::Entry {
+        opcode: e.opcode,
+        code: low(number),
+    };
+    let mut d = c;
+    d.results = results;
+    d
+}
+
+// Sets one part of a client's record to anything.
+fn damage_client(c: client::Client, part: u8, number: u32) -> client::Client {
+    let mut d = c;
+    match part {
+        10 => {
+            d.connected = number != 0;
+        }
+        11 => {
+            d.encrypted = number != 0;
+        }
+        12 => {
+            d.mtu = number;
+        }
+        13 => {
+            d.subscribed = number;
+        }
+        14 => {
+            d.owed = number;
+        }
+        15 => {
+            d.fresh = number;
+        }
+        16 => {
+            d.mark = number;
+        }
+        17 => {
+            d.waiting = ground::wide_word(number);
+        }
+        18 => {
+            return with_code(c, number);
+        }
+        _ => {}
+    }
+    d
+}
+
+// The parts up to 8 are the player's, 9 is the round of the clients, the others are a client's.
+fn damage(d: desk::Desk, who: u32, part: u8, number: u32) -> desk::Desk {
+    if part < 9 {
+        let p = d.player;
+        let q = damage_player(p, part, number);
+        return desk::with_player(d, q);
+    }
+    if part == 9 {
+        let mut e = d;
+        e.turn = number;
+        return e;
+    }
+    if who < slots::CLIENTS {
+        let c = desk::client_at(d, who);
+        let next = damage_client(c, part, number);
+        return desk::with_client(d, who, next);
+    }
+    d
+}
+
+fn damaged(d: desk::Desk, c: Ask) -> desk::Desk {
+    let e = damage(d, c.who, c.octet, c.number);
+    io::write_all(1, b"damaged");
+    write_state(e);
+    io::write_all(1, b"\n");
+    e
+}
+
+fn note(d: desk::Desk, words: &[u8]) -> desk::Desk {
+    io::write_all(1, b"# ");
+    io::write_all(1, words);
+    io::write_all(1, b"\n");
+    d
+}
+
+// The calls of the desk itself, and notes.
+fn call_desk(
+    groups: &[u32],
+    tracks: &[u32],
+    segments: &[u32],
+    text: &[u8],
+    d: desk::Desk,
+    c: Ask,
+    words: &[u8],
+) -> desk::Desk {
+    let kind = c.kind;
+    match kind {
+        1 => report_start(
+            console::start(groups, tracks, segments, text, words, c.number, c.octet),
+            d,
+        ),
+        2 => report(console::set_name(groups, tracks, segments, text, d, words)),
+        3 => report(console::activate(
+            groups,
+            tracks,
+            segments,
+            text,
+            d,
+            tables::GroupNo(c.number),
+        )),
+        4 => report(console::deactivate(groups, tracks, segments, text, d)),
+        5 => report(console::advance(groups, tracks, segments, text, d, c.number)),
+        _ => note(d, words),
+    }
+}
+
+// The calls of the clients, and damage.
+fn call_client(
+    groups: &[u32],
+    tracks: &[u32],
+    segments: &[u32],
+    text: &[u8],
+    d: desk::Desk,
+    c: Ask,
+    words: &[u8],
+) -> desk::Desk {
+    let kind = c.kind;
+    let characteristic = ground::wide_octet(c.octet);
+    match kind {
+        6 => report(clients::connect(
+            groups,
+            tracks,
+            segments,
+            text,
+            d,
+            c.who,
+            c.number,
+            c.octet != 0,
+        )),
+        7 => report(clients::disconnect(groups, tracks, segments, text, d, c.who)),
+        8 => report(clients::subscribe(groups, tracks, segments, text, d, c.who, characteristic)),
+        9 => report(clients::unsubscribe(groups, tracks, segments, text, d, c.who, characteristic)),
+        10 => read(groups, tracks, segments, text, d, c),
+        11 => report(exchange::write(
+            groups,
+            tracks,
+            segments,
+            text,
+            d,
+            c.who,
+            characteristic,
+            words,
+        )),
+        12 => take(groups, tracks, segments, text, d, c),
+        _ => damaged(d, c),
+    }
+}
+
+fn call(
+    groups: &[u32],
+    tracks: &[u32],
+    segments: &[u32],
+    text: &[u8],
+    d: desk::Desk,
+    c: Ask,
+    words: &[u8],
+) -> desk::Desk {
+    if c.kind < 6 {
+        return call_desk(groups, tracks, segments, text, d, c, words);
+    }
+    call_client(groups, tracks, segments, text, d, c, words)
+}
+
+fn call_over(catalogue: u8, d: desk::Desk, c: Ask, words: &[u8]) -> desk::Desk {
+    let text = b"\xC3\x9CberfahrtRastZiel";
+    match catalogue {
+        0 => call(&GROUPS, &TRACKS, &SEGMENTS, text, d, c, words),
+        1 => call(
+            &GROUPS,
+            &LONG_TRACKS,
+            &SEGMENTS,
+            b"Gespr\xC3\xA4ch \xC3\xBCber die \xC3\x9Cberfahrt, aufgenommen im Hafen, erste SpurGespr\xC3\xA4ch \xC3\xBCber die \xC3\x9Cberfahrt, aufgenommen im Hafen, erste Spur",
+            d,
+            c,
+            words,
+        ),
+        2 => call(&WRONG_GROUPS, &TRACKS, &SEGMENTS, text, d, c, words),
+        _ => call(&CUT_GROUPS, &TRACKS, &SEGMENTS, text, d, c, words),
+    }
+}
+
+// The length of the first frame's text.
+fn text_length(s: &[u8]) -> usize
+    ensures { λ r. ⌜ r < 256 ⌝ }
+{
+    ground::wide_word(ground::wide_octet(ground::octet_or_zero(s, 9)))
+}
+
+// Makes the call of the first frame.
+fn frame(s: &[u8], d: desk::Desk) -> desk::Desk {
+    if s.len() < 10 {
+        return d;
+    }
+    let catalogue = s[0];
+    let kind = s[1];
+    let who = ground::wide_octet(s[2]);
+    let octet = s[3];
+    let number = ground::word_at(s, 4);
+    let room = ground::wide_word(ground::wide_octet(s[8]));
+    let c = Ask {
+        kind: kind,
+        who: who,
+        octet: octet,
+        number: number,
+        room: room,
+    };
+    let words = front(rest(s, 10), text_length(s));
+    call_over(catalogue, d, c, words)
+}
+
+// What follows the first frame.
+fn behind(s: &[u8]) -> &[u8]
+    ensures { λ r. ⌜ length (now r) ≤ length (now (s .entry)) - 10 ⌝ }
+{
+    rest(s, 10 + text_length(s))
+}
+
+fn frames(s: &[u8]) {
+    let none: [u8; 0] = [];
+    let mut d = desk::fresh_desk(player::start(&none, 0, 0));
+    let mut left = s;
+    while 0 < left.len() {
+        d = frame(left, d);
+        let after = behind(left);
+        left = &after[0..];
+    }
+}
+
+fn main() {
+    let mut input = [0u8; 65536];
+    let n = io::read_full(0, &mut input);
+    frames(&input[..n]);
+}

@@ -1,0 +1,5 @@
+-- The laws that belong to no one function.
+pub mod Orders
+pub mod Laws
+pub mod Lent
+pub mod Settled
