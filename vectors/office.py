@@ -1702,6 +1702,37 @@ take('left 18 02 01')
 take('nothing')
 
 
+# "a value owed to it is handed out by the 40th answered take from when it fell due": here the left pedal's result comes with the 40th, and no sooner
+case('the fortieth take')
+start(b'A', ALL, 7, 'done', 'Inactive 3 0 0 | 0 0 0')
+for who in range(4):
+    connect(who, 23, ENCRYPTED, 'done')
+    for characteristic in SLOTS:
+        subscribe(who, characteristic, 'done')
+# The left pedal is served 18, so that both rounds go on behind it.
+control(LEFT, PLAY, 'Inactive 3 0 0 | 0 0 0', 'left 18')
+take('left 18 01 03')
+# Now all ten slots fall due to all four.
+set_name(b'B', 'done', 'left 1; right 1; headset 1; screen 1')
+activate(1, 'done', 'Paused 3 0 0 | 1 0 0', 'left 4 5 6 7 17; right 4 5 6 7 17; headset 4 5 6 7 17; screen 4 5 6 7 17')
+write(RIGHT, 8, [1], 'done', 'Paused 3 1 0 | 1 0 0', 'left 8; headset 8; screen 8')
+write(HEADSET, 8, [2], 'done', 'Paused 3 2 0 | 1 0 0', 'left 8; right 8; screen 8')
+write(RIGHT, 15, [4], 'done', 'Paused 4 2 0 | 1 0 0', 'left 15; headset 15; screen 15')
+write(HEADSET, 15, [5], 'done', 'Paused 5 2 0 | 1 0 0', 'left 15; right 15; screen 15')
+control(LEFT, FORWARD, 'Seeking 5 2 4 | 1 0 0', 'left 9 17 18; right 9 17; headset 9 17; screen 9 17')
+control(RIGHT, FORWARD, 'Seeking 5 2 8 | 1 0 0', 'left 9; right 9 18; headset 9; screen 9')
+control(HEADSET, FORWARD, 'Seeking 5 2 16 | 1 0 0', 'left 9; right 9; headset 9 18; screen 9')
+control(SCREEN, FORWARD, 'Seeking 5 2 32 | 1 0 0', 'left 9; right 9; headset 9; screen 9 18')
+seen(*['23: %s; %s; 1' % (EVERY, EVERY)] * 4)
+fortieth = []
+for served in ('1 42', '4', '5 c3 9c 62 65 72 66 61 68 72 74', '6 70 17 00 00', '7 00 00 00 00', '8 02', '9 20', '15 05', '17 03', '18 04 01'):
+    for who in ('right', 'headset', 'screen', 'left'):
+        take('%s %s' % (who, served))
+        fortieth.append((who, served.split()[0]))
+assert fortieth.index(('left', '18')) == 39
+take('nothing')
+
+
 # ---- Files
 
 def files():

@@ -1,0 +1,14 @@
+-- Demand 3.
+pub mod Fairness
+pub mod Serving
+pub mod LedgerLaws
+pub mod Accepted
+pub mod Likeness
+pub mod Agreement
+pub mod Steps
+pub mod Exchanges
+pub mod Taking
+pub mod Results
+pub mod Agree
+pub mod Order
+pub mod Demand3
