@@ -22,7 +22,7 @@ A comment in quotation marks is a sentence of document 01.
 import struct
 import sys
 
-from vector_files import write_or_compare
+from vector_files import write_or_compare_script
 
 # The catalogues of the program: document 01's sample; the same with long titles; one whose group 3 is its own parent; one whose groups end inside a
 # record.
@@ -1733,20 +1733,4 @@ assert fortieth.index(('left', '18')) == 39
 take('nothing')
 
 
-# ---- Files
-
-def files():
-    return {
-        'crates/office/stdin': b''.join(FRAMES),
-        'crates/office/stdout': ''.join(line + '\n' for line in LINES).encode('ascii'),
-    }
-
-
-def main(arguments):
-    differing = write_or_compare(__doc__, arguments, files())
-    print('cases: %d, calls: %d' % (CASES[0], len(LINES) - CASES[0]))
-    if differing:
-        sys.exit(1)
-
-
-main(sys.argv[1:])
+write_or_compare_script(__doc__, sys.argv[1:], 'office', FRAMES, LINES, CASES[0])

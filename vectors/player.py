@@ -16,7 +16,7 @@ A comment in quotation marks is a sentence of document 01.
 import struct
 import sys
 
-from vector_files import write_or_compare
+from vector_files import write_or_compare_script
 
 # The catalogues of the program: document 01's sample; one whose group 3 is its own parent; one whose groups end inside a record.
 SAMPLE, OWN_PARENT, CUT = 0, 1, 2
@@ -1128,20 +1128,4 @@ check('done', 'Paused 3 0 0 | 1 0 0')
 value(1, 'value 0', 'Paused 3 0 0 | 1 0 0')
 
 
-# ---- Files
-
-def files():
-    return {
-        'crates/cases/stdin': b''.join(FRAMES),
-        'crates/cases/stdout': ''.join(line + '\n' for line in LINES).encode('ascii'),
-    }
-
-
-def main(arguments):
-    differing = write_or_compare(__doc__, arguments, files())
-    print('cases: %d, calls: %d' % (CASES[0], len(LINES) - CASES[0]))
-    if differing:
-        sys.exit(1)
-
-
-main(sys.argv[1:])
+write_or_compare_script(__doc__, sys.argv[1:], 'cases', FRAMES, LINES, CASES[0])
