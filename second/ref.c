@@ -1,0 +1,1316 @@
+/* The desk player core, written along document 01. A comment in quotation marks is a sentence of document 01. */
+#include "ref.h"
+
+#include <string.h>
+
+enum {
+    CATALOGUE_WRONG = 200,
+    STATE_WRONG = 201,
+    CLIENT_OVER_3 = 202,
+    NOT_CONNECTED = 203,
+    ALREADY_CONNECTED = 204,
+    OUTPUT_SMALL = 205,
+    MTU_WRONG = 206,
+    NAME_WRONG = 207,
+    GROUP_WRONG = 208,
+    NO_SLOT = 209,
+    CARD_LENGTH = 210,
+    BLOCK_WRONG = 211,
+    NO_ROOM = 212,
+    ATT_NO_SUCH = 0x01,
+    ATT_NO_READ = 0x02,
+    ATT_NO_WRITE = 0x03,
+    ATT_OFFSET = 0x07,
+    ATT_LENGTH = 0x0D,
+    ATT_NOT_ENCRYPTED = 0x0F,
+    ATT_FULL = 0x11,
+    ATT_VALUE = 0x13,
+    ATT_CHANGED = 0x80
+};
+
+enum {
+    C_NAME = 1,
+    C_TRACK_CHANGED = 4,
+    C_TITLE = 5,
+    C_DURATION = 6,
+    C_POSITION = 7,
+    C_SPEED = 8,
+    C_SEEKING = 9,
+    C_ORDER = 15,
+    C_ORDERS = 16,
+    C_STATE = 17,
+    C_CONTROL = 18,
+    C_OPCODES = 19,
+    C_CCID = 22
+};
+
+/* "The ten slots 1, 4, 5, 6, 7, 8, 9, 15, 17, 18 may be subscribed to." */
+static const uint32_t SLOT[REF_SLOTS] = {1, 4, 5, 6, 7, 8, 9, 15, 17, 18};
+#define ALL_SLOTS 0x3FFu
+#define CONTROL_SLOT 9u
+#define NO_SUCH_SLOT 10u
+
+/* "1 name, 4 Track Changed, 5 title, ... 22 Content Control ID" */
+static const uint32_t THIRTEEN[13] = {1, 4, 5, 6, 7, 8, 9, 15, 16, 17, 18, 19, 22};
+
+#define VALUE_ROOM 128u
+#define LOWEST_MTU 23u
+#define HIGHEST_MTU 517u
+#define ALL_OPCODES 0x1FFFFFu
+
+/* ---- The catalogue */
+
+typedef struct {
+    const uint32_t *groups, *tracks, *segments;
+    const uint8_t *text;
+    uint32_t group_count, track_count, segment_count, text_count;
+} catalogue;
+
+/* "group = parent, first track, track count" */
+static uint32_t group_parent(const catalogue *c, uint32_t g) { return c->groups[3u * g]; }
+static uint32_t group_first(const catalogue *c, uint32_t g) { return c->groups[3u * g + 1u]; }
+static uint32_t group_tracks(const catalogue *c, uint32_t g) { return c->groups[3u * g + 2u]; }
+
+/* "track = duration, age stamp, first segment, segment count, title offset, title length" */
+static uint32_t track_duration(const catalogue *c, uint32_t t) { return c->tracks[6u * t]; }
+static uint32_t track_stamp(const catalogue *c, uint32_t t) { return c->tracks[6u * t + 1u]; }
+static uint32_t track_first(const catalogue *c, uint32_t t) { return c->tracks[6u * t + 2u]; }
+static uint32_t track_segments(const catalogue *c, uint32_t t) { return c->tracks[6u * t + 3u]; }
+static uint32_t track_title(const catalogue *c, uint32_t t) { return c->tracks[6u * t + 4u]; }
+static uint32_t track_title_len(const catalogue *c, uint32_t t) { return c->tracks[6u * t + 5u]; }
+
+/* "UTF-8 is RFC 3629": each character is decoded; overlong forms, surrogates and what lies above 10FFFF are none. */
+static int is_utf8(const uint8_t *s, size_t len)
+{
+    size_t at = 0;
+    while (at < len) {
+        uint32_t lead = s[at];
+        uint32_t code, least;
+        size_t more, k;
+        if (lead < 0x80u) {
+            at += 1;
+            continue;
+        }
+        if (lead >= 0xC0u && lead <= 0xDFu) {
+            more = 1;
+            code = lead & 0x1Fu;
+            least = 0x80u;
+        } else if (lead >= 0xE0u && lead <= 0xEFu) {
+            more = 2;
+            code = lead & 0x0Fu;
+            least = 0x800u;
+        } else if (lead >= 0xF0u && lead <= 0xF7u) {
+            more = 3;
+            code = lead & 0x07u;
+            least = 0x10000u;
+        } else {
+            return 0;
+        }
+        if (len - at <= more) {
+            return 0;
+        }
+        for (k = 1; k <= more; k++) {
+            uint32_t next = s[at + k];
+            if ((next & 0xC0u) != 0x80u) {
+                return 0;
+            }
+            code = (code << 6) | (next & 0x3Fu);
+        }
+        if (code < least || code > 0x10FFFFu || (code >= 0xD800u && code <= 0xDFFFu)) {
+            return 0;
+        }
+        at += 1 + more;
+    }
+    return 1;
+}
+
+static int catalogue_stands(const catalogue *c)
+{
+    uint32_t g, t, k, running;
+
+    /* "Group 0, if any, is its own parent; every other parent number is smaller than its child's." */
+    for (g = 0; g < c->group_count; g++) {
+        if (g == 0 ? group_parent(c, g) != 0 : group_parent(c, g) >= g) {
+            return 0;
+        }
+    }
+
+    /* "The groups' track runs follow each other from 0 in group order and use up all tracks" */
+    running = 0;
+    for (g = 0; g < c->group_count; g++) {
+        if (group_first(c, g) != running || group_tracks(c, g) > c->track_count - running) {
+            return 0;
+        }
+        running += group_tracks(c, g);
+    }
+    if (running != c->track_count) {
+        return 0;
+    }
+
+    /* "the tracks' segment runs likewise" */
+    running = 0;
+    for (t = 0; t < c->track_count; t++) {
+        if (track_first(c, t) != running || track_segments(c, t) > c->segment_count - running) {
+            return 0;
+        }
+        running += track_segments(c, t);
+    }
+    if (running != c->segment_count) {
+        return 0;
+    }
+
+    for (t = 0; t < c->track_count; t++) {
+        /* "Duration is 0 to 8,640,000 hundredths of a second." */
+        if (track_duration(c, t) > 8640000u) {
+            return 0;
+        }
+        /* "Segment starts begin at 0, rise strictly and lie below the duration." */
+        for (k = 0; k < track_segments(c, t); k++) {
+            uint32_t at = c->segments[track_first(c, t) + k];
+            if (k == 0 ? at != 0 : at <= c->segments[track_first(c, t) + k - 1u]) {
+                return 0;
+            }
+            if (at >= track_duration(c, t)) {
+                return 0;
+            }
+        }
+        /* "Titles, also empty ones, lie in the text, have at most 128 octets and are UTF-8." */
+        if (track_title(c, t) > c->text_count || track_title_len(c, t) > c->text_count - track_title(c, t)) {
+            return 0;
+        }
+        if (track_title_len(c, t) > 128u) {
+            return 0;
+        }
+        if (track_title_len(c, t) > 0u && !is_utf8(c->text + track_title(c, t), track_title_len(c, t))) {
+            return 0;
+        }
+    }
+    return 1;
+}
+
+/* Refusal 200: "a catalogue rule above fails, or a lent table ends inside a record" */
+static int lend(catalogue *c, REF_CATALOGUE)
+{
+    if (groups_len % 3u != 0 || tracks_len % 6u != 0) {
+        return 0;
+    }
+    /* "At most 64 groups, 256 tracks, 1,024 segments, 32,768 text octets." */
+    if (groups_len / 3u > 64u || tracks_len / 6u > 256u || segments_len > 1024u || text_len > 32768u) {
+        return 0;
+    }
+    c->groups = groups;
+    c->tracks = tracks;
+    c->segments = segments;
+    c->text = text;
+    c->group_count = (uint32_t)(groups_len / 3u);
+    c->track_count = (uint32_t)(tracks_len / 6u);
+    c->segment_count = (uint32_t)segments_len;
+    c->text_count = (uint32_t)text_len;
+    return catalogue_stands(c);
+}
+
+#define LEND(c) lend(&(c), groups, groups_len, tracks, tracks_len, segments, segments_len, text, text_len)
+
+/* ---- The card */
+
+static uint32_t octets_16(const uint8_t *p) { return (uint32_t)p[0] | ((uint32_t)p[1] << 8); }
+
+static uint32_t octets_32(const uint8_t *p)
+{
+    return (uint32_t)p[0] | ((uint32_t)p[1] << 8) | ((uint32_t)p[2] << 16) | ((uint32_t)p[3] << 24);
+}
+
+/* "1 up to 42, 21, 126 or 505 by kind" */
+static const uint32_t MOST_RECORDS[5] = {0, 42, 21, 126, 505};
+/* Octets of a record by kind. */
+static const uint32_t RECORD_OCTETS[5] = {0, 12, 24, 4, 1};
+
+static int block_stands(const uint8_t *block, uint32_t number, uint32_t kind_before)
+{
+    uint32_t kind = block[2], count = octets_16(block + 3), k;
+    uint64_t sum = 0, sum_of_sums = 0;
+
+    /* "Bytes 0–1 block number from 0; 2 kind (1 group, 2 track, 3 segment, 4 text), never falling" */
+    if (octets_16(block) != number || kind < 1 || kind > 4 || kind < kind_before) {
+        return 0;
+    }
+    /* "3–4 record count" */
+    if (count < 1 || count > MOST_RECORDS[kind]) {
+        return 0;
+    }
+    /* "then the records; zeros up to byte 509" */
+    for (k = 5u + count * RECORD_OCTETS[kind]; k <= 509u; k++) {
+        if (block[k] != 0) {
+            return 0;
+        }
+    }
+    /* "Byte 510 is the sum of bytes 0 to 509 modulo 255; byte 511 is the sum of the 510 running sums modulo 255." */
+    for (k = 0; k <= 509u; k++) {
+        sum += block[k];
+        sum_of_sums += sum;
+    }
+    return block[510] == sum % 255u && block[511] == sum_of_sums % 255u;
+}
+
+uint32_t ref_card_load(const uint8_t *card, size_t card_len, uint32_t *groups, size_t groups_len, uint32_t *tracks,
+                       size_t tracks_len, uint32_t *segments, size_t segments_len, uint8_t *text, size_t text_len,
+                       uint32_t counts[4])
+{
+    uint32_t total[5] = {0, 0, 0, 0, 0};
+    uint32_t blocks, number, kind_before = 0, k;
+    uint32_t *words[4];
+
+    /* "card length no multiple of 512, or over 65,536" */
+    if (card_len % 512u != 0 || card_len > 65536u) {
+        return CARD_LENGTH;
+    }
+    blocks = (uint32_t)(card_len / 512u);
+    for (number = 0; number < blocks; number++) {
+        const uint8_t *block = card + 512u * number;
+        if (!block_stands(block, number, kind_before)) {
+            return BLOCK_WRONG;
+        }
+        kind_before = block[2];
+        total[kind_before] += octets_16(block + 3);
+    }
+    /* "a limit or a lent table's room is exceeded" */
+    if (total[1] > 64u || total[2] > 256u || total[3] > 1024u || total[4] > 32768u) {
+        return NO_ROOM;
+    }
+    if (total[1] > groups_len / 3u || total[2] > tracks_len / 6u || total[3] > segments_len || total[4] > text_len) {
+        return NO_ROOM;
+    }
+    /* "on success fills the front of each table and gives the counts" */
+    words[1] = groups;
+    words[2] = tracks;
+    words[3] = segments;
+    for (number = 0; number < blocks; number++) {
+        const uint8_t *block = card + 512u * number;
+        uint32_t kind = block[2];
+        uint32_t octets = octets_16(block + 3) * RECORD_OCTETS[kind];
+        if (kind == 4u) {
+            for (k = 0; k < octets; k++) {
+                *text++ = block[5u + k];
+            }
+        } else {
+            for (k = 0; k < octets; k += 4u) {
+                *words[kind]++ = octets_32(block + 5u + k);
+            }
+        }
+    }
+    for (k = 0; k < 4u; k++) {
+        counts[k] = total[k + 1u];
+    }
+    return 0;
+}
+
+/* ---- The player */
+
+/* The tracks of the order, in its order; how many. `current` is the current track, for orders 1 and 2. */
+static uint32_t order_list(const catalogue *c, uint32_t order, uint32_t group, uint32_t current, uint32_t list[256])
+{
+    uint32_t count = group_tracks(c, group), k, j;
+
+    /* "1, 2 the current track alone" */
+    if (order <= 2u) {
+        list[0] = current;
+        return 1;
+    }
+    /* "3, 4 by number; 5, 6 by rising stamp; 7, 8 by falling stamp; ties by lower number in all." Each track is put
+     * behind those that it does not come before, so that equal ones stay as they were: by number. */
+    for (k = 0; k < count; k++) {
+        uint32_t track = group_first(c, group) + k;
+        for (j = k; j > 0; j--) {
+            uint32_t other = track_stamp(c, list[j - 1u]);
+            int before = order <= 4u ? 0 : order <= 6u ? track_stamp(c, track) < other : track_stamp(c, track) > other;
+            if (!before) {
+                break;
+            }
+            list[j] = list[j - 1u];
+        }
+        list[j] = track;
+    }
+    return count;
+}
+
+/* "Activate: the group's first track in the order" and, of orders 1 and 2, "when a group is activated or moved to, its
+ * lowest track comes first". */
+static void enter_group(const catalogue *c, ref_state *s, uint32_t group)
+{
+    uint32_t list[256];
+    (void)order_list(c, s->order, group, group_first(c, group), list);
+    s->group = group;
+    s->track = list[0];
+    s->position = 0;
+}
+
+/* "Inactive exactly when there is no current track"; group, track and position are then those of start. */
+static void leave_group(ref_state *s)
+{
+    s->media = REF_INACTIVE;
+    s->seeking = 0;
+    s->group = 0;
+    s->track = 0;
+    s->position = 0;
+}
+
+static void set_media(ref_state *s, uint8_t media)
+{
+    /* "Outside Seeking the speed is 0." */
+    s->media = media;
+    s->seeking = 0;
+}
+
+static uint32_t held(int64_t to, uint32_t most)
+{
+    if (to < 0) {
+        return 0;
+    }
+    return to > (int64_t)most ? most : (uint32_t)to;
+}
+
+/* Two's complement. */
+static int64_t signed_32(uint32_t word)
+{
+    return word >= 0x80000000u ? (int64_t)word - 4294967296 : (int64_t)word;
+}
+
+enum { PREVIOUS, NEXT, FIRST, LAST, GOTO };
+
+/* Where a move of a track or a group leads in a list of `count`, or `count` where it cannot be made. */
+static uint32_t list_move(uint32_t count, uint32_t at, int repeats, int move, int64_t n)
+{
+    uint64_t steps;
+
+    switch (move) {
+    case PREVIOUS:
+        /* "the neighbour; past an end, the other end in a repeat order, else result 4" */
+        return at > 0 ? at - 1u : repeats ? count - 1u : count;
+    case NEXT:
+        return at + 1u < count ? at + 1u : repeats ? 0 : count;
+    case FIRST:
+        return 0;
+    case LAST:
+        return count - 1u;
+    default:
+        break;
+    }
+    /* "0 keeps the track", "0 keeps the group" */
+    if (n == 0) {
+        return at;
+    }
+    /* "Goto Track is First or Last and then steps, as for segments, not walked; if one step cannot be made, result 4
+     * for the whole." |n| − 1 steps away from that end; `count` of them, one way, come back to where they began. */
+    steps = (uint64_t)(n > 0 ? n : -n) - 1u;
+    if (steps >= count) {
+        if (!repeats) {
+            return count;
+        }
+        steps = steps % count;
+    }
+    return n > 0 ? (uint32_t)steps : count - 1u - (uint32_t)steps;
+}
+
+static int track_move(const catalogue *c, ref_state *s, int move, int64_t n)
+{
+    uint32_t list[256];
+    uint32_t count = order_list(c, s->order, s->group, s->track, list), at = 0, to;
+
+    while (list[at] != s->track) {
+        at++;
+    }
+    /* "Odd is once, even repeats." */
+    to = list_move(count, at, s->order % 2u == 0, move, n);
+    if (to == count) {
+        return 0;
+    }
+    s->track = list[to];
+    /* "Position becomes 0." */
+    s->position = 0;
+    return 1;
+}
+
+static int group_move(const catalogue *c, ref_state *s, int move, int64_t n)
+{
+    uint32_t list[64];
+    uint32_t count = 0, at = 0, to, g;
+
+    /* "Group moves run over the groups of the same parent that have tracks, group 0 left out; for group 0 over itself
+     * alone." */
+    if (s->group == 0) {
+        list[count++] = 0;
+    } else {
+        for (g = 1; g < c->group_count; g++) {
+            if (group_parent(c, g) == group_parent(c, s->group) && group_tracks(c, g) > 0) {
+                list[count++] = g;
+            }
+        }
+    }
+    while (list[at] != s->group) {
+        at++;
+    }
+    /* "No repeat; Goto as above, 0 keeps the group. Then the group's first track, position 0." */
+    to = list_move(count, at, 0, move, n);
+    if (to == count) {
+        return 0;
+    }
+    enter_group(c, s, list[to]);
+    return 1;
+}
+
+static void segment_move(const catalogue *c, ref_state *s, int move, int64_t n)
+{
+    static const uint32_t WHOLE[1] = {0};
+    const uint32_t *starts;
+    uint32_t count = track_segments(c, s->track), duration = track_duration(c, s->track), k;
+    uint64_t steps;
+
+    /* "A track without segments is one segment from 0." */
+    if (count == 0) {
+        starts = WHOLE;
+        count = 1;
+    } else {
+        starts = c->segments + track_first(c, s->track);
+    }
+    switch (move) {
+    case PREVIOUS: {
+        /* "Previous Segment: the greatest start below the position, or 0." */
+        uint32_t to = 0;
+        for (k = 0; k < count; k++) {
+            if (starts[k] < s->position) {
+                to = starts[k];
+            }
+        }
+        s->position = to;
+        return;
+    }
+    case NEXT: {
+        /* "Next: the least start above it, or D." */
+        uint32_t to = duration;
+        for (k = count; k > 0; k--) {
+            if (starts[k - 1u] > s->position) {
+                to = starts[k - 1u];
+            }
+        }
+        s->position = to;
+        return;
+    }
+    case FIRST:
+        s->position = starts[0];
+        return;
+    case LAST:
+        s->position = starts[count - 1u];
+        return;
+    default:
+        break;
+    }
+    /* "Goto n > 0: First, then Next n − 1 times; n < 0: Last, then Previous |n| − 1 times; 0: nothing moves." From one
+     * start each step leads to the neighbouring one; beyond the last start it is D and stays so, beyond the first 0. */
+    if (n == 0) {
+        return;
+    }
+    steps = (uint64_t)(n > 0 ? n : -n) - 1u;
+    if (n > 0) {
+        s->position = steps < count ? starts[steps] : duration;
+    } else {
+        s->position = steps < count ? starts[count - 1u - (uint32_t)steps] : 0;
+    }
+}
+
+/* "Seeking speed rungs: −32, −16, −8, −4, 4, 8, 16, 32." */
+static const int8_t RUNG[8] = {-32, -16, -8, -4, 4, 8, 16, 32};
+
+static int is_rung(int8_t speed)
+{
+    uint32_t k;
+    for (k = 0; k < 8u; k++) {
+        if (RUNG[k] == speed) {
+            return 1;
+        }
+    }
+    return 0;
+}
+
+/* "Fast Forward enters Seeking at 4, Rewind at −4; while Seeking one rung up or down, staying at the end rung." */
+static void seek(ref_state *s, int up)
+{
+    uint32_t k = 0;
+    if (s->media != REF_SEEKING) {
+        s->media = REF_SEEKING;
+        s->seeking = up ? 4 : -4;
+        return;
+    }
+    while (RUNG[k] != s->seeking) {
+        k++;
+    }
+    if (up) {
+        s->seeking = RUNG[k < 7u ? k + 1u : k];
+    } else {
+        s->seeking = RUNG[k > 0u ? k - 1u : k];
+    }
+}
+
+/* The opcodes with "mask bit in brackets", or 32 for one that is unknown. */
+static uint32_t mask_bit(uint8_t opcode)
+{
+    /* "0x01 Play (0), 0x02 Pause (1), 0x03 Fast Rewind (2), 0x04 Fast Forward (3), 0x05 Stop (4), 0x10 Move Relative
+     * (5), 0x20–0x24 Previous, Next, First, Last, Goto Segment (6–10), 0x30–0x34 the same of Track (11–15), 0x40–0x44
+     * of Group (16–20)." */
+    static const uint8_t KNOWN[21] = {0x01, 0x02, 0x03, 0x04, 0x05, 0x10, 0x20, 0x21, 0x22, 0x23, 0x24,
+                                      0x30, 0x31, 0x32, 0x33, 0x34, 0x40, 0x41, 0x42, 0x43, 0x44};
+    uint32_t k;
+    for (k = 0; k < 21u; k++) {
+        if (KNOWN[k] == opcode) {
+            return k;
+        }
+    }
+    return 32u;
+}
+
+/* "0x10, 0x24, 0x34, 0x44 carry a signed 32-bit number." */
+static int carries_number(uint8_t opcode)
+{
+    return opcode == 0x10 || opcode == 0x24 || opcode == 0x34 || opcode == 0x44;
+}
+
+/* The result code: "1 Success; 2 opcode unknown or not in the mask; 3 Inactive; 4 cannot be completed. First that
+ * applies: 2, 3, 4, 1. After 2, 3, 4 the player is as before." */
+static uint8_t control(const catalogue *c, ref_state *s, uint8_t opcode, int64_t n)
+{
+    uint32_t bit = mask_bit(opcode);
+    int made = 1;
+
+    /* "Higher mask bits count as 0." */
+    if (bit == 32u || ((s->mask & ALL_OPCODES) >> bit & 1u) == 0) {
+        return 2;
+    }
+    if (s->media == REF_INACTIVE) {
+        return 3;
+    }
+    switch (opcode) {
+    case 0x01:
+        /* "Play gives Playing, Pause Paused, Stop Paused at 0." */
+        set_media(s, REF_PLAYING);
+        break;
+    case 0x02:
+        set_media(s, REF_PAUSED);
+        break;
+    case 0x03:
+        seek(s, 0);
+        break;
+    case 0x04:
+        seek(s, 1);
+        break;
+    case 0x05:
+        set_media(s, REF_PAUSED);
+        s->position = 0;
+        break;
+    case 0x10:
+        /* "Move Relative: the sum, held to 0..D." "Segment moves and Move Relative keep the state." */
+        s->position = held((int64_t)s->position + n, track_duration(c, s->track));
+        break;
+    case 0x20:
+    case 0x21:
+    case 0x22:
+    case 0x23:
+    case 0x24:
+        segment_move(c, s, opcode - 0x20, n);
+        break;
+    default:
+        made = opcode < 0x40 ? track_move(c, s, opcode - 0x30, n) : group_move(c, s, opcode - 0x40, n);
+        if (!made) {
+            return 4;
+        }
+        /* "Track and group moves turn Seeking into Playing." */
+        if (s->media == REF_SEEKING) {
+            set_media(s, REF_PLAYING);
+        }
+        break;
+    }
+    return 1;
+}
+
+/* "Position write: v ≥ 0 gives the lesser of v and D; v < 0 gives D + v, not below 0. While Inactive the write is taken
+ * and alters nothing." */
+static void write_position(const catalogue *c, ref_state *s, int64_t v)
+{
+    uint32_t duration;
+    if (s->media == REF_INACTIVE) {
+        return;
+    }
+    duration = track_duration(c, s->track);
+    s->position = held(v >= 0 ? v : (int64_t)duration + v, duration);
+}
+
+/* ---- Values */
+
+static uint32_t put_32(uint8_t *out, uint32_t word)
+{
+    out[0] = (uint8_t)(word & 0xFFu);
+    out[1] = (uint8_t)(word >> 8 & 0xFFu);
+    out[2] = (uint8_t)(word >> 16 & 0xFFu);
+    out[3] = (uint8_t)(word >> 24);
+    return 4;
+}
+
+/* "Values: 1 and 5 text; 4 empty; 6, 7, 19 four octets; 16 two; 18 two; the rest one." The length; 18 has no value apart
+ * from its results and comes out empty here. */
+static uint32_t value_of(const catalogue *c, const ref_state *s, uint32_t characteristic, uint8_t out[VALUE_ROOM])
+{
+    int inactive = s->media == REF_INACTIVE;
+
+    switch (characteristic) {
+    case C_NAME:
+        memcpy(out, s->name, s->name_len);
+        return s->name_len;
+    case C_TITLE:
+        /* "title is then empty, duration and position read −1" */
+        if (inactive || track_title_len(c, s->track) == 0) {
+            return 0;
+        }
+        memcpy(out, c->text + track_title(c, s->track), track_title_len(c, s->track));
+        return track_title_len(c, s->track);
+    case C_DURATION:
+        return put_32(out, inactive ? 0xFFFFFFFFu : track_duration(c, s->track));
+    case C_POSITION:
+        return put_32(out, inactive ? 0xFFFFFFFFu : s->position);
+    case C_SPEED:
+        out[0] = (uint8_t)s->speed;
+        return 1;
+    case C_SEEKING:
+        out[0] = (uint8_t)s->seeking;
+        return 1;
+    case C_ORDER:
+        out[0] = s->order;
+        return 1;
+    case C_ORDERS:
+        /* "Orders supported reads 0x00FF." */
+        out[0] = 0xFF;
+        out[1] = 0x00;
+        return 2;
+    case C_STATE:
+        out[0] = s->media;
+        return 1;
+    case C_OPCODES:
+        return put_32(out, s->mask & ALL_OPCODES);
+    case C_CCID:
+        out[0] = s->ccid;
+        return 1;
+    default:
+        return 0;
+    }
+}
+
+static int is_characteristic(uint32_t characteristic)
+{
+    uint32_t k;
+    for (k = 0; k < 13u; k++) {
+        if (THIRTEEN[k] == characteristic) {
+            return 1;
+        }
+    }
+    return 0;
+}
+
+/* "All but 4 and 18 may be read; 7, 8, 15, 18 may be written." */
+static int may_be_read(uint32_t characteristic)
+{
+    return is_characteristic(characteristic) && characteristic != C_TRACK_CHANGED && characteristic != C_CONTROL;
+}
+
+static int may_be_written(uint32_t characteristic)
+{
+    return characteristic == C_POSITION || characteristic == C_SPEED || characteristic == C_ORDER ||
+           characteristic == C_CONTROL;
+}
+
+static uint32_t slot_of(uint32_t characteristic)
+{
+    uint32_t k;
+    for (k = 0; k < REF_SLOTS; k++) {
+        if (SLOT[k] == characteristic) {
+            return k;
+        }
+    }
+    return NO_SUCH_SLOT;
+}
+
+/* ---- The state: 201 */
+
+static void start_record(ref_client *r)
+{
+    memset(r, 0, sizeof *r);
+    r->mtu = LOWEST_MTU;
+    r->mark = REF_SLOTS - 1u;
+}
+
+static int player_stands(const catalogue *c, const ref_state *s)
+{
+    /* "its name breaks 207" */
+    if (s->name_len > REF_NAME_ROOM || !is_utf8(s->name, s->name_len)) {
+        return 0;
+    }
+    if (s->order < 1 || s->order > 8 || s->media > REF_SEEKING) {
+        return 0;
+    }
+    /* "Outside Seeking the speed is 0." */
+    if (s->media == REF_SEEKING ? !is_rung(s->seeking) : s->seeking != 0) {
+        return 0;
+    }
+    /* "Inactive exactly when there is no current track" */
+    if (s->media == REF_INACTIVE) {
+        return s->group == 0 && s->track == 0 && s->position == 0;
+    }
+    if (s->group >= c->group_count || s->track < group_first(c, s->group) ||
+        s->track - group_first(c, s->group) >= group_tracks(c, s->group)) {
+        return 0;
+    }
+    /* "Otherwise the position is 0 to the duration, D." */
+    return s->position <= track_duration(c, s->track);
+}
+
+static int record_stands(const ref_client *r)
+{
+    uint32_t k;
+
+    if (r->connected > 1 || r->encrypted > 1) {
+        return 0;
+    }
+    /* "unconnected and not start's"; the results behind those that wait are dead. */
+    if (!r->connected) {
+        return !r->encrypted && r->mtu == LOWEST_MTU && r->subscribed == 0 && r->owed == 0 && r->fresh == 0 &&
+               r->mark == REF_SLOTS - 1u && r->waiting == 0;
+    }
+    /* "connected with over 8 results or a result code not 1..4" */
+    if (r->waiting > REF_RESULTS) {
+        return 0;
+    }
+    for (k = 0; k < r->waiting; k++) {
+        if (r->results[k].code < 1 || r->results[k].code > 4) {
+            return 0;
+        }
+    }
+    /* Bits outside the ten slots, and of what may not be read. */
+    if ((r->subscribed & ~ALL_SLOTS) != 0 || (r->owed & ~ALL_SLOTS) != 0) {
+        return 0;
+    }
+    for (k = 0; k < 32u; k++) {
+        if ((r->fresh >> k & 1u) != 0 && !may_be_read(k)) {
+            return 0;
+        }
+    }
+    /* "a slot owed but not subscribed, 18 owed otherwise than when results wait" */
+    if ((r->owed & ~r->subscribed) != 0 || (r->owed >> CONTROL_SLOT & 1u) != (r->waiting > 0 ? 1u : 0u)) {
+        return 0;
+    }
+    /* "an ATT_MTU against 206, a round mark out of range, a subscription while unencrypted" */
+    if (r->mtu < LOWEST_MTU || r->mtu > HIGHEST_MTU || r->mark >= REF_SLOTS) {
+        return 0;
+    }
+    return r->encrypted || r->subscribed == 0;
+}
+
+static int state_stands(const catalogue *c, const ref_state *s)
+{
+    uint32_t k;
+    if (!player_stands(c, s) || s->turn >= REF_CLIENTS) {
+        return 0;
+    }
+    for (k = 0; k < REF_CLIENTS; k++) {
+        if (!record_stands(&s->clients[k])) {
+            return 0;
+        }
+    }
+    return 1;
+}
+
+/* ---- What is owed */
+
+#define NO_CLIENT REF_CLIENTS
+
+/* The values before the call are those of `before`, after it those of `s`. `writer` is who wrote 8 or 15, or nobody;
+ * `quiet` says that it was "an advance in Playing" that "stays below D". */
+static void make_owed(const catalogue *c, const ref_state *before, ref_state *s, uint32_t writer, int quiet)
+{
+    uint8_t was[VALUE_ROOM], is[VALUE_ROOM];
+    uint32_t k, j;
+    int track_changed = before->media == REF_INACTIVE ? s->media != REF_INACTIVE
+                                                      : s->media == REF_INACTIVE || s->track != before->track;
+
+    for (k = 0; k < 13u; k++) {
+        uint32_t characteristic = THIRTEEN[k], slot = slot_of(characteristic);
+        uint32_t was_len, is_len;
+        int changed, owed;
+
+        if (characteristic == C_CONTROL) {
+            continue; /* owed by its results */
+        }
+        was_len = value_of(c, before, characteristic, was);
+        is_len = value_of(c, s, characteristic, is);
+        /* "A slot is owed to a subscribed client when a call changes its value." */
+        changed = was_len != is_len || memcmp(was, is, is_len) != 0;
+        owed = changed;
+        /* "Not owed: 7 when an advance in Playing stays below D" */
+        if (characteristic == C_POSITION && quiet) {
+            owed = 0;
+        }
+        /* "Added: 4 and 7 whenever the track number changes, to or from none too." */
+        if ((characteristic == C_TRACK_CHANGED || characteristic == C_POSITION) && track_changed) {
+            owed = 1;
+        }
+        for (j = 0; j < REF_CLIENTS; j++) {
+            ref_client *r = &s->clients[j];
+            if (!r->connected) {
+                continue;
+            }
+            /* 0x80: "some call changed the value (even if changed back)" */
+            if (changed) {
+                r->fresh &= ~(1u << characteristic);
+            }
+            /* "8 and 15 to the client that wrote them"; "What is already owed stays owed" */
+            if ((characteristic == C_SPEED || characteristic == C_ORDER) && j == writer) {
+                continue;
+            }
+            if (owed && slot != NO_SUCH_SLOT && (r->subscribed >> slot & 1u) != 0) {
+                r->owed |= 1u << slot;
+            }
+        }
+    }
+}
+
+/* ---- The calls */
+
+uint32_t ref_start(REF_CATALOGUE, const uint8_t *name, size_t name_len, uint32_t mask, uint8_t ccid, ref_state *state)
+{
+    catalogue c;
+    uint32_t k;
+
+    if (!LEND(c)) {
+        return CATALOGUE_WRONG;
+    }
+    if (name_len > REF_NAME_ROOM || !is_utf8(name, name_len)) {
+        return NAME_WRONG;
+    }
+    /* "Start leaves Inactive, order 3, speed 0" */
+    memset(state, 0, sizeof *state);
+    if (name_len > 0) {
+        memcpy(state->name, name, name_len);
+    }
+    state->name_len = (uint32_t)name_len;
+    state->mask = mask;
+    state->ccid = ccid;
+    state->order = 3;
+    leave_group(state);
+    for (k = 0; k < REF_CLIENTS; k++) {
+        start_record(&state->clients[k]);
+    }
+    /* "After start the round of clients begins at 0" */
+    state->turn = REF_CLIENTS - 1u;
+    return 0;
+}
+
+uint32_t ref_set_name(REF_CATALOGUE, ref_state *state, const uint8_t *name, size_t name_len)
+{
+    catalogue c;
+    ref_state before;
+
+    if (!LEND(c)) {
+        return CATALOGUE_WRONG;
+    }
+    if (!state_stands(&c, state)) {
+        return STATE_WRONG;
+    }
+    if (name_len > REF_NAME_ROOM || !is_utf8(name, name_len)) {
+        return NAME_WRONG;
+    }
+    before = *state;
+    memset(state->name, 0, sizeof state->name);
+    if (name_len > 0) {
+        memcpy(state->name, name, name_len);
+    }
+    state->name_len = (uint32_t)name_len;
+    make_owed(&c, &before, state, NO_CLIENT, 0);
+    return 0;
+}
+
+uint32_t ref_activate(REF_CATALOGUE, ref_state *state, uint32_t group)
+{
+    catalogue c;
+    ref_state before;
+
+    if (!LEND(c)) {
+        return CATALOGUE_WRONG;
+    }
+    if (!state_stands(&c, state)) {
+        return STATE_WRONG;
+    }
+    /* "group absent or without tracks" */
+    if (group >= c.group_count || group_tracks(&c, group) == 0) {
+        return GROUP_WRONG;
+    }
+    before = *state;
+    /* "Activate: the group's first track in the order, position 0, Paused, seeking speed 0." */
+    enter_group(&c, state, group);
+    set_media(state, REF_PAUSED);
+    make_owed(&c, &before, state, NO_CLIENT, 0);
+    return 0;
+}
+
+uint32_t ref_deactivate(REF_CATALOGUE, ref_state *state)
+{
+    catalogue c;
+    ref_state before;
+
+    if (!LEND(c)) {
+        return CATALOGUE_WRONG;
+    }
+    if (!state_stands(&c, state)) {
+        return STATE_WRONG;
+    }
+    before = *state;
+    /* "Deactivate leaves Inactive, order and playback speed kept." */
+    leave_group(state);
+    make_owed(&c, &before, state, NO_CLIENT, 0);
+    return 0;
+}
+
+uint32_t ref_advance(REF_CATALOGUE, ref_state *state, uint32_t d)
+{
+    catalogue c;
+    ref_state before;
+    int quiet = 0;
+
+    if (!LEND(c)) {
+        return CATALOGUE_WRONG;
+    }
+    if (!state_stands(&c, state)) {
+        return STATE_WRONG;
+    }
+    before = *state;
+    if (state->media == REF_PLAYING) {
+        /* "Playing adds d; at D or beyond, the next track at 0, or, where none, Paused at D. One move per call." */
+        uint64_t to = (uint64_t)state->position + d;
+        uint32_t duration = track_duration(&c, state->track);
+        if (to < duration) {
+            state->position = (uint32_t)to;
+            quiet = 1;
+        } else if (!track_move(&c, state, NEXT, 0)) {
+            set_media(state, REF_PAUSED);
+            state->position = duration;
+        }
+    } else if (state->media == REF_SEEKING) {
+        /* "Seeking adds d times the seeking speed, held to 0..D." */
+        state->position =
+            held((int64_t)state->position + (int64_t)d * state->seeking, track_duration(&c, state->track));
+    }
+    make_owed(&c, &before, state, NO_CLIENT, quiet);
+    return 0;
+}
+
+uint32_t ref_connect(REF_CATALOGUE, ref_state *state, uint32_t client, uint32_t mtu, uint8_t encrypted)
+{
+    catalogue c;
+    ref_client *r;
+
+    if (!LEND(c)) {
+        return CATALOGUE_WRONG;
+    }
+    if (!state_stands(&c, state)) {
+        return STATE_WRONG;
+    }
+    if (client >= REF_CLIENTS) {
+        return CLIENT_OVER_3;
+    }
+    r = &state->clients[client];
+    if (r->connected) {
+        return ALREADY_CONNECTED;
+    }
+    if (mtu < LOWEST_MTU || mtu > HIGHEST_MTU) {
+        return MTU_WRONG;
+    }
+    /* "connect sets only that client's slot round to the lowest" */
+    start_record(r);
+    r->connected = 1;
+    r->encrypted = encrypted != 0;
+    r->mtu = mtu;
+    return 0;
+}
+
+/* The rows 200, 201, 202, 203, which five calls have in common. */
+static uint32_t common_rows(const catalogue *c, const ref_state *state, uint32_t client)
+{
+    if (!state_stands(c, state)) {
+        return STATE_WRONG;
+    }
+    if (client >= REF_CLIENTS) {
+        return CLIENT_OVER_3;
+    }
+    if (!state->clients[client].connected) {
+        return NOT_CONNECTED;
+    }
+    return 0;
+}
+
+uint32_t ref_disconnect(REF_CATALOGUE, ref_state *state, uint32_t client)
+{
+    catalogue c;
+    uint32_t refusal;
+
+    if (!LEND(c)) {
+        return CATALOGUE_WRONG;
+    }
+    refusal = common_rows(&c, state, client);
+    if (refusal != 0) {
+        return refusal;
+    }
+    /* "disconnecting gives start's record" */
+    start_record(&state->clients[client]);
+    return 0;
+}
+
+static uint32_t subscription_rows(const catalogue *c, const ref_state *state, uint32_t client, uint32_t characteristic)
+{
+    uint32_t refusal = common_rows(c, state, client);
+    if (refusal != 0) {
+        return refusal;
+    }
+    if (!is_characteristic(characteristic)) {
+        return ATT_NO_SUCH;
+    }
+    if (slot_of(characteristic) == NO_SUCH_SLOT) {
+        return NO_SLOT;
+    }
+    return state->clients[client].encrypted ? 0 : ATT_NOT_ENCRYPTED;
+}
+
+uint32_t ref_subscribe(REF_CATALOGUE, ref_state *state, uint32_t client, uint32_t characteristic)
+{
+    catalogue c;
+    uint32_t refusal;
+
+    if (!LEND(c)) {
+        return CATALOGUE_WRONG;
+    }
+    refusal = subscription_rows(&c, state, client, characteristic);
+    if (refusal != 0) {
+        return refusal;
+    }
+    /* "subscribing twice changes nothing" */
+    state->clients[client].subscribed |= 1u << slot_of(characteristic);
+    return 0;
+}
+
+uint32_t ref_unsubscribe(REF_CATALOGUE, ref_state *state, uint32_t client, uint32_t characteristic)
+{
+    catalogue c;
+    uint32_t refusal, bit;
+    ref_client *r;
+
+    if (!LEND(c)) {
+        return CATALOGUE_WRONG;
+    }
+    refusal = subscription_rows(&c, state, client, characteristic);
+    if (refusal != 0) {
+        return refusal;
+    }
+    /* "Unsubscribing drops what the slot owes" */
+    r = &state->clients[client];
+    bit = 1u << slot_of(characteristic);
+    r->subscribed &= ~bit;
+    r->owed &= ~bit;
+    if (characteristic == C_CONTROL) {
+        r->waiting = 0;
+    }
+    return 0;
+}
+
+uint32_t ref_read(REF_CATALOGUE, ref_state *state, uint32_t client, uint32_t characteristic, uint32_t offset,
+                  uint8_t *out, size_t out_len, uint32_t *length)
+{
+    catalogue c;
+    uint32_t refusal, len, part;
+    uint8_t value[VALUE_ROOM];
+    ref_client *r;
+
+    if (!LEND(c)) {
+        return CATALOGUE_WRONG;
+    }
+    /* "the lent output of a read or take is under 128 octets" */
+    if (out_len < VALUE_ROOM) {
+        return OUTPUT_SMALL;
+    }
+    refusal = common_rows(&c, state, client);
+    if (refusal != 0) {
+        return refusal;
+    }
+    if (!is_characteristic(characteristic)) {
+        return ATT_NO_SUCH;
+    }
+    if (!may_be_read(characteristic)) {
+        return ATT_NO_READ;
+    }
+    r = &state->clients[client];
+    if (!r->encrypted) {
+        return ATT_NOT_ENCRYPTED;
+    }
+    /* "read at offset above 0, and some call changed the value (even if changed back) since the client's last accepted
+     * read of it at 0, or no such read since connecting" */
+    if (offset > 0 && (r->fresh >> characteristic & 1u) == 0) {
+        return ATT_CHANGED;
+    }
+    len = value_of(&c, state, characteristic, value);
+    if (offset > len) {
+        return ATT_OFFSET;
+    }
+    /* "A read hands out up to ATT_MTU − 1 octets; lent octets behind the answer stay." */
+    part = len - offset;
+    if (part > r->mtu - 1u) {
+        part = r->mtu - 1u;
+    }
+    if (part > 0) {
+        memcpy(out, value + offset, part);
+    }
+    *length = part;
+    if (offset == 0) {
+        r->fresh |= 1u << characteristic;
+    }
+    return 0;
+}
+
+uint32_t ref_write(REF_CATALOGUE, ref_state *state, uint32_t client, uint32_t characteristic, const uint8_t *value,
+                   size_t value_len)
+{
+    catalogue c;
+    ref_state before;
+    ref_client *r;
+    uint32_t refusal;
+
+    if (!LEND(c)) {
+        return CATALOGUE_WRONG;
+    }
+    refusal = common_rows(&c, state, client);
+    if (refusal != 0) {
+        return refusal;
+    }
+    if (!is_characteristic(characteristic)) {
+        return ATT_NO_SUCH;
+    }
+    if (!may_be_written(characteristic)) {
+        return ATT_NO_WRITE;
+    }
+    r = &state->clients[client];
+    if (!r->encrypted) {
+        return ATT_NOT_ENCRYPTED;
+    }
+    /* "length not 4 for 7, 1 for 8 and 15; for 18: 0, over 5, or not 1 or 5 as a known opcode asks" */
+    if (characteristic == C_POSITION) {
+        if (value_len != 4) {
+            return ATT_LENGTH;
+        }
+    } else if (characteristic == C_CONTROL) {
+        if (value_len == 0 || value_len > 5) {
+            return ATT_LENGTH;
+        }
+        if (mask_bit(value[0]) != 32u && value_len != (carries_number(value[0]) ? 5u : 1u)) {
+            return ATT_LENGTH;
+        }
+    } else if (value_len != 1) {
+        return ATT_LENGTH;
+    }
+    /* "order not 1..8" */
+    if (characteristic == C_ORDER && (value[0] < 1 || value[0] > 8)) {
+        return ATT_VALUE;
+    }
+    /* "write to 18 by a client with 8 results waiting" */
+    if (characteristic == C_CONTROL && r->waiting == REF_RESULTS) {
+        return ATT_FULL;
+    }
+    before = *state;
+    if (characteristic == C_POSITION) {
+        /* "The writer of 7 is owed a change of it" */
+        write_position(&c, state, signed_32(octets_32(value)));
+        make_owed(&c, &before, state, NO_CLIENT, 0);
+    } else if (characteristic == C_SPEED) {
+        state->speed = (int8_t)(value[0] < 128 ? value[0] : value[0] - 256);
+        make_owed(&c, &before, state, client, 0);
+    } else if (characteristic == C_ORDER) {
+        state->order = value[0];
+        make_owed(&c, &before, state, client, 0);
+    } else {
+        uint8_t code;
+        code = control(&c, state, value[0], value_len == 5 ? signed_32(octets_32(value + 1)) : 0);
+        make_owed(&c, &before, state, NO_CLIENT, 0);
+        /* "Slot 18 holds up to 8 results, oldest first: requested opcode and result, one for each accepted control write
+         * by a client subscribed to 18 at the time." */
+        if ((r->subscribed >> CONTROL_SLOT & 1u) != 0) {
+            r->results[r->waiting].opcode = value[0];
+            r->results[r->waiting].code = code;
+            r->waiting += 1;
+            r->owed |= 1u << CONTROL_SLOT;
+        }
+    }
+    return 0;
+}
+
+uint32_t ref_take(REF_CATALOGUE, ref_state *state, uint8_t *out, size_t out_len, uint32_t served[3])
+{
+    catalogue c;
+    uint32_t k, j;
+
+    if (!LEND(c)) {
+        return CATALOGUE_WRONG;
+    }
+    if (out_len < VALUE_ROOM) {
+        return OUTPUT_SMALL;
+    }
+    if (!state_stands(&c, state)) {
+        return STATE_WRONG;
+    }
+    /* "Take starts after the client last served, in number order round the four, and serves the first that is owed
+     * something" */
+    for (k = 1; k <= REF_CLIENTS; k++) {
+        uint32_t client = (state->turn + k) % REF_CLIENTS;
+        ref_client *r = &state->clients[client];
+        /* "within it, the first owed slot after its last served, round the ten" */
+        for (j = 1; j <= REF_SLOTS; j++) {
+            uint32_t slot = (r->mark + j) % REF_SLOTS, len;
+            uint8_t value[VALUE_ROOM];
+            if ((r->owed >> slot & 1u) == 0) {
+                continue;
+            }
+            if (slot == CONTROL_SLOT) {
+                uint32_t m;
+                value[0] = r->results[0].opcode;
+                value[1] = r->results[0].code;
+                len = 2;
+                for (m = 1; m < r->waiting; m++) {
+                    r->results[m - 1u] = r->results[m];
+                }
+                r->waiting -= 1;
+            } else {
+                len = value_of(&c, state, SLOT[slot], value);
+            }
+            /* "The octets handed out are the present value, its first ATT_MTU − 3." */
+            if (len > r->mtu - 3u) {
+                len = r->mtu - 3u;
+            }
+            if (len > 0) {
+                memcpy(out, value, len);
+            }
+            if (slot != CONTROL_SLOT || r->waiting == 0) {
+                r->owed &= ~(1u << slot);
+            }
+            r->mark = slot;
+            state->turn = client;
+            served[0] = client;
+            served[1] = SLOT[slot];
+            served[2] = len;
+            return 0;
+        }
+    }
+    /* "Nothing owed: the answer says so and nothing changes." */
+    served[0] = 0;
+    served[1] = 0;
+    served[2] = 0;
+    return 0;
+}

@@ -1,0 +1,79 @@
+/* The desk player core: card reader, catalogue check, player and the layer of four clients.
+ *
+ * Every call returns 0, or the refusal number of document 01's table (ATT codes as 0x01 to 0x80).
+ * "A refusal returns its number alone and alters nothing."
+ */
+#ifndef REF_H
+#define REF_H
+
+#include <stddef.h>
+#include <stdint.h>
+
+#define REF_NAME_ROOM 128u
+#define REF_CLIENTS 4u
+#define REF_SLOTS 10u
+#define REF_RESULTS 8u
+
+/* "State: 0 Inactive, 1 Playing, 2 Paused, 3 Seeking." */
+enum { REF_INACTIVE = 0, REF_PLAYING = 1, REF_PAUSED = 2, REF_SEEKING = 3 };
+
+typedef struct {
+    uint8_t opcode;
+    uint8_t code;
+} ref_result;
+
+typedef struct {
+    uint8_t connected; /* 0 or 1 */
+    uint8_t encrypted; /* 0 or 1 */
+    uint32_t mtu;        /* 23 while unconnected */
+    uint32_t subscribed; /* bit s: slot s of 1, 4, 5, 6, 7, 8, 9, 15, 17, 18 */
+    uint32_t owed;       /* likewise */
+    uint32_t fresh;      /* bit c: characteristic c was read at 0 since connecting, and no call changed it since */
+    uint32_t mark;       /* the slot served last; 9 after start and connect, so that the round begins at the lowest */
+    uint32_t waiting;    /* results that wait, oldest first */
+    ref_result results[REF_RESULTS];
+} ref_client;
+
+typedef struct {
+    uint8_t name[REF_NAME_ROOM];
+    uint32_t name_len;
+    uint32_t mask;
+    uint8_t ccid;
+    uint8_t media;
+    uint8_t order;
+    int8_t speed;
+    int8_t seeking;
+    uint32_t group;    /* 0 while Inactive, as are the two that follow */
+    uint32_t track;
+    uint32_t position;
+    ref_client clients[REF_CLIENTS];
+    uint32_t turn; /* the client served last; 3 after start, so that the round begins at 0 */
+} ref_state;
+
+/* The lent catalogue: three tables of words and the text, lengths in words and in octets. */
+#define REF_CATALOGUE                                                                                                  \
+    const uint32_t *groups, size_t groups_len, const uint32_t *tracks, size_t tracks_len, const uint32_t *segments,   \
+        size_t segments_len, const uint8_t *text, size_t text_len
+
+/* counts: groups, tracks, segments, text octets. */
+uint32_t ref_card_load(const uint8_t *card, size_t card_len, uint32_t *groups, size_t groups_len, uint32_t *tracks,
+                       size_t tracks_len, uint32_t *segments, size_t segments_len, uint8_t *text, size_t text_len,
+                       uint32_t counts[4]);
+
+uint32_t ref_start(REF_CATALOGUE, const uint8_t *name, size_t name_len, uint32_t mask, uint8_t ccid, ref_state *state);
+uint32_t ref_set_name(REF_CATALOGUE, ref_state *state, const uint8_t *name, size_t name_len);
+uint32_t ref_activate(REF_CATALOGUE, ref_state *state, uint32_t group);
+uint32_t ref_deactivate(REF_CATALOGUE, ref_state *state);
+uint32_t ref_advance(REF_CATALOGUE, ref_state *state, uint32_t d);
+uint32_t ref_connect(REF_CATALOGUE, ref_state *state, uint32_t client, uint32_t mtu, uint8_t encrypted);
+uint32_t ref_disconnect(REF_CATALOGUE, ref_state *state, uint32_t client);
+uint32_t ref_subscribe(REF_CATALOGUE, ref_state *state, uint32_t client, uint32_t characteristic);
+uint32_t ref_unsubscribe(REF_CATALOGUE, ref_state *state, uint32_t client, uint32_t characteristic);
+uint32_t ref_read(REF_CATALOGUE, ref_state *state, uint32_t client, uint32_t characteristic, uint32_t offset,
+                  uint8_t *out, size_t out_len, uint32_t *length);
+uint32_t ref_write(REF_CATALOGUE, ref_state *state, uint32_t client, uint32_t characteristic, const uint8_t *value,
+                   size_t value_len);
+/* served: client, characteristic, length; three zeros where nothing is owed. */
+uint32_t ref_take(REF_CATALOGUE, ref_state *state, uint8_t *out, size_t out_len, uint32_t served[3]);
+
+#endif
