@@ -43,7 +43,7 @@ pub struct Player {
 }
 
 // Copies a name of at most 128 octets over the front of an array.
-fn fill(octets: [u8; 128], name: &[u8]) -> [u8; 128]
+pub fn fill(octets: [u8; 128], name: &[u8]) -> [u8; 128]
     requires { ⌜ length (now name) ≤ 128 ⌝ }
     ensures { λ r. ⌜ r ≡ filled (now (name .entry)) octets ⌝ }
 {

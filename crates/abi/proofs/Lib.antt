@@ -1,0 +1,3 @@
+-- The laws that belong to no one function.
+pub mod Leaving
+pub mod Words
