@@ -1,0 +1,139 @@
+-- What a call says fits words of 32 bits, so C is told the numbers themselves. Assumes nothing.
+use mathlib.Core.Path.{_≡_, refl}
+use mathlib.Core.Bool.{Bool, true, false, not, _&&_}
+use mathlib.Core.List.{List, [], _∷_}
+use Prim.Native.Nat.{ℕ, zero, suc, _-_, _/_, _≤_, _<_}
+use native.Mathlib.Omega.{arith}
+use borrow.Author.Tests.{not-false, leb-true, leb-false}
+use lib.Dec.{eqb, leb, ltb, lit≤}
+use lib.ListN.{length, take, drop, getD, length-take, length-drop}
+use Rattle.ground.specs.Cases.{pick, Said, granted, refused, refuseIf}
+use Rattle.ground.specs.Limits.{mostGroups, mostTracks, mostSegments, mostText, groupWords, trackWords}
+use Rattle.ground.proofs.Cases.{and-left, and-right}
+use Rattle.tables.specs.Tables.{Tables}
+use Rattle.card.specs.Card.{blocksOf, recordCount, lengthRule, blocksRule}
+use Rattle.card.specs.Load.{fits, roomRule, loadSaid}
+use Rattle.slots.specs.Slots.{clientCount, slotTable, characteristicOf}
+use Rattle.values.specs.Values.{valueOf}
+use Rattle.handing.proofs.Fits.{value-fits}
+use Rattle.admission.specs.Refusals.{Left, leaves, Row, answered}
+use Rattle.admission.proofs.Rows.{NoneApplies}
+use Rattle.client.specs.declared.Client.{Client}
+use Rattle.client.specs.Client.{controlSlot, blankEntry}
+use Rattle.desk.specs.declared.Desk.{Desk}
+use Rattle.desk.specs.Desk.{clientAt}
+use Rattle.replies.specs.Replies.{askedBy, fronted}
+use Rattle.replies.proofs.Gates.{right, player}
+use Rattle.exchange.specs.Read.{valueNow, readRows, allReadRows, readOctets, readCall}
+use Rattle.takes.specs.Serving.{nextSlot, resultOctets, handedOctets, handedTo}
+use Rattle.takes.specs.Take.{nextClient, servedAt, takeRows, takenBy, takeCall}
+use Rattle.mcs.specs.Calls.{lowWord, toldOf, toldAfter, wordsAfter}
+
+-- each of them is below 2^32
+abbrev pub AllWords : List ℕ → Type 0
+AllWords [] = Unit
+AllWords (x ∷ xs) = (x < 4294967296) × AllWords xs
+
+at-word : (xs : List ℕ) (i : ℕ) → AllWords xs → getD xs i 0 < 4294967296
+at-word [] i h = lit≤ tt
+at-word (x ∷ xs) zero h = h .0
+at-word (x ∷ xs) (suc i) h = at-word xs i (h .1)
+
+low : (n : ℕ) → n < 4294967296 → lowWord n ≡ n
+low n h = omega arith
+
+-- what is told is what is said
+pub told-as-said : (said : Said) (old : List ℕ) → AllWords (said .values) → toldAfter (toldOf said .number) (toldOf said .values) old ≡ wordsAfter said old
+told-as-said said old h =
+    let v : List ℕ = said .values in
+    λ k.
+    toldAfter (said .number)
+    (low (getD v 0 0) (at-word v 0 h) k ∷ low (getD v 1 0) (at-word v 1 h) k ∷ low (getD v 2 0) (at-word v 2 h) k ∷ low (getD v 3 0) (at-word v 3 h) k ∷ [])
+    old
+
+-- a refusal says no value, so only the work is asked
+behind-refusal : (t : Bool) (n : ℕ) (behind : Said) → (t ≡ false → AllWords (behind .values)) → AllWords (refuseIf t n behind .values)
+behind-refusal true n behind h = tt
+behind-refusal false n behind h = h refl
+
+behind-rows : (d : Desk) (rows : List Row) (work : Left Desk) → (NoneApplies rows → AllWords (work .said .values)) → AllWords (answered d rows work .said .values)
+behind-rows d [] work h = h tt
+behind-rows d (r ∷ rows) work h = at (r .applies) (λ e. behind-rows d rows work (λ n. h (e, n)))
+  where
+    at : (t : Bool) → (t ≡ false → AllWords (answered d rows work .said .values)) → AllWords (pick t (leaves (refused (r .number)) d) (answered d rows work) .said .values)
+    at true k = tt
+    at false k = k refl
+
+-- a card's counts keep within the limits
+pub load-words : (card : List ℕ) (groups tracks segments text : ℕ) → AllWords (loadSaid card groups tracks segments text .values)
+unfolding loadSaid roomRule
+load-words card groups tracks segments text =
+    let bs = blocksOf card in
+    let work = granted (recordCount 1 bs ∷ recordCount 2 bs ∷ recordCount 3 bs ∷ recordCount 4 bs ∷ []) in
+    let room = not (roomRule bs groups tracks segments text) in
+    let blocks = not (blocksRule 0 1 bs) in
+    behind-refusal (not (lengthRule card)) 210 (refuseIf blocks 211 (refuseIf room 212 work)) (λ a.
+    behind-refusal blocks 211 (refuseIf room 212 work) (λ b. behind-refusal room 212 work (λ c. counts (not-false _ c))))
+  where
+    few : {n most : ℕ} → n ≤ most → most < 4294967296 → n < 4294967296
+    few h k = omega (arith, h, k)
+
+    within : (n most room : ℕ) → fits n most room ≡ true → n ≤ most
+    within n most room e = leb-true n most (and-left (leb n most) (leb n room) e)
+
+    counts : roomRule (blocksOf card) groups tracks segments text ≡ true → AllWords (recordCount 1 (blocksOf card) ∷ recordCount 2 (blocksOf card) ∷ recordCount 3 (blocksOf card) ∷ recordCount 4 (blocksOf card) ∷ [])
+    counts e =
+        let bs = blocksOf card in
+        let a = fits (recordCount 1 bs) mostGroups (groups / groupWords) in
+        let b = fits (recordCount 2 bs) mostTracks (tracks / trackWords) in
+        let c = fits (recordCount 3 bs) mostSegments segments in
+        let d = fits (recordCount 4 bs) mostText text in
+        let three = and-left (a && b && c) d e in
+        let two = and-left (a && b) c three in (
+          few (within (recordCount 1 bs) mostGroups (groups / groupWords) (and-left a b two)) (lit≤ tt),
+          (
+            few (within (recordCount 2 bs) mostTracks (tracks / trackWords) (and-right a b two)) (lit≤ tt),
+            (
+              few (within (recordCount 3 bs) mostSegments segments (and-right (a && b) c three)) (lit≤ tt),
+              (few (within (recordCount 4 bs) mostText text (and-right (a && b && c) d e)) (lit≤ tt), tt),
+            ),
+          ),
+        )
+
+module _ (k : Tables) (d : Desk) where
+  -- a read's length is at most its value's, which is at most 128
+  pub read-words : (who characteristic offset room : ℕ) → AllWords (readCall k d who characteristic offset room .said .values)
+  unfolding readCall readOctets
+  read-words who characteristic offset room =
+      behind-rows d (allReadRows k d who characteristic offset room) _ (λ n.
+      let passed : NoneApplies (fronted k (ltb room 128) d) = (n .0, (n .1 .0, (n .1 .1 .0, tt))) in
+      let short : length (valueNow k d characteristic) ≤ 128 = value-fits k (right k _ d passed) (d .player) (player k _ d passed) characteristic in
+      (part-short (clientAt (d .clients) who .mtu - 1) offset (valueNow k d characteristic) short, tt))
+    where
+      part-short : (most from : ℕ) (value : List ℕ) → length value ≤ 128 → length (take most (drop from value)) < 4294967296
+      part-short most from value h = simp (length-take, length-drop) (omega arith)
+
+  few : (s : ℕ) → characteristicOf s < 4294967296
+  unfolding characteristicOf
+  few s = at-word slotTable s (lit≤ tt, (lit≤ tt, (lit≤ tt, (lit≤ tt, (lit≤ tt, (lit≤ tt, (lit≤ tt, (lit≤ tt, (lit≤ tt, (lit≤ tt, tt))))))))))
+
+  handed-short : (c : Client) → ((x : ℕ) → length (valueOf (k .tracks) (k .text) (d .player) x) ≤ 128) → length (handedOctets k (d .player) c) < 4294967296
+  unfolding handedOctets
+  handed-short c h = simp length-take (omega (arith, either (eqb (nextSlot c) controlSlot) (valueOf (k .tracks) (k .text) (d .player) (characteristicOf (nextSlot c))) (h (characteristicOf (nextSlot c)))))
+    where
+      either : (t : Bool) (value : List ℕ) → length value ≤ 128 → length (pick t (resultOctets (getD (c .results) 0 blankEntry)) value) ≤ 128
+      either true value e = lit≤ tt
+      either false value e = e
+
+  -- so is a take's; clients and characteristics are few
+  pub take-words : (room : ℕ) → AllWords (takeCall k d room .said .values)
+  unfolding takeCall handedTo
+  take-words room = behind-rows d (takeRows k d room) _ (λ n. served (leb clientCount (nextClient d)) refl (value-fits k (right k _ d n) (d .player) (player k _ d n)))
+    where
+      own : Client
+      own = clientAt (d .clients) (nextClient d)
+
+      served : (t : Bool) → leb clientCount (nextClient d) ≡ t → ((x : ℕ) → length (valueOf (k .tracks) (k .text) (d .player) x) ≤ 128)
+          → AllWords (pick t (leaves (granted []) d) (servedAt d (nextClient d) (handedTo k (d .player) (nextClient d) own)) .said .values)
+      served true e h = tt
+      served false e h = let there = leb-false clientCount (nextClient d) e in (omega (arith, there), (few (nextSlot own), (handed-short own h, tt)))

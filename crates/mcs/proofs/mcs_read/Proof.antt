@@ -1,0 +1,64 @@
+-- `mcs::mcs_read`: the state read out, `exchange::read`, what it says of it, then its end.
+use mathlib.Core.Path.{ap, _∙_}
+use lib.ListN.{length}
+use Rattle.tables.specs.Tables.{tables}
+use Rattle.admission.specs.Refusals.{Left}
+use Rattle.desk.specs.declared.Desk.{Desk}
+use Rattle.replies.specs.Replies.{outputAfter}
+use Rattle.exchange.specs.Read.{readCall, readOctets}
+use Rattle.codec.specs.Codec.{deskOf}
+use Rattle.mcs.specs.declared.Told.{Told}
+use Rattle.mcs.specs.Calls.{toldOf, toldAfter}
+use Rattle.mcs.proofs.Leaving.{follow}
+use Rattle.mcs.proofs.Short.{read-words, told-as-said}
+use borrow.Author.Needs.{needs}
+use Rattle.mcs.proofs.mcs_read.Statement.{statement}
+use Rattle.mcs.proofs.mcs_read.Tie as tie
+
+decode-requires : tie.Need-decode-requires
+decode-requires c κs = search needs
+
+read-requires : tie.Need-read-requires
+read-requires c κs = search needs
+
+told-of-requires : tie.Need-told-of-requires
+told-of-requires c κs = search needs
+
+tell-requires : tie.Need-tell-requires
+tell-requires c κs = search needs
+
+finish-requires : tie.Need-finish-requires
+finish-requires c κs = search needs
+
+same-length : tie.Need-same-length
+same-length c = search needs
+
+returns : tie.Need-returns
+returns c =
+    let s = c .before .before .before .before .before .before .before .before .before .before .before .before .before .before .before .before .before .before in
+    let k = tables (s .args .groups .now) (s .args .tracks .now) (s .args .segments .now) (s .args .text .now) in
+    let o = c .before .before .before .before .before .before .before .before .read in
+    let d = c .before .before .before .before .before .before .before .before .before .before .decode .ensures in
+    let start = deskOf (s .args .state .now) in
+    let left = o .ensures .0 ∙ ap (λ (x : Desk). readCall k x (s .args .client) (s .args .characteristic) (s .args .offset) (length (s .args .out .now))) d in
+    let said = ap (λ (l : Left Desk). l .said) left in (
+      follow left (c .finish .ensures),
+      (
+        o .ensures .1 ∙ (λ i. outputAfter (said i) (readOctets k (d i) (s .args .client) (s .args .characteristic) (s .args .offset)) (s .args .out .now)),
+        c .before .before .tell .ensures
+            ∙ ap (λ (t : Told). toldAfter (t .number) (t .values) (s .args .length .now)) (c .before .before .before .before .before .told-of .ensures ∙ ap toldOf said)
+            ∙ told-as-said (readCall k start (s .args .client) (s .args .characteristic) (s .args .offset) (length (s .args .out .now)) .said) (s .args .length .now) (read-words k start (s .args .client) (s .args .characteristic) (s .args .offset) (length (s .args .out .now))),
+      ),
+    )
+
+pub mcs-read-spec : {M : Type 1} → statement M
+mcs-read-spec =
+    tie.close
+    (tie.spec
+    decode-requires
+    read-requires
+    told-of-requires
+    tell-requires
+    finish-requires
+    same-length
+    returns)

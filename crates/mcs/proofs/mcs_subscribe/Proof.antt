@@ -1,0 +1,28 @@
+-- `mcs::mcs_subscribe`: the state read out, `clients::subscribe`, then its end.
+use mathlib.Core.Path.{ap, _∙_}
+use Rattle.tables.specs.Tables.{tables}
+use Rattle.desk.specs.declared.Desk.{Desk}
+use Rattle.clients.specs.Links.{subscribeCall}
+use Rattle.mcs.proofs.Leaving.{follow}
+use borrow.Author.Needs.{needs}
+use Rattle.mcs.proofs.mcs_subscribe.Statement.{statement}
+use Rattle.mcs.proofs.mcs_subscribe.Tie as tie
+
+decode-requires : tie.Need-decode-requires
+decode-requires c κs = search needs
+
+subscribe-requires : tie.Need-subscribe-requires
+subscribe-requires c κs = search needs
+
+finish-requires : tie.Need-finish-requires
+finish-requires c κs = search needs
+
+returns : tie.Need-returns
+returns c =
+    let s = c .before .before .before .before .before .before .before .before .before .before in
+    let k = tables (s .args .groups .now) (s .args .tracks .now) (s .args .segments .now) (s .args .text .now) in
+    follow (c .before .before .subscribe .ensures ∙ ap (λ (d : Desk). subscribeCall k d (s .args .client) (s .args .characteristic)) (c .before .before .before .decode .ensures)) (c .finish .ensures)
+
+pub mcs-subscribe-spec : {M : Type 1} → statement M
+mcs-subscribe-spec =
+    tie.close (tie.spec decode-requires subscribe-requires finish-requires returns)

@@ -1,0 +1,64 @@
+-- `mcs::mcs_take`: the state read out, `takes::take`, what it says of it, then its end.
+use mathlib.Core.Path.{ap, _∙_}
+use lib.ListN.{length}
+use Rattle.tables.specs.Tables.{tables}
+use Rattle.admission.specs.Refusals.{Left}
+use Rattle.desk.specs.declared.Desk.{Desk}
+use Rattle.replies.specs.Replies.{outputAfter}
+use Rattle.takes.specs.Take.{takeCall, takeOctets}
+use Rattle.codec.specs.Codec.{deskOf}
+use Rattle.mcs.specs.declared.Told.{Told}
+use Rattle.mcs.specs.Calls.{toldOf, toldAfter}
+use Rattle.mcs.proofs.Leaving.{follow}
+use Rattle.mcs.proofs.Short.{take-words, told-as-said}
+use borrow.Author.Needs.{needs}
+use Rattle.mcs.proofs.mcs_take.Statement.{statement}
+use Rattle.mcs.proofs.mcs_take.Tie as tie
+
+decode-requires : tie.Need-decode-requires
+decode-requires c κs = search needs
+
+take-requires : tie.Need-take-requires
+take-requires c κs = search needs
+
+told-of-requires : tie.Need-told-of-requires
+told-of-requires c κs = search needs
+
+tell-requires : tie.Need-tell-requires
+tell-requires c κs = search needs
+
+finish-requires : tie.Need-finish-requires
+finish-requires c κs = search needs
+
+same-length : tie.Need-same-length
+same-length c = search needs
+
+returns : tie.Need-returns
+returns c =
+    let s = c .before .before .before .before .before .before .before .before .before .before .before .before .before .before .before .before .before .before in
+    let k = tables (s .args .groups .now) (s .args .tracks .now) (s .args .segments .now) (s .args .text .now) in
+    let o = c .before .before .before .before .before .before .before .before .take in
+    let d = c .before .before .before .before .before .before .before .before .before .before .decode .ensures in
+    let start = deskOf (s .args .state .now) in
+    let left = o .ensures .0 ∙ ap (λ (x : Desk). takeCall k x (length (s .args .out .now))) d in
+    let said = ap (λ (l : Left Desk). l .said) left in (
+      follow left (c .finish .ensures),
+      (
+        o .ensures .1 ∙ (λ i. outputAfter (said i) (takeOctets k (d i)) (s .args .out .now)),
+        c .before .before .tell .ensures
+            ∙ ap (λ (t : Told). toldAfter (t .number) (t .values) (s .args .served .now)) (c .before .before .before .before .before .told-of .ensures ∙ ap toldOf said)
+            ∙ told-as-said (takeCall k start (length (s .args .out .now)) .said) (s .args .served .now) (take-words k start (length (s .args .out .now))),
+      ),
+    )
+
+pub mcs-take-spec : {M : Type 1} → statement M
+mcs-take-spec =
+    tie.close
+    (tie.spec
+    decode-requires
+    take-requires
+    told-of-requires
+    tell-requires
+    finish-requires
+    same-length
+    returns)

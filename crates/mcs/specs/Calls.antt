@@ -1,0 +1,43 @@
+-- What a call leaves of the state's octets: "A refusal returns its number alone and alters nothing."
+-- Assumes nothing.
+use mathlib.Core.Path.{_≡_}
+use mathlib.Core.List.{List, [], _∷_, _++_}
+use Prim.Native.Nat.{ℕ, _%_}
+use lib.Dec.{eqb}
+use lib.ListN.{length, take, drop, getD}
+use Rattle.ground.specs.Cases.{pick, Said}
+use Rattle.admission.specs.Refusals.{Left}
+use Rattle.desk.specs.declared.Desk.{Desk}
+use Rattle.codec.specs.Codec.{deskOf, deskOctets}
+use Rattle.mcs.specs.declared.Told.{Told}
+
+-- the low 32 bits of a number
+abbrev pub lowWord : ℕ → ℕ
+lowWord n = n % 4294967296
+
+-- what C is told: the number, and four values
+abbrev pub toldOf : Said → Told
+toldOf said =
+    record {
+      number = said .number;
+      values = lowWord (getD (said .values) 0 0) ∷ lowWord (getD (said .values) 1 0) ∷ lowWord (getD (said .values) 2 0) ∷ lowWord (getD (said .values) 3 0) ∷ [];
+    }
+
+-- words afterwards that are for values: as many of them as there are words, or as they were
+abbrev pub toldAfter : ℕ → List ℕ → List ℕ → List ℕ
+toldAfter number values old = pick (eqb number 0) (take (length old) values) old
+
+-- those of a call: 0 where it says no value; as they were where it is refused. A read's is its number of octets; a take's are client, characteristic and number of octets, 0, 0, 0 where nothing is owed; a card load's are the four counts
+abbrev pub wordsAfter : Said → List ℕ → List ℕ
+wordsAfter said old =
+    toldAfter (said .number) (getD (said .values) 0 0 ∷ getD (said .values) 1 0 ∷ getD (said .values) 2 0 ∷ getD (said .values) 3 0 ∷ []) old
+
+-- the octets of the next state, or as they were
+abbrev pub stateAfter : Left Desk → List ℕ → List ℕ
+stateAfter l old = pick (eqb (l .said .number) 0) (deskOctets (l .state) ++ drop 338 old) old
+
+-- the number, the octets afterwards, and the state that they are
+pub record Leaves (l : Left Desk) (old : List ℕ) (number : ℕ) (new : List ℕ) : Type 0 where
+  pub told : number ≡ l .said .number
+  pub octets : new ≡ stateAfter l old
+  pub state : deskOf new ≡ pick (eqb (l .said .number) 0) (l .state) (deskOf old)

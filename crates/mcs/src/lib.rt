@@ -1,0 +1,409 @@
+// What C calls (include/mcs.h). The state is 338 octets that the caller keeps (`codec`); each call reads it out of them, makes its call, and writes it back
+// where that is accepted. A call returns 0, or the number of the refusal: then nothing that was lent is altered.
+ghost use mathlib.Core.Path.{_≡_};
+ghost use mathlib.Core.List.{[], _∷_};
+ghost use Prim.Native.Nat.{_≤_};
+ghost use lib.ListN.{length as len};
+ghost use Rattle.tables.specs.Tables.{tables};
+ghost use Rattle.replies.specs.Replies.{saidOf, leftBy, outputAfter};
+ghost use Rattle.ground.specs.Words.{words};
+ghost use Rattle.card.specs.Card.{blocksOf, gather, octets};
+ghost use Rattle.card.specs.Load.{saidOf as loadSaidOf, loadSaid, tableAfter};
+ghost use Rattle.ground.specs.Cases.{refused as refusedBy, granted as grantedWith};
+ghost use Rattle.codec.specs.Codec.{flag, deskOf};
+ghost use Rattle.console.specs.Console.{startCall, nameCall, activateCall, deactivateCall, advanceCall};
+ghost use Rattle.clients.specs.Links.{connectCall, disconnectCall, subscribeCall, unsubscribeCall};
+ghost use Rattle.exchange.specs.Read.{readCall, readOctets};
+ghost use Rattle.exchange.specs.Write.{writeCall};
+ghost use Rattle.takes.specs.Take.{takeCall, takeOctets};
+ghost use Rattle.mcs.specs.Calls.{Leaves, toldOf, toldAfter, wordsAfter};
+use card::Loaded;
+use replies::Answer;
+use replies::Outcome;
+
+// What C is told of an answer: document 01's number, 0 where the call is accepted, and then its values as words, 0 where there is none.
+pub struct Told {
+    pub number: u32,
+    pub values: [u32; 4],
+}
+
+fn refused(number: u32) -> Told
+    ensures { λ r. ⌜ r ≡ toldOf (refusedBy number) ⌝ }
+{
+    Told {
+        number: number,
+        values: [0; 4],
+    }
+}
+
+fn granted(first: usize, second: usize, third: usize, fourth: usize) -> Told
+    ensures { λ r. ⌜ r ≡ toldOf (grantedWith (first ∷ second ∷ third ∷ fourth ∷ [])) ⌝ }
+{
+    Told {
+        number: 0,
+        values: [
+            (first % 4294967296) as u32,
+            (second % 4294967296) as u32,
+            (third % 4294967296) as u32,
+            (fourth % 4294967296) as u32,
+        ],
+    }
+}
+
+// What is told of an answer of the calls on the state, and of card load's.
+fn told_of(a: Answer) -> Told
+    ensures { λ r. ⌜ r ≡ toldOf (saidOf a) ⌝ }
+{
+    match a {
+        Answer::Done => granted(0, 0, 0, 0),
+        Answer::Octets(n) => granted(n, 0, 0, 0),
+        Answer::Served(who, characteristic, n) => {
+            granted(
+                ground::wide_word(who),
+                ground::wide_word(characteristic),
+                n,
+                0,
+            )
+        }
+        Answer::BadCatalogue => refused(200),
+        Answer::SmallOutput => refused(205),
+        Answer::BadState => refused(201),
+        Answer::NoClient => refused(202),
+        Answer::NotConnected => refused(203),
+        Answer::AlreadyConnected => refused(204),
+        Answer::BadMtu => refused(206),
+        Answer::NoCharacteristic => refused(0x01),
+        Answer::NoSlot => refused(209),
+        Answer::NotReadable => refused(0x02),
+        Answer::NotWritable => refused(0x03),
+        Answer::NotEncrypted => refused(0x0F),
+        Answer::ValueChanged => refused(0x80),
+        Answer::BeyondEnd => refused(0x07),
+        Answer::BadLength => refused(0x0D),
+        Answer::BadOrder => refused(0x13),
+        Answer::TooManyResults => refused(0x11),
+        Answer::BadName => refused(207),
+        Answer::BadGroup => refused(208),
+    }
+}
+
+fn told_of_load(l: Loaded) -> Told
+    ensures { λ r. ⌜ r ≡ toldOf (loadSaidOf l) ⌝ }
+{
+    match l {
+        Loaded::Done(c) => granted(c.groups, c.tracks, c.segments, c.text),
+        Loaded::BadLength => refused(210),
+        Loaded::BadBlock => refused(211),
+        Loaded::NoRoom => refused(212),
+    }
+}
+
+// The values, over words that the caller has for them, where the call is accepted.
+fn tell(number: u32, values: [u32; 4], words: &mut [u32])
+    requires { ⌜ len (now words) ≤ 4 ⌝ }
+    ensures { λ _. ⌜ now (words .exit) ≡ toldAfter number values (now (words .entry)) ⌝ }
+{
+    if number == 0 {
+        let mut i: usize = 0;
+        while i < words.len() {
+            words[i] = values[i];
+            i += 1;
+        }
+    }
+}
+
+// What every call on the state does at its end.
+fn finish(o: Outcome, state: &mut [u8]) -> u32
+    requires { ⌜ 338 ≤ len (now state) ⌝ }
+    ensures { λ r. ⌜ Leaves (leftBy o) (now (state .entry)) r (now (state .exit)) ⌝ }
+{
+    let answer = o.answer;
+    let t = told_of(answer);
+    let n = t.number;
+    if n == 0 {
+        let next = o.desk;
+        codec::encode(next, state);
+        return n;
+    }
+    n
+}
+
+// Card load.
+#[no_mangle]
+pub extern "C" fn mcs_card_load(
+    card: &[u8],
+    groups: &mut [u32],
+    tracks: &mut [u32],
+    segments: &mut [u32],
+    text: &mut [u8],
+    counts: &mut [u32; 4],
+) -> u32
+    ensures { λ r. ⌜ r ≡ (loadSaid (now (card .entry)) (len (now (groups .entry))) (len (now (tracks .entry))) (len (now (segments .entry))) (len (now (text .entry)))) .number ⌝ }
+    ensures { λ r. ⌜ now (groups .exit) ≡ tableAfter (loadSaid (now (card .entry)) (len (now (groups .entry))) (len (now (tracks .entry))) (len (now (segments .entry))) (len (now (text .entry)))) (gather words 1 (blocksOf (now (card .entry)))) (now (groups .entry)) ⌝ }
+    ensures { λ r. ⌜ now (tracks .exit) ≡ tableAfter (loadSaid (now (card .entry)) (len (now (groups .entry))) (len (now (tracks .entry))) (len (now (segments .entry))) (len (now (text .entry)))) (gather words 2 (blocksOf (now (card .entry)))) (now (tracks .entry)) ⌝ }
+    ensures { λ r. ⌜ now (segments .exit) ≡ tableAfter (loadSaid (now (card .entry)) (len (now (groups .entry))) (len (now (tracks .entry))) (len (now (segments .entry))) (len (now (text .entry)))) (gather words 3 (blocksOf (now (card .entry)))) (now (segments .entry)) ⌝ }
+    ensures { λ r. ⌜ now (text .exit) ≡ tableAfter (loadSaid (now (card .entry)) (len (now (groups .entry))) (len (now (tracks .entry))) (len (now (segments .entry))) (len (now (text .entry)))) (gather octets 4 (blocksOf (now (card .entry)))) (now (text .entry)) ⌝ }
+    ensures { λ r. ⌜ now (counts .exit) ≡ wordsAfter (loadSaid (now (card .entry)) (len (now (groups .entry))) (len (now (tracks .entry))) (len (now (segments .entry))) (len (now (text .entry)))) (now (counts .entry)) ⌝ }
+{
+    let l = card::load(card, groups, tracks, segments, text);
+    let t = told_of_load(l);
+    let values = t.values;
+    tell(t.number, values, counts);
+    t.number
+}
+
+// Start.
+#[no_mangle]
+pub extern "C" fn mcs_start(
+    groups: &[u32],
+    tracks: &[u32],
+    segments: &[u32],
+    text: &[u8],
+    name: &[u8],
+    mask: u32,
+    ccid: u8,
+    state: &mut [u8; 338],
+) -> u32
+    ensures { λ r. ⌜ Leaves (startCall (tables (now (groups .entry)) (now (tracks .entry)) (now (segments .entry)) (now (text .entry))) (now (name .entry)) mask ccid) (now (state .entry)) r (now (state .exit)) ⌝ }
+{
+    let o = console::start(groups, tracks, segments, text, name, mask, ccid);
+    finish(o, state)
+}
+
+// Set name.
+#[no_mangle]
+pub extern "C" fn mcs_set_name(
+    groups: &[u32],
+    tracks: &[u32],
+    segments: &[u32],
+    text: &[u8],
+    state: &mut [u8; 338],
+    name: &[u8],
+) -> u32
+    ensures { λ r. ⌜ Leaves (nameCall (tables (now (groups .entry)) (now (tracks .entry)) (now (segments .entry)) (now (text .entry))) (deskOf (now (state .entry))) (now (name .entry))) (now (state .entry)) r (now (state .exit)) ⌝ }
+{
+    let d = codec::decode(state);
+    let o = console::set_name(groups, tracks, segments, text, d, name);
+    finish(o, state)
+}
+
+// Activate a group.
+#[no_mangle]
+pub extern "C" fn mcs_activate(
+    groups: &[u32],
+    tracks: &[u32],
+    segments: &[u32],
+    text: &[u8],
+    state: &mut [u8; 338],
+    group: u32,
+) -> u32
+    ensures { λ r. ⌜ Leaves (activateCall (tables (now (groups .entry)) (now (tracks .entry)) (now (segments .entry)) (now (text .entry))) (deskOf (now (state .entry))) group) (now (state .entry)) r (now (state .exit)) ⌝ }
+{
+    let d = codec::decode(state);
+    let g = tables::GroupNo(group);
+    let o = console::activate(groups, tracks, segments, text, d, g);
+    finish(o, state)
+}
+
+// Deactivate.
+#[no_mangle]
+pub extern "C" fn mcs_deactivate(
+    groups: &[u32],
+    tracks: &[u32],
+    segments: &[u32],
+    text: &[u8],
+    state: &mut [u8; 338],
+) -> u32
+    ensures { λ r. ⌜ Leaves (deactivateCall (tables (now (groups .entry)) (now (tracks .entry)) (now (segments .entry)) (now (text .entry))) (deskOf (now (state .entry)))) (now (state .entry)) r (now (state .exit)) ⌝ }
+{
+    let d = codec::decode(state);
+    let o = console::deactivate(groups, tracks, segments, text, d);
+    finish(o, state)
+}
+
+// Advance.
+#[no_mangle]
+pub extern "C" fn mcs_advance(
+    groups: &[u32],
+    tracks: &[u32],
+    segments: &[u32],
+    text: &[u8],
+    state: &mut [u8; 338],
+    step: u32,
+) -> u32
+    ensures { λ r. ⌜ Leaves (advanceCall (tables (now (groups .entry)) (now (tracks .entry)) (now (segments .entry)) (now (text .entry))) (deskOf (now (state .entry))) step) (now (state .entry)) r (now (state .exit)) ⌝ }
+{
+    let d = codec::decode(state);
+    let o = console::advance(groups, tracks, segments, text, d, step);
+    finish(o, state)
+}
+
+// Connect; 0 is not encrypted.
+#[no_mangle]
+pub extern "C" fn mcs_connect(
+    groups: &[u32],
+    tracks: &[u32],
+    segments: &[u32],
+    text: &[u8],
+    state: &mut [u8; 338],
+    client: u32,
+    mtu: u32,
+    encrypted: u8,
+) -> u32
+    ensures { λ r. ⌜ Leaves (connectCall (tables (now (groups .entry)) (now (tracks .entry)) (now (segments .entry)) (now (text .entry))) (deskOf (now (state .entry))) client mtu (flag encrypted)) (now (state .entry)) r (now (state .exit)) ⌝ }
+{
+    let d = codec::decode(state);
+    let o = clients::connect(
+        groups,
+        tracks,
+        segments,
+        text,
+        d,
+        client,
+        mtu,
+        encrypted != 0,
+    );
+    finish(o, state)
+}
+
+// Disconnect.
+#[no_mangle]
+pub extern "C" fn mcs_disconnect(
+    groups: &[u32],
+    tracks: &[u32],
+    segments: &[u32],
+    text: &[u8],
+    state: &mut [u8; 338],
+    client: u32,
+) -> u32
+    ensures { λ r. ⌜ Leaves (disconnectCall (tables (now (groups .entry)) (now (tracks .entry)) (now (segments .entry)) (now (text .entry))) (deskOf (now (state .entry))) client) (now (state .entry)) r (now (state .exit)) ⌝ }
+{
+    let d = codec::decode(state);
+    let o = clients::disconnect(groups, tracks, segments, text, d, client);
+    finish(o, state)
+}
+
+// Subscribe.
+#[no_mangle]
+pub extern "C" fn mcs_subscribe(
+    groups: &[u32],
+    tracks: &[u32],
+    segments: &[u32],
+    text: &[u8],
+    state: &mut [u8; 338],
+    client: u32,
+    characteristic: u32,
+) -> u32
+    ensures { λ r. ⌜ Leaves (subscribeCall (tables (now (groups .entry)) (now (tracks .entry)) (now (segments .entry)) (now (text .entry))) (deskOf (now (state .entry))) client characteristic) (now (state .entry)) r (now (state .exit)) ⌝ }
+{
+    let d = codec::decode(state);
+    let o = clients::subscribe(groups, tracks, segments, text, d, client, characteristic);
+    finish(o, state)
+}
+
+// Unsubscribe.
+#[no_mangle]
+pub extern "C" fn mcs_unsubscribe(
+    groups: &[u32],
+    tracks: &[u32],
+    segments: &[u32],
+    text: &[u8],
+    state: &mut [u8; 338],
+    client: u32,
+    characteristic: u32,
+) -> u32
+    ensures { λ r. ⌜ Leaves (unsubscribeCall (tables (now (groups .entry)) (now (tracks .entry)) (now (segments .entry)) (now (text .entry))) (deskOf (now (state .entry))) client characteristic) (now (state .entry)) r (now (state .exit)) ⌝ }
+{
+    let d = codec::decode(state);
+    let o = clients::unsubscribe(groups, tracks, segments, text, d, client, characteristic);
+    finish(o, state)
+}
+
+// Read at an offset.
+#[no_mangle]
+pub extern "C" fn mcs_read(
+    groups: &[u32],
+    tracks: &[u32],
+    segments: &[u32],
+    text: &[u8],
+    state: &mut [u8; 338],
+    client: u32,
+    characteristic: u32,
+    offset: u32,
+    out: &mut [u8],
+    length: &mut [u32; 1],
+) -> u32
+    ensures { λ r. ⌜ Leaves (readCall (tables (now (groups .entry)) (now (tracks .entry)) (now (segments .entry)) (now (text .entry))) (deskOf (now (state .entry))) client characteristic offset (len (now (out .entry)))) (now (state .entry)) r (now (state .exit)) ⌝ }
+    ensures { λ r. ⌜ now (out .exit) ≡ outputAfter (readCall (tables (now (groups .entry)) (now (tracks .entry)) (now (segments .entry)) (now (text .entry))) (deskOf (now (state .entry))) client characteristic offset (len (now (out .entry))) .said) (readOctets (tables (now (groups .entry)) (now (tracks .entry)) (now (segments .entry)) (now (text .entry))) (deskOf (now (state .entry))) client characteristic offset) (now (out .entry)) ⌝ }
+    ensures { λ r. ⌜ now (length .exit) ≡ wordsAfter (readCall (tables (now (groups .entry)) (now (tracks .entry)) (now (segments .entry)) (now (text .entry))) (deskOf (now (state .entry))) client characteristic offset (len (now (out .entry))) .said) (now (length .entry)) ⌝ }
+{
+    let d = codec::decode(state);
+    let o = exchange::read(
+        groups,
+        tracks,
+        segments,
+        text,
+        d,
+        client,
+        characteristic,
+        offset,
+        out,
+    );
+    let answer = o.answer;
+    let t = told_of(answer);
+    let values = t.values;
+    tell(t.number, values, length);
+    finish(o, state)
+}
+
+// Take.
+#[no_mangle]
+pub extern "C" fn mcs_take(
+    groups: &[u32],
+    tracks: &[u32],
+    segments: &[u32],
+    text: &[u8],
+    state: &mut [u8; 338],
+    out: &mut [u8],
+    served: &mut [u32; 3],
+) -> u32
+    ensures { λ r. ⌜ Leaves (takeCall (tables (now (groups .entry)) (now (tracks .entry)) (now (segments .entry)) (now (text .entry))) (deskOf (now (state .entry))) (len (now (out .entry)))) (now (state .entry)) r (now (state .exit)) ⌝ }
+    ensures { λ r. ⌜ now (out .exit) ≡ outputAfter (takeCall (tables (now (groups .entry)) (now (tracks .entry)) (now (segments .entry)) (now (text .entry))) (deskOf (now (state .entry))) (len (now (out .entry))) .said) (takeOctets (tables (now (groups .entry)) (now (tracks .entry)) (now (segments .entry)) (now (text .entry))) (deskOf (now (state .entry)))) (now (out .entry)) ⌝ }
+    ensures { λ r. ⌜ now (served .exit) ≡ wordsAfter (takeCall (tables (now (groups .entry)) (now (tracks .entry)) (now (segments .entry)) (now (text .entry))) (deskOf (now (state .entry))) (len (now (out .entry))) .said) (now (served .entry)) ⌝ }
+{
+    let d = codec::decode(state);
+    let o = takes::take(groups, tracks, segments, text, d, out);
+    let answer = o.answer;
+    let t = told_of(answer);
+    let values = t.values;
+    tell(t.number, values, served);
+    finish(o, state)
+}
+
+// Write.
+#[no_mangle]
+pub extern "C" fn mcs_write(
+    groups: &[u32],
+    tracks: &[u32],
+    segments: &[u32],
+    text: &[u8],
+    state: &mut [u8; 338],
+    client: u32,
+    characteristic: u32,
+    value: &[u8],
+) -> u32
+    ensures { λ r. ⌜ Leaves (writeCall (tables (now (groups .entry)) (now (tracks .entry)) (now (segments .entry)) (now (text .entry))) (deskOf (now (state .entry))) client characteristic (now (value .entry))) (now (state .entry)) r (now (state .exit)) ⌝ }
+{
+    let d = codec::decode(state);
+    let o = exchange::write(
+        groups,
+        tracks,
+        segments,
+        text,
+        d,
+        client,
+        characteristic,
+        value,
+    );
+    finish(o, state)
+}

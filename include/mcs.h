@@ -1,0 +1,196 @@
+/* The Media Control Service core of a desk player: thirteen calls, proved (crates/mcs), for C and C++ on x86-64.
+ *
+ * Every call takes all octets, numbers, tables and states there are, checks them itself, and ends. It returns 0, or the number of
+ * the first refusal that applies, in the order of the list below. A refusal alters nothing: state, tables, output, length,
+ * served and counts hold what they held.
+ *
+ * What is the caller's to see to, as for any function of C:
+ * - a pointer with a length points to that many octets or words (a length of 0: it is not followed, and may be null);
+ *   words are aligned as uint32_t is; state points to MCS_STATE_OCTETS octets, length to 1 word, served to 3, counts to 4;
+ * - what a call writes (state, output, length, served, counts, and the tables of a card load) overlaps nothing else lent to it;
+ * - no other thread touches what is lent while the call runs. The library keeps nothing of its own and calls no function
+ *   but its own and memcpy, memset, memmove.
+ */
+#ifndef MCS_H
+#define MCS_H
+
+#include <stddef.h>
+#include <stdint.h>
+
+#ifdef __cplusplus
+extern "C" {
+#endif
+
+/* ---- Numbers that a call returns ------------------------------------------------------------------------------------------ */
+
+/* Accepted. */
+#define MCS_OK 0u
+/* A rule of the catalogue fails, or a table ends inside a record. */
+#define MCS_BAD_CATALOGUE 200u
+/* The lent output of a read or a take is under MCS_OUTPUT_OCTETS octets. */
+#define MCS_SMALL_OUTPUT 205u
+/* The state breaks a rule for this catalogue. */
+#define MCS_BAD_STATE 201u
+/* The client's number is over 3. */
+#define MCS_NO_CLIENT 202u
+/* The client is not connected. */
+#define MCS_NOT_CONNECTED 203u
+/* Connect, and the client is connected. */
+#define MCS_ALREADY_CONNECTED 204u
+/* ATT_MTU is not 23 to 517. */
+#define MCS_BAD_MTU 206u
+/* The characteristic is none of the thirteen (ATT: Invalid Handle). */
+#define MCS_NO_CHARACTERISTIC 0x01u
+/* Subscribe or unsubscribe to what is no slot. */
+#define MCS_NO_SLOT 209u
+/* The characteristic may not be read; written (ATT: Read Not Permitted, Write Not Permitted). */
+#define MCS_NOT_READABLE 0x02u
+#define MCS_NOT_WRITABLE 0x03u
+/* Read, write, subscribe or unsubscribe by a client that is connected unencrypted (ATT: Insufficient Encryption). */
+#define MCS_NOT_ENCRYPTED 0x0Fu
+/* Read at an offset above 0, and the value changed since the client's last read of it at 0, or there was no such read since it
+ * connected (Media Control Service: Value Changed During Read Long). */
+#define MCS_VALUE_CHANGED 0x80u
+/* The offset is above the value's length (ATT: Invalid Offset). */
+#define MCS_BEYOND_END 0x07u
+/* The written value's length is wrong (ATT: Invalid Attribute Value Length). */
+#define MCS_BAD_LENGTH 0x0Du
+/* The written playing order is not 1 to 8 (ATT: Value Not Allowed). */
+#define MCS_BAD_ORDER 0x13u
+/* Eight results of the client wait (ATT: Insufficient Resources). */
+#define MCS_TOO_MANY_RESULTS 0x11u
+/* The name has over 128 octets or is not UTF-8. */
+#define MCS_BAD_NAME 207u
+/* The group is absent or has no tracks. */
+#define MCS_BAD_GROUP 208u
+/* Card load: the card's length is no multiple of 512, or over 65,536. */
+#define MCS_BAD_CARD_LENGTH 210u
+/* Card load: a block breaks a rule. */
+#define MCS_BAD_BLOCK 211u
+/* Card load: a limit, or a lent table's room, is exceeded. */
+#define MCS_NO_ROOM 212u
+
+/* ---- Sizes ---------------------------------------------------------------------------------------------------------------- */
+
+#define MCS_CLIENTS 4u          /* clients 0 to 3 */
+#define MCS_OUTPUT_OCTETS 128u  /* the least output that a read or a take may be lent */
+#define MCS_BLOCK_OCTETS 512u   /* a block of a card */
+#define MCS_CARD_OCTETS 65536u  /* the longest card */
+
+/* Words of a group, a track and a segment record, and the most of each, in records; of text, in octets. */
+#define MCS_GROUP_WORDS 3u   /* parent, first track, number of tracks */
+#define MCS_TRACK_WORDS 6u   /* duration in hundredths of a second, age stamp, first segment, number of segments, title's offset and length in the text */
+#define MCS_SEGMENT_WORDS 1u /* start */
+#define MCS_MOST_GROUPS 64u
+#define MCS_MOST_TRACKS 256u
+#define MCS_MOST_SEGMENTS 1024u
+#define MCS_MOST_TEXT 32768u
+
+/* ---- Characteristics: the last part of their section's number in the Media Control Service 1.0.1 ---------------------------- */
+
+#define MCS_NAME 1u             /* Media Player Name: text; read, notify */
+#define MCS_TRACK_CHANGED 4u    /* empty; notify */
+#define MCS_TITLE 5u            /* Track Title: text; read, notify */
+#define MCS_DURATION 6u         /* Track Duration: 4 octets; read, notify */
+#define MCS_POSITION 7u         /* Track Position: 4 octets; read, write, notify */
+#define MCS_PLAYBACK_SPEED 8u   /* 1 octet; read, write, notify */
+#define MCS_SEEKING_SPEED 9u    /* 1 octet; read, notify */
+#define MCS_PLAYING_ORDER 15u   /* 1 octet; read, write, notify */
+#define MCS_ORDERS_SUPPORTED 16u /* 2 octets; read */
+#define MCS_MEDIA_STATE 17u     /* 1 octet: 0 Inactive, 1 Playing, 2 Paused, 3 Seeking; read, notify */
+#define MCS_CONTROL_POINT 18u   /* write: opcode, and for some a number of 4 octets; notify: requested opcode and result, 1 to 4 */
+#define MCS_OPCODES_SUPPORTED 19u /* 4 octets; read */
+#define MCS_CONTENT_CONTROL_ID 22u /* 1 octet; read */
+
+/* ---- The state: octets at these offsets, numbers little endian -------------------------------------------------------------
+ * The caller keeps it, and may store and restore it. Every string of MCS_STATE_OCTETS octets is a state, which a call takes or
+ * refuses with MCS_BAD_STATE. In an octet that says yes or no, 0 is no and any other is yes; a call that is accepted writes 1.
+ */
+#define MCS_STATE_OCTETS 338u
+
+#define MCS_AT_NAME 0u            /* 128 octets, of which the first MCS_AT_NAME_LENGTH says are the name; those behind it mean nothing */
+#define MCS_AT_NAME_LENGTH 128u   /* 1 octet, 0 to 128 */
+#define MCS_AT_CCID 129u          /* 1 octet */
+#define MCS_AT_MEDIA_STATE 130u   /* 1 octet */
+#define MCS_AT_ORDER 131u         /* 1 octet, 1 to 8 */
+#define MCS_AT_SPEED 132u         /* 1 octet, signed */
+#define MCS_AT_SEEKING 133u       /* 1 octet, signed */
+#define MCS_AT_MASK 134u          /* 4 octets: bit 0 to 20 for each opcode; the others are kept and count as 0 */
+#define MCS_AT_GROUP 138u         /* 4 octets; 0 while Inactive, as are the two that follow */
+#define MCS_AT_TRACK 142u         /* 4 octets */
+#define MCS_AT_POSITION 146u      /* 4 octets, hundredths of a second */
+#define MCS_AT_TURN 150u          /* 4 octets: the client that was served last, 0 to 3 */
+#define MCS_AT_CLIENT(client) (154u + 46u * (client))
+
+/* In the 46 octets of a client. Slots are the bits 0 to 9 for the characteristics 1, 4, 5, 6, 7, 8, 9, 15, 17, 18. */
+#define MCS_IN_CONNECTED 0u       /* 1 octet, yes or no */
+#define MCS_IN_ENCRYPTED 1u       /* 1 octet, yes or no */
+#define MCS_IN_MTU 2u             /* 4 octets; 23 while not connected */
+#define MCS_IN_SUBSCRIBED 6u      /* 4 octets, a set of slots */
+#define MCS_IN_OWED 10u           /* 4 octets, a set of slots */
+#define MCS_IN_READ 14u           /* 4 octets: bit c where characteristic c was read at 0 since connecting and has not changed since */
+#define MCS_IN_MARK 18u           /* 4 octets: the slot that was served last, 0 to 9 */
+#define MCS_IN_WAITING 22u        /* 8 octets: how many results wait, 0 to 8 */
+#define MCS_IN_RESULTS 30u        /* 8 times 2 octets: requested opcode, result; oldest first; those that do not wait mean nothing */
+
+/* ---- Calls ------------------------------------------------------------------------------------------------------------------
+ * The catalogue is lent to every call but card load: three tables of words and the text, lengths in words and in octets.
+ */
+#define MCS_CATALOGUE                                                                                                          \
+    const uint32_t *groups, size_t groups_len, const uint32_t *tracks, size_t tracks_len, const uint32_t *segments,            \
+        size_t segments_len, const uint8_t *text, size_t text_len
+
+/* Card load: fills the front of each table with a card's records, and counts with the number of groups, tracks, segments and
+ * text octets. The tables' lengths are their room, in words and in octets; the words behind the records stay as they were, so
+ * a catalogue is the first 3 * counts[0], 6 * counts[1] and counts[2] words and counts[3] octets.
+ * Refusals: 210, 211, 212. It does not check the catalogue: every other call does. */
+uint32_t mcs_card_load(const uint8_t *card, size_t card_len, uint32_t *groups, size_t groups_len, uint32_t *tracks,
+                       size_t tracks_len, uint32_t *segments, size_t segments_len, uint8_t *text, size_t text_len,
+                       uint32_t counts[4]);
+
+/* Start: a state with this name, opcode mask and Content Control ID, Inactive, order 3, speed 0, no client connected. What the
+ * state's octets held before does not matter. Refusals: 200, 207. */
+uint32_t mcs_start(MCS_CATALOGUE, const uint8_t *name, size_t name_len, uint32_t mask, uint8_t ccid,
+                   uint8_t state[MCS_STATE_OCTETS]);
+
+/* Set name. Refusals: 200, 201, 207. */
+uint32_t mcs_set_name(MCS_CATALOGUE, uint8_t state[MCS_STATE_OCTETS], const uint8_t *name, size_t name_len);
+
+/* Activate a group: its first track in the playing order, position 0, Paused. Refusals: 200, 201, 208. */
+uint32_t mcs_activate(MCS_CATALOGUE, uint8_t state[MCS_STATE_OCTETS], uint32_t group);
+
+/* Deactivate: no current track. Refusals: 200, 201. */
+uint32_t mcs_deactivate(MCS_CATALOGUE, uint8_t state[MCS_STATE_OCTETS]);
+
+/* Advance: d hundredths of a second pass. Refusals: 200, 201. */
+uint32_t mcs_advance(MCS_CATALOGUE, uint8_t state[MCS_STATE_OCTETS], uint32_t d);
+
+/* Connect; encrypted is 0 for no. Refusals: 200, 201, 202, 204, 206. */
+uint32_t mcs_connect(MCS_CATALOGUE, uint8_t state[MCS_STATE_OCTETS], uint32_t client, uint32_t mtu, uint8_t encrypted);
+
+/* Disconnect: the client's record is start's again. Refusals: 200, 201, 202, 203. */
+uint32_t mcs_disconnect(MCS_CATALOGUE, uint8_t state[MCS_STATE_OCTETS], uint32_t client);
+
+/* Subscribe, unsubscribe: a client's Client Characteristic Configuration for notifications.
+ * Refusals: 200, 201, 202, 203, 0x01, 209, 0x0F. */
+uint32_t mcs_subscribe(MCS_CATALOGUE, uint8_t state[MCS_STATE_OCTETS], uint32_t client, uint32_t characteristic);
+uint32_t mcs_unsubscribe(MCS_CATALOGUE, uint8_t state[MCS_STATE_OCTETS], uint32_t client, uint32_t characteristic);
+
+/* Read at an offset: the value's octets from there on, at most ATT_MTU - 1, over the front of out; their number in *length. The
+ * octets of out behind them stay. Refusals: 200, 205, 201, 202, 203, 0x01, 0x02, 0x0F, 0x80, 0x07. */
+uint32_t mcs_read(MCS_CATALOGUE, uint8_t state[MCS_STATE_OCTETS], uint32_t client, uint32_t characteristic, uint32_t offset,
+                  uint8_t *out, size_t out_len, uint32_t *length);
+
+/* Write. Refusals: 200, 201, 202, 203, 0x01, 0x03, 0x0F, 0x0D, 0x13, 0x11. */
+uint32_t mcs_write(MCS_CATALOGUE, uint8_t state[MCS_STATE_OCTETS], uint32_t client, uint32_t characteristic,
+                   const uint8_t *value, size_t value_len);
+
+/* Take: the next notification, to be sent now. served is the client, the characteristic and the number of octets over the front
+ * of out; characteristic 0, with the other two 0, where nothing is owed to anyone. Refusals: 200, 205, 201. */
+uint32_t mcs_take(MCS_CATALOGUE, uint8_t state[MCS_STATE_OCTETS], uint8_t *out, size_t out_len, uint32_t served[3]);
+
+#ifdef __cplusplus
+}
+#endif
+
+#endif
