@@ -446,7 +446,7 @@ static int group_move(const catalogue *c, ref_state *s, int move, int64_t n)
             }
         }
     }
-    while (list[at] != s->group) {
+    while (at + 1 < count && list[at] != s->group) {
         at++;
     }
     /* "No repeat; Goto as above, 0 keeps the group. Then the group's first track, position 0." */

@@ -52,17 +52,17 @@ pub fn most_records(kind: u8) -> usize
     }
 }
 
+// With no early exit the loop is vector code.
 pub fn all_zero(s: &[u8]) -> bool
     ensures { λ r. ⌜ r ≡ allZero (now (s .entry)) ⌝ }
 {
+    let mut good = true;
     let mut i: usize = 0;
     while i < s.len() {
-        if s[i] != 0 {
-            return false;
-        }
+        good = good & (s[i] == 0);
         i += 1;
     }
-    true
+    good
 }
 
 fn check_right(b: &[u8]) -> bool

@@ -17,8 +17,8 @@ use Rattle.order.specs.declared.By.{By}
 use Rattle.order.specs.declared.By.the-variants.{Number, Rising, Falling}
 use Rattle.order.specs.Order.{keyOf, ordered}
 use Rattle.order.specs.Below.{below}
-use Rattle.order.proofs.Sorted.{all-at, below-lt, below-le}
-use Rattle.order.proofs.Span.{is-sorted, how-many, within, as-many, number-of}
+use Rattle.order.proofs.Sorted.{below-lt, below-le}
+use Rattle.order.proofs.Span.{is-sorted, how-many, in-list, at-place, as-many, number-of}
 
 key-top : (by : By) (tracks : List ℕ) (t : ℕ) → t < 0xFFFF_FFFF → stampOf tracks t < 0x1_0000_0000 → keyOf by tracks t < 0xFFFF_FFFF_FFFF_FFFF
 key-top Number tracks t h g = omega arith
@@ -34,11 +34,11 @@ module _ (by : By) (tracks : List ℕ) (first count : ℕ) (small : first + coun
   too-far h = sym (at-none (ordered by tracks first count) k (omega (arith, how-many by tracks first count small)))
 
   module _ (h : k < count) where
-    in-list : k < length (ordered by tracks first count)
-    in-list = omega (arith, how-many by tracks first count small)
+    there : k < length (ordered by tracks first count)
+    there = in-list by tracks first count small k h
 
     at-k : (first ≤ getD (ordered by tracks first count) k 0) × (getD (ordered by tracks first count) k 0 < first + count)
-    at-k = all-at (λ t. (first ≤ t) × (t < first + count)) (ordered by tracks first count) k (within by tracks first count small) in-list
+    at-k = at-place by tracks first count small k h
 
     pub starts : ((i : ℕ) → getD tracks i 0 < 0x1_0000_0000) → goal by tracks first count k < 0xFFFF_FFFF_FFFF_FFFF
     unfolding goal
@@ -46,15 +46,15 @@ module _ (by : By) (tracks : List ℕ) (first count : ℕ) (small : first + coun
 
     pub up : (x n : ℕ) → n ≡ below (keyOf by tracks) x (span first count) → n ≤ k → x ≤ goal by tracks first count k
     unfolding goal
-    up x n e q = ⊎-elim (λ r. r) (λ r. absurd (lt-irrefl k (omega (arith, e ∙ as-many by tracks first count small x, below-lt (keyOf by tracks) x (ordered by tracks first count) k (is-sorted by tracks first count small) in-list r)))) (le-or x (goal by tracks first count k))
+    up x n e q = ⊎-elim (λ r. r) (λ r. absurd (lt-irrefl k (omega (arith, e ∙ as-many by tracks first count small x, below-lt (keyOf by tracks) x (ordered by tracks first count) k (is-sorted by tracks first count small) there r)))) (le-or x (goal by tracks first count k))
 
     pub down : (x n : ℕ) → n ≡ below (keyOf by tracks) x (span first count) → k < n → goal by tracks first count k < x
     unfolding goal
-    down x n e q = ⊎-elim (λ r. absurd (lt-irrefl k (omega (arith, e ∙ as-many by tracks first count small x, below-le (keyOf by tracks) x (ordered by tracks first count) k (is-sorted by tracks first count small) in-list r)))) (λ r. r) (le-or x (goal by tracks first count k))
+    down x n e q = ⊎-elim (λ r. absurd (lt-irrefl k (omega (arith, e ∙ as-many by tracks first count small x, below-le (keyOf by tracks) x (ordered by tracks first count) k (is-sorted by tracks first count small) there r)))) (λ r. r) (le-or x (goal by tracks first count k))
 
     pub met : (lo hi : ℕ) → lo ≤ goal by tracks first count k → goal by tracks first count k < hi → hi - lo ≤ 1 → At (lo % 0x1_0000_0000) ≡ at (ordered by tracks first count) k
     unfolding goal
     met lo hi a b c =
         let e : lo ≡ goal by tracks first count k = omega arith in
         let small′ : getD (ordered by tracks first count) k 0 < 0x1_0000_0000 = omega (arith, at-k .1) in
-        ap (λ (n : ℕ). At (n % 0x1_0000_0000)) e ∙ ap At (number-of by tracks (getD (ordered by tracks first count) k 0) small′) ∙ sym (at-is (ordered by tracks first count) k in-list)
+        ap (λ (n : ℕ). At (n % 0x1_0000_0000)) e ∙ ap At (number-of by tracks (getD (ordered by tracks first count) k 0) small′) ∙ sym (at-is (ordered by tracks first count) k there)

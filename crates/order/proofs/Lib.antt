@@ -1,6 +1,7 @@
 -- The laws that belong to no one function.
 pub mod Sorted
 pub mod Span
+pub mod Few
 pub mod Halve
 pub mod Moves
 pub mod Laws

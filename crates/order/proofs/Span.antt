@@ -18,7 +18,7 @@ use Rattle.walk.specs.Steps.{place}
 use Rattle.order.specs.declared.By.{By}
 use Rattle.order.specs.Order.{keyOf, major, ordered}
 use Rattle.order.specs.Below.{below}
-use Rattle.order.proofs.Sorted.{All, In, Apart, Sorted, sort-sorted, sort-in, sort-all, length-sort, below-sort, rank-place, place-at, in-index}
+use Rattle.order.proofs.Sorted.{all-at, All, In, Apart, Sorted, sort-sorted, sort-in, sort-all, length-sort, below-sort, rank-place, place-at, in-index}
 
 pub span-all : (P : ℕ → Type 0) (i n : ℕ) → ((u : ℕ) → i ≤ u → u < i + n → P u) → All P (span i n)
 span-all P i zero h = tt
@@ -74,6 +74,12 @@ module _ (by : By) (tracks : List ℕ) where
     pub within : All (λ t. (first ≤ t) × (t < first + count)) (ordered by tracks first count)
     unfolding ordered
     within = sort-all (keyOf by tracks) (λ t. (first ≤ t) × (t < first + count)) (span first count) (span-all (λ t. (first ≤ t) × (t < first + count)) first count (λ u a b. (a, b)))
+
+    pub in-list : (k : ℕ) → k < count → k < length (ordered by tracks first count)
+    in-list k h = omega (arith, how-many)
+
+    pub at-place : (k : ℕ) → k < count → (first ≤ getD (ordered by tracks first count) k 0) × (getD (ordered by tracks first count) k 0 < first + count)
+    at-place k h = all-at (λ t. (first ≤ t) × (t < first + count)) (ordered by tracks first count) k within (in-list k h)
 
     -- keys below x are as many in the order as in the run
     pub as-many : (x : ℕ) → below (keyOf by tracks) x (span first count) ≡ below (keyOf by tracks) x (ordered by tracks first count)

@@ -74,13 +74,35 @@ fn rank(tracks: &[u32], by: By, first: usize, count: usize, t: usize) -> usize
     count_below(tracks, by, first, count, x)
 }
 
-// The track at place k of the order: its key is found by halving the range of keys, in 64 scans.
+// The track at place k of few: the one that k come before. A scan for each track up to it.
+fn nth_of_few(tracks: &[u32], by: By, first: usize, count: usize, k: usize) -> NearTrack
+    requires { ⌜ Run (length (now tracks)) first count ⌝ }
+    requires { ⌜ k < count ⌝ }
+    ensures { λ r. ⌜ nearTrack r ≡ at (ordered by (now (tracks .entry)) first count) k ⌝ }
+{
+    let end = first + count;
+    let mut i = first;
+    while i < end {
+        let before = rank(tracks, by, first, count, i);
+        if before == k {
+            let t = tables::TrackNo((i % 4294967296) as u32);
+            return NearTrack::Found(t);
+        }
+        i += 1;
+    }
+    NearTrack::None
+}
+
+// The track at place k of the order. Of many, its key is found by halving the range of keys, in 64 scans.
 fn nth(tracks: &[u32], by: By, first: usize, count: usize, k: usize) -> NearTrack
     requires { ⌜ Run (length (now tracks)) first count ⌝ }
     ensures { λ r. ⌜ nearTrack r ≡ at (ordered by (now (tracks .entry)) first count) k ⌝ }
 {
     if count <= k {
         return NearTrack::None;
+    }
+    if count <= 64 {
+        return nth_of_few(tracks, by, first, count, k);
     }
     let mut lo: u64 = 0;
     let mut hi: u64 = 18446744073709551615;

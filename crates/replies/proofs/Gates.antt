@@ -1,23 +1,23 @@
 -- What a gate tells the call that asked it. Assumes nothing.
 use mathlib.Core.Path.{_≡_, refl, sym, ap, _∙_}
-use mathlib.Core.Bool.{Bool, true, false}
-use mathlib.Core.List.{List}
+use mathlib.Core.Bool.{Bool, true, false, not}
+use mathlib.Core.List.{List, [], _∷_}
 use Prim.Native.Nat.{ℕ}
 use borrow.Author.Tests.{not-false}
 use lib.Dec.{eqb}
 use Rattle.ground.specs.Cases.{Said, granted}
 use Rattle.ground.specs.Lists.{filled}
-use Rattle.ground.proofs.Cases.{past, here}
+use Rattle.ground.proofs.Cases.{past, here, clash}
 use Rattle.tables.specs.Tables.{Tables}
-use Rattle.catalogue.specs.Catalogue.{Right}
+use Rattle.catalogue.specs.Catalogue.{catalogueRule, Right}
 use Rattle.catalogue.proofs.Laws.{is-right}
 use Rattle.standing.specs.Standing.{playerRule}
-use Rattle.admission.specs.Refusals.{Left, leaves, Row, answered, saidBy}
+use Rattle.admission.specs.Refusals.{Left, leaves, Row, row, answered, saidBy}
 use Rattle.admission.proofs.Rows.{NoneApplies, numbered, shut, opened}
 use Rattle.desk.specs.declared.Desk.{Desk}
 use Rattle.desk.proofs.Laws.{player-stands}
 use Rattle.replies.specs.declared.Gate.{Gate}
-use Rattle.replies.specs.Replies.{saidOf, stateRight, fronted, askedBy, Gated, outputAfter}
+use Rattle.replies.specs.Replies.{saidOf, stateRight, lentRows, fronted, askedBy, Gated, outputAfter}
 
 module _ (rows : List Row) (g : Gate) (gated : Gated rows g) where
   -- the gate is shut: its answer is the call's, whatever stands behind
@@ -31,6 +31,20 @@ module _ (rows : List Row) (g : Gate) (gated : Gated rows g) where
 -- a gate that says what the rows say
 pub says : (rows : List Row) (g : Gate) (said : Said) → saidOf (g .answer) ≡ said → g .passes ≡ eqb (said .number) 0 → said ≡ saidBy rows → Gated rows g
 says rows g said p q e = (p ∙ e, q ∙ ap (λ (s : Said). eqb (s .number) 0) e)
+
+-- the state is asked last: a gate that is shut before that is shut whatever the state
+pub shut-before : (k : Tables) (small stands : Bool) (g : Gate) → Gated (lentRows k small true) g → g .passes ≡ false → Gated (lentRows k small stands) g
+shut-before k small stands g gated e =
+    let q = same (catalogueRule k) small (sym (gated .1) ∙ e) in
+    (gated .0 ∙ q, gated .1 ∙ ap (λ (s : Said). eqb (s .number) 0) q)
+  where
+    asked : Bool → Bool → Bool → Said
+    asked right small stands = saidBy (row 200 (not right) ∷ row 205 small ∷ row 201 (not stands) ∷ [])
+
+    same : (right small : Bool) → eqb (asked right small true .number) 0 ≡ false → asked right small true ≡ asked right small stands
+    same false small h = refl
+    same true true h = refl
+    same true false h = clash (sym h)
 
 -- what the first rows tell where none of them applies
 module _ (k : Tables) (small : Bool) (d : Desk) (passed : NoneApplies (fronted k small d)) where

@@ -128,8 +128,14 @@ pub fn front_gate(
 ) -> Gate
     ensures { λ r. ⌜ Gated (fronted (tables (now (groups .entry)) (now (tracks .entry)) (now (segments .entry)) (now (text .entry))) small d) r ⌝ }
 {
-    let stands = desk::desk_right(groups, tracks, d);
-    state_gate(groups, tracks, segments, text, small, stands)
+    let g = state_gate(groups, tracks, segments, text, small, true);
+    if !g.passes {
+        return g;
+    }
+    if desk::desk_right(groups, tracks, d) {
+        return g;
+    }
+    gate_at(false, Answer::BadState)
 }
 
 // The same, and then 202 and 203: of a call by a connected client.

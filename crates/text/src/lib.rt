@@ -125,10 +125,13 @@ fn scan(s: &[u8]) -> Checked
     Checked::Fine
 }
 
-// Whether s is UTF-8, and if not, where. Plain ASCII is found out by one loop with no early exit.
+// Whether s is UTF-8, and if not, where. Plain ASCII is found out by one loop with no early exit; a short text is sooner scanned.
 pub fn check(s: &[u8]) -> Checked
     ensures { λ r. ⌜ r ≡ textOf (now (s .entry)) ⌝ }
 {
+    if s.len() < 32 {
+        return scan(s);
+    }
     if bits_of(s) <= 0x7F {
         return Checked::Fine;
     }

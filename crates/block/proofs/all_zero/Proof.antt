@@ -1,11 +1,10 @@
--- `block::all_zero`: whether what is left is all zero says whether the whole is.
+-- `block::all_zero`: what was seen so far, and whether what is left is all zero, say whether the whole is.
 use Prim.Native.Nat.{ℕ, _≤_, _<_, _-_, _+_}
-use mathlib.Core.Path.{_≡_}
+use mathlib.Core.Path.{_≡_, refl, sym, ap, _∙_}
 use mathlib.Core.List.{List}
-use mathlib.Core.Bool.{_&&_}
+use mathlib.Core.Bool.{Bool, true, false, _&&_}
 use native.Mathlib.Numerals.{add-one}
 use borrow.Author.Needs.{needs}
-use borrow.Author.Tests.{eq-eqb, ne-eqb}
 use lib.Dec.{eqb}
 use lib.ListN.{length, getD, drop, drop-of-length-le}
 use lib.Seq.{drop-cons}
@@ -14,27 +13,29 @@ use Rattle.block.proofs.all_zero.Statement.{statement}
 use Rattle.block.proofs.all_zero.Tie as tie
 
 abbrev Inv-loop : tie.InvT-loop
-Inv-loop s i₀ i = (i ≤ length s) × (allZero (drop i s) ≡ allZero s)
+Inv-loop s good₀ i₀ good i = (i ≤ length s) × ((good && allZero (drop i s)) ≡ allZero s)
 
 abbrev μ-loop : tie.MeasureT-loop
-μ-loop s i₀ i = length s - i
+μ-loop s good₀ i₀ good i = length s - i
 
 -- one more octet
 step : (s : List ℕ) (i : ℕ) → i < length s → allZero (drop i s) ≡ (eqb (getD s i 0) 0 && allZero (drop (i + 1) s))
 unfolding allZero
 step s i h = rw (add-one, drop-cons s i 0)
 
+regroup : (a b c : Bool) → ((a && b) && c) ≡ (a && (b && c))
+regroup true b c = refl
+regroup false b c = refl
+
+all-seen : (good : Bool) → good ≡ (good && true)
+all-seen true = refl
+all-seen false = refl
+
 loop-holds : tie.Need-loop-holds Inv-loop μ-loop
-loop-holds c = search needs
+loop-holds c = (search needs, refl)
 
-shared-slice-read-if1 : tie.Need-shared-slice-read-if1 Inv-loop μ-loop
-shared-slice-read-if1 c = search needs
-
-returns : tie.Need-returns Inv-loop μ-loop
-returns c =
-    let l = c .before .before .before in
-    let s = l .before .args .s .now in
-    rw (step s (l .loop .i) (c .before .before .loop-test .taken), ne-eqb _ _ (c .if1 .taken)) at (l .loop .inv .1)
+shared-slice-read-good : tie.Need-shared-slice-read-good Inv-loop μ-loop
+shared-slice-read-good c = search needs
 
 add-i : tie.Need-add-i Inv-loop μ-loop
 add-i c = search needs
@@ -44,14 +45,16 @@ loop-less c = search needs
 
 loop-again : tie.Need-loop-again Inv-loop μ-loop
 loop-again c =
-    let l = c .before .before .before in
+    let l = c .before .before in
     let s = l .before .args .s .now in
-    (search needs, rw (step s (l .loop .i) (c .before .before .loop-test .taken), eq-eqb _ _ (c .if1 .left)) at (l .loop .inv .1))
+    let good = l .loop .good in
+    (search needs, regroup good _ _ ∙ sym (ap (λ (rest : Bool). good && rest) (step s (l .loop .i) (c .before .loop-test .taken))) ∙ l .loop .inv .1)
 
-returns-2 : tie.Need-returns-2 Inv-loop μ-loop
+returns : tie.Need-returns Inv-loop μ-loop
 unfolding allZero
-returns-2 c = rw (drop-of-length-le (c .before .before .args .s .now) (c .loop-test .left)) at (c .before .loop .inv .1)
+returns c =
+    let l = c .before in
+    all-seen (l .loop .good) ∙ sym (ap (λ (rest : List ℕ). l .loop .good && allZero rest) (drop-of-length-le (l .before .args .s .now) (c .loop-test .left))) ∙ l .loop .inv .1
 
 pub all-zero-spec : {M : Type 1} → statement M
-all-zero-spec =
-    tie.close (tie.spec Inv-loop μ-loop loop-holds shared-slice-read-if1 returns add-i loop-less loop-again returns-2)
+all-zero-spec = tie.close (tie.spec Inv-loop μ-loop loop-holds shared-slice-read-good add-i loop-less loop-again returns)

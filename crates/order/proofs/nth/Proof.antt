@@ -14,10 +14,16 @@ abbrev μ-loop : tie.MeasureT-loop
 returns : tie.Need-returns Inv-loop μ-loop
 returns c = too-far _ _ _ _ (c .before .before .pre .small) _ (c .if1 .taken)
 
+nth-of-few-requires : tie.Need-nth-of-few-requires Inv-loop μ-loop
+nth-of-few-requires c κs = search needs
+
+returns-2 : tie.Need-returns-2 Inv-loop μ-loop
+returns-2 c = c .nth-of-few .ensures
+
 loop-holds : tie.Need-loop-holds Inv-loop μ-loop
 loop-holds c =
-    let s = c .before .before in
-    (search needs, search needs, search needs, starts _ _ _ _ (s .pre .small) _ (c .if1 .left) (λ i. c .before .shared-slice-known .given i .fits))
+    let e = c .before in
+    (search needs, search needs, search needs, starts _ _ _ _ (e .before .before .pre .small) _ (e .if1 .left) (λ i. e .before .shared-slice-known .given i .fits))
 
 sub-loop : tie.Need-sub-loop Inv-loop μ-loop
 sub-loop c = search needs
@@ -37,7 +43,7 @@ loop-less c = search needs
 loop-again : tie.Need-loop-again Inv-loop μ-loop
 loop-again c =
     let l = c .before .before .before in
-    (search needs, search needs, up _ _ _ _ (l .before .before .before .pre .small) _ (l .before .if1 .left) _ _ (c .before .count-below .ensures) (c .if2 .taken), search needs)
+    (search needs, search needs, up _ _ _ _ (l .before .before .before .before .pre .small) _ (l .before .before .if1 .left) _ _ (c .before .count-below .ensures) (c .if3 .taken), search needs)
 
 loop-less-2 : tie.Need-loop-less-2 Inv-loop μ-loop
 loop-less-2 c = search needs
@@ -45,15 +51,15 @@ loop-less-2 c = search needs
 loop-again-2 : tie.Need-loop-again-2 Inv-loop μ-loop
 loop-again-2 c =
     let l = c .before .before .before in
-    (search needs, search needs, search needs, down _ _ _ _ (l .before .before .before .pre .small) _ (l .before .if1 .left) _ _ (c .before .count-below .ensures) (c .if2 .left))
+    (search needs, search needs, search needs, down _ _ _ _ (l .before .before .before .before .pre .small) _ (l .before .before .if1 .left) _ _ (c .before .count-below .ensures) (c .if3 .left))
 
 cast-t16 : tie.Need-cast-t16 Inv-loop μ-loop
 cast-t16 c = search needs
 
-returns-2 : tie.Need-returns-2 Inv-loop μ-loop
-returns-2 c =
+returns-3 : tie.Need-returns-3 Inv-loop μ-loop
+returns-3 c =
     let l = c .before in
-    met _ _ _ _ (l .before .before .before .pre .small) _ (l .before .if1 .left) _ _ (l .loop .inv .2) (l .loop .inv .3) (c .loop-test .left)
+    met _ _ _ _ (l .before .before .before .before .pre .small) _ (l .before .before .if1 .left) _ _ (l .loop .inv .2) (l .loop .inv .3) (c .loop-test .left)
 
 pub nth-spec : {M : Type 1} → statement M
 nth-spec =
@@ -62,6 +68,8 @@ nth-spec =
     Inv-loop
     μ-loop
     returns
+    nth-of-few-requires
+    returns-2
     loop-holds
     sub-loop
     sub-mid
@@ -72,4 +80,4 @@ nth-spec =
     loop-less-2
     loop-again-2
     cast-t16
-    returns-2)
+    returns-3)

@@ -1,0 +1,38 @@
+/* A call with its arguments, and how either program makes it. */
+#ifndef CALLS_H
+#define CALLS_H
+
+#include <stddef.h>
+#include <stdint.h>
+
+#include "catalogues.h"
+#include "ref.h"
+
+enum call {
+    CARD_LOAD, START, SET_NAME, ACTIVATE, DEACTIVATE, ADVANCE, CONNECT, DISCONNECT, SUBSCRIBE, UNSUBSCRIBE, READ, WRITE, TAKE
+};
+
+typedef struct {
+    enum call call;
+    uint32_t number; /* group, step of time, or client */
+    uint32_t second; /* mask, ATT_MTU or characteristic */
+    uint32_t third;  /* offset of a read */
+    const uint8_t *octets; /* name, value or card */
+    size_t len;
+} arguments;
+
+/* What a call hands back beside its number and the state. */
+typedef struct {
+    uint8_t out[MCS_OUTPUT_OCTETS];
+    uint32_t length, served[3], counts[4];
+    catalogue loaded;
+} answers;
+
+/* The two programs. `state` is the 338 octets of the library, and the struct of the C program. */
+uint32_t library_call(const catalogue *c, const arguments *a, uint8_t *state, answers *to);
+uint32_t program_call(const catalogue *c, const arguments *a, ref_state *state, answers *to);
+
+/* Whether the octets are that state. What means nothing in it (octets behind the name, results that do not wait) may differ. */
+int same_state(const uint8_t *octets, const ref_state *state);
+
+#endif

@@ -1,0 +1,215 @@
+/* An office's day on a card: four devices on one desk, and a person sees each result go to the pedal that asked.
+ *
+ *     day [CARD]      the card's file; without one, the sample card
+ *
+ * Exit status 0, or 1 where the card is refused or a result went to the wrong device or out of order.
+ */
+#define _POSIX_C_SOURCE 200809L /* isatty */
+
+#include <stdio.h>
+#include <stdlib.h>
+#include <unistd.h>
+
+#include "books.h"
+#include "card.h"
+#include "devices.h"
+#include "lines.h"
+#include "office.h"
+#include "words.h"
+
+#define SAMPLE_CARD "crates/orders/stdin"
+
+enum {
+    PLAY = 0x01,
+    PAUSE = 0x02,
+    FAST_REWIND = 0x03,
+    FAST_FORWARD = 0x04,
+    STOP = 0x05,
+    MOVE_RELATIVE = 0x10,
+    PREVIOUS_SEGMENT = 0x20,
+    NEXT_SEGMENT = 0x21,
+    FIRST_SEGMENT = 0x22,
+    LAST_SEGMENT = 0x23,
+    GOTO_SEGMENT = 0x24,
+    PREVIOUS_TRACK = 0x30,
+    NEXT_TRACK = 0x31,
+    FIRST_TRACK = 0x32,
+    GOTO_TRACK = 0x34,
+    NEXT_GROUP = 0x41,
+    FIRST_GROUP = 0x42,
+    LAST_GROUP = 0x43,
+    NO_OPCODE = 0x7F
+};
+
+static void morning(uint32_t group)
+{
+    print_heading("Eight o'clock: left pedal, headset and screen are switched on, and the desk opens the first group with tracks");
+    join(LEFT_PEDAL);
+    join(HEADSET);
+    join(SCREEN);
+    open_group(group);
+    tell_all();
+    read_long(SCREEN, MCS_TITLE);
+
+    print_heading("The typist at the left pedal begins");
+    press(LEFT_PEDAL, PLAY);
+    tell_all();
+    let_pass(track_duration() / 3u);
+    tell_all();
+    press(LEFT_PEDAL, PREVIOUS_SEGMENT);
+    tell_all();
+    press(LEFT_PEDAL, FAST_FORWARD);
+    press(LEFT_PEDAL, FAST_FORWARD);
+    tell_all();
+    let_pass(track_duration() / 16u);
+    press(LEFT_PEDAL, PAUSE);
+    tell_all();
+}
+
+/* Results of two pedals wait at once: the case in which they once went to the neighbour. */
+static void second_pedal(void)
+{
+    print_heading("Ten o'clock: a second pedal joins, and both press before the desk comes to tell anyone");
+    join(RIGHT_PEDAL);
+    press(LEFT_PEDAL, PLAY);
+    press(RIGHT_PEDAL, NEXT_SEGMENT);
+    press(LEFT_PEDAL, PREVIOUS_SEGMENT);
+    press_with(RIGHT_PEDAL, MOVE_RELATIVE, 250);
+    press(LEFT_PEDAL, PAUSE);
+    press_with(RIGHT_PEDAL, GOTO_SEGMENT, 2);
+    tell_all();
+
+    print_heading("Left asks for the next track, right for the one before");
+    press(LEFT_PEDAL, NEXT_TRACK);
+    press(RIGHT_PEDAL, PREVIOUS_TRACK);
+    press(LEFT_PEDAL, PLAY);
+    press(RIGHT_PEDAL, FIRST_SEGMENT);
+    tell_all();
+}
+
+static void headset_and_screen(void)
+{
+    uint32_t part;
+
+    print_heading("The headset sets order and speed: the others are told, it is not");
+    set_order(HEADSET, 6);
+    set_speed(HEADSET, -32);
+    tell_all();
+    press_with(RIGHT_PEDAL, GOTO_TRACK, -1);
+    press(HEADSET, NEXT_TRACK);
+    tell_all();
+    set_order(HEADSET, 3);
+    press_with(LEFT_PEDAL, GOTO_TRACK, 1000);
+    tell_all();
+
+    print_heading("The screen reads a title in parts; a pedal moves on between two of them");
+    press(RIGHT_PEDAL, FIRST_TRACK);
+    tell_all();
+    part = read_part(SCREEN, MCS_TITLE, 0);
+    press(LEFT_PEDAL, NEXT_TRACK);
+    read_part(SCREEN, MCS_TITLE, part);
+    read_long(SCREEN, MCS_TITLE);
+    tell_all();
+
+    print_heading("The screen writes the position, counted from the end; the pedals go through the groups");
+    set_position(SCREEN, -100);
+    tell_all();
+    press(RIGHT_PEDAL, NEXT_GROUP);
+    press(LEFT_PEDAL, FIRST_GROUP);
+    press(HEADSET, LAST_GROUP);
+    tell_all();
+}
+
+static void noon(void)
+{
+    static const uint8_t MANY[8] = {PLAY, NEXT_SEGMENT, PAUSE, PREVIOUS_SEGMENT, FAST_REWIND, FIRST_SEGMENT, STOP, LAST_SEGMENT};
+    uint32_t k;
+
+    print_heading("Noon: left presses nine times with no one told, and the ninth finds eight results waiting; right presses too");
+    for (k = 0; k < 8u; k++) {
+        press(LEFT_PEDAL, MANY[k]);
+    }
+    press(LEFT_PEDAL, PLAY);
+    press(RIGHT_PEDAL, NEXT_TRACK);
+    press_with(RIGHT_PEDAL, GOTO_TRACK, 0);
+    tell_all();
+}
+
+static void afternoon(void)
+{
+    print_heading("The left pedal goes off with two results waiting, and comes back: what it is told then is of its new presses alone");
+    press(LEFT_PEDAL, PLAY);
+    press(RIGHT_PEDAL, PAUSE);
+    press(LEFT_PEDAL, NEXT_SEGMENT);
+    leave(LEFT_PEDAL);
+    join(LEFT_PEDAL);
+    press(LEFT_PEDAL, FAST_FORWARD);
+    tell_all();
+
+    print_heading("An opcode that there is not, and a press by the screen, which has not asked for results");
+    press(RIGHT_PEDAL, NO_OPCODE);
+    press(SCREEN, STOP);
+    tell_all();
+
+    print_heading("The tape runs to the end of its track");
+    press(RIGHT_PEDAL, PLAY);
+    tell_all();
+    let_pass(track_duration());
+    tell_all();
+}
+
+static void evening(void)
+{
+    print_heading("Six o'clock: the desk closes the group, and a pedal presses once more");
+    close_group();
+    press(RIGHT_PEDAL, PLAY);
+    press(LEFT_PEDAL, NEXT_TRACK);
+    tell_all();
+    leave(LEFT_PEDAL);
+    leave(RIGHT_PEDAL);
+    leave(HEADSET);
+    leave(SCREEN);
+}
+
+static int refuse(const char *what, uint32_t number)
+{
+    fprintf(stderr, "day: %s: %u: %s\n", what, number, refusal_meaning(number));
+    return 1;
+}
+
+int main(int count, char **words)
+{
+    static catalogue c;
+    const char *path = count > 1 ? words[1] : SAMPLE_CARD;
+    uint32_t number, group;
+
+    if (isatty(STDOUT_FILENO) && getenv("NO_COLOR") == NULL) {
+        use_colours();
+    }
+    number = load_card_file(path, &c);
+    if (number == FILE_UNREADABLE) {
+        fprintf(stderr, "day: cannot read %s\n", path);
+        return 1;
+    }
+    if (number != MCS_OK) {
+        return refuse(path, number);
+    }
+    number = open_office(&c);
+    if (number != MCS_OK) {
+        return refuse(path, number);
+    }
+    printf("Card: %u groups, %u tracks, %u segments, %u octets of text\n", c.counts[0], c.counts[1], c.counts[2], c.counts[3]);
+    group = first_group_with_tracks(&c);
+    if (group == c.counts[0]) {
+        printf("No group of the card has tracks: there is nothing to play.\n");
+        return 0;
+    }
+    introduce();
+    morning(group);
+    second_pedal();
+    headset_and_screen();
+    noon();
+    afternoon();
+    evening();
+    return print_books() ? 0 : 1;
+}

@@ -1,0 +1,24 @@
+#include "devices.h"
+
+const device DEVICES[MCS_CLIENTS] = {
+    {"left pedal", "\x1B[36m", 23, {MCS_MEDIA_STATE, MCS_CONTROL_POINT}},
+    {"right pedal", "\x1B[35m", 27, {MCS_POSITION, MCS_MEDIA_STATE, MCS_CONTROL_POINT}},
+    {"headset",
+     "\x1B[33m",
+     64,
+     {MCS_TRACK_CHANGED, MCS_PLAYBACK_SPEED, MCS_SEEKING_SPEED, MCS_PLAYING_ORDER, MCS_MEDIA_STATE, MCS_CONTROL_POINT}},
+    {"screen",
+     "\x1B[32m",
+     40,
+     {MCS_NAME, MCS_TRACK_CHANGED, MCS_TITLE, MCS_DURATION, MCS_POSITION, MCS_PLAYBACK_SPEED, MCS_PLAYING_ORDER,
+      MCS_MEDIA_STATE}},
+};
+
+int wants(uint32_t who, uint32_t characteristic)
+{
+    const uint32_t *slot = DEVICES[who].slots;
+    while (*slot != 0 && *slot != characteristic) {
+        slot++;
+    }
+    return *slot == characteristic;
+}
