@@ -7,9 +7,6 @@
 #define ALL_OPCODES 0x1FFFFFu
 #define ACCEPTED 0u
 
-/* The opcodes that are timed. */
-enum { PLAY = 0x01, NEXT_SEGMENT = 0x21, GOTO_SEGMENT = 0x24, NEXT_TRACK = 0x31, GOTO_TRACK = 0x34, GOTO_GROUP = 0x44 };
-
 /* A group with tracks in every catalogue here. */
 #define GROUP 1u
 
@@ -100,9 +97,9 @@ static arguments written(uint32_t client, uint32_t characteristic, uint8_t octet
 }
 
 /* Goto Segment -2, and so on: Last, and one step before it. */
-static const uint8_t BACK_2_SEGMENTS[5] = {GOTO_SEGMENT, 0xFE, 0xFF, 0xFF, 0xFF};
-static const uint8_t BACK_2_TRACKS[5] = {GOTO_TRACK, 0xFE, 0xFF, 0xFF, 0xFF};
-static const uint8_t BACK_1_GROUP[5] = {GOTO_GROUP, 0xFF, 0xFF, 0xFF, 0xFF};
+static const uint8_t BACK_2_SEGMENTS[5] = {MCS_OPCODE_GOTO_SEGMENT, 0xFE, 0xFF, 0xFF, 0xFF};
+static const uint8_t BACK_2_TRACKS[5] = {MCS_OPCODE_GOTO_TRACK, 0xFE, 0xFF, 0xFF, 0xFF};
+static const uint8_t BACK_1_GROUP[5] = {MCS_OPCODE_GOTO_GROUP, 0xFF, 0xFF, 0xFF, 0xFF};
 static const uint8_t POSITION[4] = {100, 0, 0, 0};
 static const uint8_t NAME[] = "Interviews, room 3, left desk";
 
@@ -151,7 +148,7 @@ static desk paused(const catalogue *c, uint8_t order)
 static desk playing(const catalogue *c)
 {
     desk d = paused(c, 3);
-    make(&d, c, opcode(1, PLAY));
+    make(&d, c, opcode(1, MCS_OPCODE_PLAY));
     take_until(&d, c, 0);
     return d;
 }
@@ -185,7 +182,7 @@ static desk owing_results(const catalogue *c)
     desk d = paused(c, 3);
     uint32_t k;
     for (k = 0; k < 3u; k++) {
-        make(&d, c, opcode(2, PLAY));
+        make(&d, c, opcode(2, MCS_OPCODE_PLAY));
     }
     take_until(&d, c, MCS_CONTROL_POINT);
     return d;
@@ -274,11 +271,11 @@ void add_calls(table *t, const catalogue *c, const uint8_t *card, size_t card_le
     add(t, "read, name", c, plain(READ, 3, MCS_NAME, 0), plays, ACCEPTED);
     add(t, "read, title", c, plain(READ, 3, MCS_TITLE, 0), plays, ACCEPTED);
     add(t, "read, position", c, plain(READ, 0, MCS_POSITION, 0), plays, ACCEPTED);
-    add(t, "write, Play", c, opcode(0, PLAY), by_number, ACCEPTED);
-    add(t, "write, Next Segment", c, opcode(0, NEXT_SEGMENT), by_number, ACCEPTED);
+    add(t, "write, Play", c, opcode(0, MCS_OPCODE_PLAY), by_number, ACCEPTED);
+    add(t, "write, Next Segment", c, opcode(0, MCS_OPCODE_NEXT_SEGMENT), by_number, ACCEPTED);
     add(t, "write, Goto Segment", c, with_octets(WRITE, 0, MCS_CONTROL_POINT, BACK_2_SEGMENTS, 5), by_number, ACCEPTED);
-    add(t, "write, Next Track, order 3", c, opcode(0, NEXT_TRACK), by_number, ACCEPTED);
-    add(t, "write, Next Track, order 5", c, opcode(0, NEXT_TRACK), by_stamp, ACCEPTED);
+    add(t, "write, Next Track, order 3", c, opcode(0, MCS_OPCODE_NEXT_TRACK), by_number, ACCEPTED);
+    add(t, "write, Next Track, order 5", c, opcode(0, MCS_OPCODE_NEXT_TRACK), by_stamp, ACCEPTED);
     add(t, "write, Goto Track, order 5", c, with_octets(WRITE, 0, MCS_CONTROL_POINT, BACK_2_TRACKS, 5), by_stamp, ACCEPTED);
     add(t, "write, Goto Group, order 3", c, with_octets(WRITE, 0, MCS_CONTROL_POINT, BACK_1_GROUP, 5), by_number, ACCEPTED);
     add(t, "write, position", c, with_octets(WRITE, 0, MCS_POSITION, POSITION, 4), by_number, ACCEPTED);

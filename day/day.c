@@ -19,27 +19,7 @@
 
 #define SAMPLE_CARD "crates/orders/stdin"
 
-enum {
-    PLAY = 0x01,
-    PAUSE = 0x02,
-    FAST_REWIND = 0x03,
-    FAST_FORWARD = 0x04,
-    STOP = 0x05,
-    MOVE_RELATIVE = 0x10,
-    PREVIOUS_SEGMENT = 0x20,
-    NEXT_SEGMENT = 0x21,
-    FIRST_SEGMENT = 0x22,
-    LAST_SEGMENT = 0x23,
-    GOTO_SEGMENT = 0x24,
-    PREVIOUS_TRACK = 0x30,
-    NEXT_TRACK = 0x31,
-    FIRST_TRACK = 0x32,
-    GOTO_TRACK = 0x34,
-    NEXT_GROUP = 0x41,
-    FIRST_GROUP = 0x42,
-    LAST_GROUP = 0x43,
-    NO_OPCODE = 0x7F
-};
+#define NO_OPCODE 0x7Fu /* one that the standard does not have */
 
 static void morning(uint32_t group)
 {
@@ -52,17 +32,17 @@ static void morning(uint32_t group)
     read_long(SCREEN, MCS_TITLE);
 
     print_heading("The typist at the left pedal begins");
-    press(LEFT_PEDAL, PLAY);
+    press(LEFT_PEDAL, MCS_OPCODE_PLAY);
     tell_all();
     let_pass(track_duration() / 3u);
     tell_all();
-    press(LEFT_PEDAL, PREVIOUS_SEGMENT);
+    press(LEFT_PEDAL, MCS_OPCODE_PREVIOUS_SEGMENT);
     tell_all();
-    press(LEFT_PEDAL, FAST_FORWARD);
-    press(LEFT_PEDAL, FAST_FORWARD);
+    press(LEFT_PEDAL, MCS_OPCODE_FAST_FORWARD);
+    press(LEFT_PEDAL, MCS_OPCODE_FAST_FORWARD);
     tell_all();
     let_pass(track_duration() / 16u);
-    press(LEFT_PEDAL, PAUSE);
+    press(LEFT_PEDAL, MCS_OPCODE_PAUSE);
     tell_all();
 }
 
@@ -71,19 +51,19 @@ static void second_pedal(void)
 {
     print_heading("Ten o'clock: a second pedal joins, and both press before the desk comes to tell anyone");
     join(RIGHT_PEDAL);
-    press(LEFT_PEDAL, PLAY);
-    press(RIGHT_PEDAL, NEXT_SEGMENT);
-    press(LEFT_PEDAL, PREVIOUS_SEGMENT);
-    press_with(RIGHT_PEDAL, MOVE_RELATIVE, 250);
-    press(LEFT_PEDAL, PAUSE);
-    press_with(RIGHT_PEDAL, GOTO_SEGMENT, 2);
+    press(LEFT_PEDAL, MCS_OPCODE_PLAY);
+    press(RIGHT_PEDAL, MCS_OPCODE_NEXT_SEGMENT);
+    press(LEFT_PEDAL, MCS_OPCODE_PREVIOUS_SEGMENT);
+    press_with(RIGHT_PEDAL, MCS_OPCODE_MOVE_RELATIVE, 250);
+    press(LEFT_PEDAL, MCS_OPCODE_PAUSE);
+    press_with(RIGHT_PEDAL, MCS_OPCODE_GOTO_SEGMENT, 2);
     tell_all();
 
     print_heading("Left asks for the next track, right for the one before");
-    press(LEFT_PEDAL, NEXT_TRACK);
-    press(RIGHT_PEDAL, PREVIOUS_TRACK);
-    press(LEFT_PEDAL, PLAY);
-    press(RIGHT_PEDAL, FIRST_SEGMENT);
+    press(LEFT_PEDAL, MCS_OPCODE_NEXT_TRACK);
+    press(RIGHT_PEDAL, MCS_OPCODE_PREVIOUS_TRACK);
+    press(LEFT_PEDAL, MCS_OPCODE_PLAY);
+    press(RIGHT_PEDAL, MCS_OPCODE_FIRST_SEGMENT);
     tell_all();
 }
 
@@ -95,18 +75,18 @@ static void headset_and_screen(void)
     set_order(HEADSET, 6);
     set_speed(HEADSET, -32);
     tell_all();
-    press_with(RIGHT_PEDAL, GOTO_TRACK, -1);
-    press(HEADSET, NEXT_TRACK);
+    press_with(RIGHT_PEDAL, MCS_OPCODE_GOTO_TRACK, -1);
+    press(HEADSET, MCS_OPCODE_NEXT_TRACK);
     tell_all();
     set_order(HEADSET, 3);
-    press_with(LEFT_PEDAL, GOTO_TRACK, 1000);
+    press_with(LEFT_PEDAL, MCS_OPCODE_GOTO_TRACK, 1000);
     tell_all();
 
     print_heading("The screen reads a title in parts; a pedal moves on between two of them");
-    press(RIGHT_PEDAL, FIRST_TRACK);
+    press(RIGHT_PEDAL, MCS_OPCODE_FIRST_TRACK);
     tell_all();
     part = read_part(SCREEN, MCS_TITLE, 0);
-    press(LEFT_PEDAL, NEXT_TRACK);
+    press(LEFT_PEDAL, MCS_OPCODE_NEXT_TRACK);
     read_part(SCREEN, MCS_TITLE, part);
     read_long(SCREEN, MCS_TITLE);
     tell_all();
@@ -114,45 +94,45 @@ static void headset_and_screen(void)
     print_heading("The screen writes the position, counted from the end; the pedals go through the groups");
     set_position(SCREEN, -100);
     tell_all();
-    press(RIGHT_PEDAL, NEXT_GROUP);
-    press(LEFT_PEDAL, FIRST_GROUP);
-    press(HEADSET, LAST_GROUP);
+    press(RIGHT_PEDAL, MCS_OPCODE_NEXT_GROUP);
+    press(LEFT_PEDAL, MCS_OPCODE_FIRST_GROUP);
+    press(HEADSET, MCS_OPCODE_LAST_GROUP);
     tell_all();
 }
 
 static void noon(void)
 {
-    static const uint8_t MANY[8] = {PLAY, NEXT_SEGMENT, PAUSE, PREVIOUS_SEGMENT, FAST_REWIND, FIRST_SEGMENT, STOP, LAST_SEGMENT};
+    static const uint8_t MANY[8] = {MCS_OPCODE_PLAY, MCS_OPCODE_NEXT_SEGMENT, MCS_OPCODE_PAUSE, MCS_OPCODE_PREVIOUS_SEGMENT, MCS_OPCODE_FAST_REWIND, MCS_OPCODE_FIRST_SEGMENT, MCS_OPCODE_STOP, MCS_OPCODE_LAST_SEGMENT};
     uint32_t k;
 
     print_heading("Noon: left presses nine times with no one told, and the ninth finds eight results waiting; right presses too");
     for (k = 0; k < 8u; k++) {
         press(LEFT_PEDAL, MANY[k]);
     }
-    press(LEFT_PEDAL, PLAY);
-    press(RIGHT_PEDAL, NEXT_TRACK);
-    press_with(RIGHT_PEDAL, GOTO_TRACK, 0);
+    press(LEFT_PEDAL, MCS_OPCODE_PLAY);
+    press(RIGHT_PEDAL, MCS_OPCODE_NEXT_TRACK);
+    press_with(RIGHT_PEDAL, MCS_OPCODE_GOTO_TRACK, 0);
     tell_all();
 }
 
 static void afternoon(void)
 {
     print_heading("The left pedal goes off with two results waiting, and comes back: what it is told then is of its new presses alone");
-    press(LEFT_PEDAL, PLAY);
-    press(RIGHT_PEDAL, PAUSE);
-    press(LEFT_PEDAL, NEXT_SEGMENT);
+    press(LEFT_PEDAL, MCS_OPCODE_PLAY);
+    press(RIGHT_PEDAL, MCS_OPCODE_PAUSE);
+    press(LEFT_PEDAL, MCS_OPCODE_NEXT_SEGMENT);
     leave(LEFT_PEDAL);
     join(LEFT_PEDAL);
-    press(LEFT_PEDAL, FAST_FORWARD);
+    press(LEFT_PEDAL, MCS_OPCODE_FAST_FORWARD);
     tell_all();
 
     print_heading("An opcode that there is not, and a press by the screen, which has not asked for results");
     press(RIGHT_PEDAL, NO_OPCODE);
-    press(SCREEN, STOP);
+    press(SCREEN, MCS_OPCODE_STOP);
     tell_all();
 
     print_heading("The tape runs to the end of its track");
-    press(RIGHT_PEDAL, PLAY);
+    press(RIGHT_PEDAL, MCS_OPCODE_PLAY);
     tell_all();
     let_pass(track_duration());
     tell_all();
@@ -162,8 +142,8 @@ static void evening(void)
 {
     print_heading("Six o'clock: the desk closes the group, and a pedal presses once more");
     close_group();
-    press(RIGHT_PEDAL, PLAY);
-    press(LEFT_PEDAL, NEXT_TRACK);
+    press(RIGHT_PEDAL, MCS_OPCODE_PLAY);
+    press(LEFT_PEDAL, MCS_OPCODE_NEXT_TRACK);
     tell_all();
     leave(LEFT_PEDAL);
     leave(RIGHT_PEDAL);

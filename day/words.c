@@ -74,7 +74,8 @@ const char *characteristic_name(uint32_t characteristic)
 
 const char *media_state_name(uint8_t media)
 {
-    static const named NAMES[] = {{0, "Inactive"}, {1, "Playing"}, {2, "Paused"}, {3, "Seeking"}};
+    static const named NAMES[] = {
+        {MCS_INACTIVE, "Inactive"}, {MCS_PLAYING, "Playing"}, {MCS_PAUSED, "Paused"}, {MCS_SEEKING, "Seeking"}};
     return NAME_IN(NAMES, media, "unknown state");
 }
 
@@ -88,27 +89,27 @@ const char *order_name(uint8_t order)
 void print_opcode(uint8_t opcode)
 {
     static const named NAMES[] = {
-        {0x01, "Play"},
-        {0x02, "Pause"},
-        {0x03, "Fast Rewind"},
-        {0x04, "Fast Forward"},
-        {0x05, "Stop"},
-        {0x10, "Move Relative"},
-        {0x20, "Previous Segment"},
-        {0x21, "Next Segment"},
-        {0x22, "First Segment"},
-        {0x23, "Last Segment"},
-        {0x24, "Goto Segment"},
-        {0x30, "Previous Track"},
-        {0x31, "Next Track"},
-        {0x32, "First Track"},
-        {0x33, "Last Track"},
-        {0x34, "Goto Track"},
-        {0x40, "Previous Group"},
-        {0x41, "Next Group"},
-        {0x42, "First Group"},
-        {0x43, "Last Group"},
-        {0x44, "Goto Group"},
+        {MCS_OPCODE_PLAY, "Play"},
+        {MCS_OPCODE_PAUSE, "Pause"},
+        {MCS_OPCODE_FAST_REWIND, "Fast Rewind"},
+        {MCS_OPCODE_FAST_FORWARD, "Fast Forward"},
+        {MCS_OPCODE_STOP, "Stop"},
+        {MCS_OPCODE_MOVE_RELATIVE, "Move Relative"},
+        {MCS_OPCODE_PREVIOUS_SEGMENT, "Previous Segment"},
+        {MCS_OPCODE_NEXT_SEGMENT, "Next Segment"},
+        {MCS_OPCODE_FIRST_SEGMENT, "First Segment"},
+        {MCS_OPCODE_LAST_SEGMENT, "Last Segment"},
+        {MCS_OPCODE_GOTO_SEGMENT, "Goto Segment"},
+        {MCS_OPCODE_PREVIOUS_TRACK, "Previous Track"},
+        {MCS_OPCODE_NEXT_TRACK, "Next Track"},
+        {MCS_OPCODE_FIRST_TRACK, "First Track"},
+        {MCS_OPCODE_LAST_TRACK, "Last Track"},
+        {MCS_OPCODE_GOTO_TRACK, "Goto Track"},
+        {MCS_OPCODE_PREVIOUS_GROUP, "Previous Group"},
+        {MCS_OPCODE_NEXT_GROUP, "Next Group"},
+        {MCS_OPCODE_FIRST_GROUP, "First Group"},
+        {MCS_OPCODE_LAST_GROUP, "Last Group"},
+        {MCS_OPCODE_GOTO_GROUP, "Goto Group"},
     };
     const char *name = NAME_IN(NAMES, opcode, NULL);
     if (name != NULL) {

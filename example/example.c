@@ -15,9 +15,9 @@ int main(void)
     uint8_t out[MCS_OUTPUT_OCTETS];
     uint32_t served[3], length;
     const uint32_t pedal = 2;
-    const uint8_t play = 0x01;
+    const uint8_t play = MCS_OPCODE_PLAY;
 
-    if (mcs_start(CATALOGUE, name, sizeof name, 0x1FFFFF, 5, state) != MCS_OK)
+    if (mcs_start(CATALOGUE, name, sizeof name, MCS_ALL_OPCODES, 5, state) != MCS_OK)
         return 1;
     if (mcs_activate(CATALOGUE, state, 0) != MCS_OK)
         return 2;
@@ -31,7 +31,7 @@ int main(void)
     /* The pedal is owed the result of its own write: Play, Success. */
     if (mcs_take(CATALOGUE, state, out, sizeof out, served) != MCS_OK)
         return 6;
-    if (served[0] != pedal || served[1] != MCS_CONTROL_POINT || served[2] != 2 || out[0] != play || out[1] != 1)
+    if (served[0] != pedal || served[1] != MCS_CONTROL_POINT || served[2] != 2 || out[0] != play || out[1] != MCS_RESULT_SUCCESS)
         return 7;
 
     /* Nothing else is owed. */

@@ -97,10 +97,48 @@ extern "C" {
 #define MCS_SEEKING_SPEED 9u    /* 1 octet; read, notify */
 #define MCS_PLAYING_ORDER 15u   /* 1 octet; read, write, notify */
 #define MCS_ORDERS_SUPPORTED 16u /* 2 octets; read */
-#define MCS_MEDIA_STATE 17u     /* 1 octet: 0 Inactive, 1 Playing, 2 Paused, 3 Seeking; read, notify */
+#define MCS_MEDIA_STATE 17u     /* 1 octet, MCS_INACTIVE to MCS_SEEKING; read, notify */
 #define MCS_CONTROL_POINT 18u   /* write: opcode, and for some a number of 4 octets; notify: requested opcode and result, 1 to 4 */
 #define MCS_OPCODES_SUPPORTED 19u /* 4 octets; read */
 #define MCS_CONTENT_CONTROL_ID 22u /* 1 octet; read */
+
+/* ---- Opcodes of the control point, with their bit in the mask of mcs_start and in Opcodes Supported -------------------------------
+ * MOVE_RELATIVE and the three GOTOs are written with a signed number of 4 octets behind the opcode, the others alone.
+ */
+#define MCS_OPCODE_PLAY 0x01u               /* bit 0 */
+#define MCS_OPCODE_PAUSE 0x02u              /* bit 1 */
+#define MCS_OPCODE_FAST_REWIND 0x03u        /* bit 2 */
+#define MCS_OPCODE_FAST_FORWARD 0x04u       /* bit 3 */
+#define MCS_OPCODE_STOP 0x05u               /* bit 4 */
+#define MCS_OPCODE_MOVE_RELATIVE 0x10u      /* bit 5 */
+#define MCS_OPCODE_PREVIOUS_SEGMENT 0x20u   /* bit 6 */
+#define MCS_OPCODE_NEXT_SEGMENT 0x21u       /* bit 7 */
+#define MCS_OPCODE_FIRST_SEGMENT 0x22u      /* bit 8 */
+#define MCS_OPCODE_LAST_SEGMENT 0x23u       /* bit 9 */
+#define MCS_OPCODE_GOTO_SEGMENT 0x24u       /* bit 10 */
+#define MCS_OPCODE_PREVIOUS_TRACK 0x30u     /* bit 11 */
+#define MCS_OPCODE_NEXT_TRACK 0x31u         /* bit 12 */
+#define MCS_OPCODE_FIRST_TRACK 0x32u        /* bit 13 */
+#define MCS_OPCODE_LAST_TRACK 0x33u         /* bit 14 */
+#define MCS_OPCODE_GOTO_TRACK 0x34u         /* bit 15 */
+#define MCS_OPCODE_PREVIOUS_GROUP 0x40u     /* bit 16 */
+#define MCS_OPCODE_NEXT_GROUP 0x41u         /* bit 17 */
+#define MCS_OPCODE_FIRST_GROUP 0x42u        /* bit 18 */
+#define MCS_OPCODE_LAST_GROUP 0x43u         /* bit 19 */
+#define MCS_OPCODE_GOTO_GROUP 0x44u         /* bit 20 */
+#define MCS_ALL_OPCODES 0x1FFFFFu
+
+/* Results, the second octet of a notification of the control point; the first that applies, in the order 2, 3, 4, 1. */
+#define MCS_RESULT_SUCCESS 1u
+#define MCS_RESULT_NOT_SUPPORTED 2u  /* the opcode is unknown, or not in the mask */
+#define MCS_RESULT_INACTIVE 3u       /* there is no current track */
+#define MCS_RESULT_NOT_COMPLETED 4u  /* the move cannot be made */
+
+/* Media State. */
+#define MCS_INACTIVE 0u
+#define MCS_PLAYING 1u
+#define MCS_PAUSED 2u
+#define MCS_SEEKING 3u
 
 /* ---- The state: octets at these offsets, numbers little endian -------------------------------------------------------------
  * The caller keeps it, and may store and restore it. Every string of MCS_STATE_OCTETS octets is a state, which a call takes or
