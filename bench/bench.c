@@ -27,18 +27,23 @@ static double now(void)
 }
 
 /* Nanoseconds that so many calls take. Before each, the state is put back: about the same octets for either program. */
-static double batch_of_library(const row *r, uint32_t times)
+static double batch_on_octets(const row *r, uint32_t times,
+                              uint32_t (*call)(const catalogue *, const arguments *, uint8_t *, answers *))
 {
     uint8_t state[MCS_STATE_OCTETS];
     double began = now();
     uint32_t k, sum = 0;
     for (k = 0; k < times; k++) {
         memcpy(state, r->before.octets, sizeof state);
-        sum += library_call(r->lent, &r->arguments, state, &answered);
+        sum += call(r->lent, &r->arguments, state, &answered);
     }
     numbers = sum;
     return now() - began;
 }
+
+static double batch_of_library(const row *r, uint32_t times) { return batch_on_octets(r, times, library_call); }
+
+static double batch_of_lent_program(const row *r, uint32_t times) { return batch_on_octets(r, times, lent_program_call); }
 
 static double batch_of_program(const row *r, uint32_t times)
 {
@@ -53,62 +58,41 @@ static double batch_of_program(const row *r, uint32_t times)
     return now() - began;
 }
 
-/* Nanoseconds a call: the best and the middle of the batches. */
-typedef struct {
-    double best, middle;
-} timing;
+/* Nanoseconds a call, the best of the batches: of the library, of the C program, and of that behind the library's octets. */
+enum { LIBRARY, PROGRAM, LENT_PROGRAM, TIMED };
 
-static int by_size(const void *a, const void *b)
+/* The programs take turns, batch by batch, so that whatever else the machine does falls on all. */
+static void time_row(const row *r, uint32_t repetitions, double best[TIMED])
 {
-    double x = *(const double *)a, y = *(const double *)b;
-    return (x > y) - (x < y);
-}
-
-static timing timing_of(double *batches, uint32_t count)
-{
-    timing t;
-    qsort(batches, count, sizeof *batches, by_size);
-    t.best = batches[0];
-    t.middle = batches[count / 2u];
-    return t;
-}
-
-/* The programs take turns, batch by batch, so that whatever else the machine does falls on both. */
-static void time_row(const row *r, uint32_t repetitions, timing *library, timing *program)
-{
-    double of_library[MOST_REPETITIONS], of_program[MOST_REPETITIONS];
-    uint32_t times = 1, k;
+    double (*const BATCH[TIMED])(const row *, uint32_t) = {batch_of_library, batch_of_program, batch_of_lent_program};
+    uint32_t times = 1, k, turn;
     while (batch_of_library(r, times) + batch_of_program(r, times) < BATCH_NS) {
         times *= 2u;
     }
     for (k = 0; k < repetitions; k++) {
-        if (k % 2u == 0) {
-            of_library[k] = batch_of_library(r, times) / times;
-            of_program[k] = batch_of_program(r, times) / times;
-        } else {
-            of_program[k] = batch_of_program(r, times) / times;
-            of_library[k] = batch_of_library(r, times) / times;
+        for (turn = 0; turn < TIMED; turn++) {
+            const uint32_t which = (turn + k) % TIMED;
+            const double took = BATCH[which](r, times) / times;
+            best[which] = k == 0 || took < best[which] ? took : best[which];
         }
     }
-    *library = timing_of(of_library, repetitions);
-    *program = timing_of(of_program, repetitions);
 }
 
-static size_t above_one, timed;
+static size_t above_one, above_lent, timed;
 static double highest;
 static const row *slowest;
 
 static void print_row(const row *r, uint32_t repetitions)
 {
-    timing library, program;
-    double ratio;
-    time_row(r, repetitions, &library, &program);
-    ratio = library.best / program.best;
-    printf("| %s | %s | %.0f | %.0f | %.2f | %.2f |\n", r->call, r->lent->name, library.best, program.best, ratio,
-           library.middle / program.middle);
+    double best[TIMED], ratio;
+    time_row(r, repetitions, best);
+    ratio = best[LIBRARY] / best[PROGRAM];
+    printf("| %s | %s | %.0f | %.0f | %.2f | %.0f | %.2f |\n", r->call, r->lent->name, best[LIBRARY], best[PROGRAM], ratio,
+           best[LENT_PROGRAM], best[LIBRARY] / best[LENT_PROGRAM]);
     fflush(stdout);
     timed += 1u;
     above_one += ratio > 1.0;
+    above_lent += best[LIBRARY] > best[LENT_PROGRAM];
     if (ratio > highest) {
         highest = ratio;
         slowest = r;
@@ -119,7 +103,8 @@ static void print_row(const row *r, uint32_t repetitions)
 static void print_rows(const char *title, size_t from, size_t to, uint32_t repetitions)
 {
     size_t k;
-    printf("\n%s\n\n| call | catalogue | library, ns | C, ns | ratio | ratio of medians |\n|---|---|---:|---:|---:|---:|\n", title);
+    printf("\n%s\n\n| call | catalogue | library, ns | C, ns | ratio | C behind octets, ns | ratio |\n"
+           "|---|---|---:|---:|---:|---:|---:|\n", title);
     for (k = from; k < to; k++) {
         if (!row_agrees(&rows.rows[k])) {
             fprintf(stderr, "bench: the programs differ in '%s' on the catalogue '%s'\n", rows.rows[k].call,
@@ -197,14 +182,14 @@ static void report(const char *where, uint32_t repetitions)
     char date[16];
     time_t today = time(NULL);
     strftime(date, sizeof date, "%Y-%m-%d", gmtime(&today));
-    printf("x86-64, %s, %s: best and median of %u batches, the two programs in turn.\n", where, date, repetitions);
+    printf("x86-64, %s, %s: best of %u batches, the programs in turn.\n", where, date, repetitions);
     print_rows("Calls", 0, calls_end, repetitions);
     print_rows("Text check (no call is the check alone: set name, no catalogue, the name before is empty)", calls_end, text_end,
                repetitions);
     print_rows("Growth with the tables (catalogue check: deactivate while Inactive; card load)", text_end, rows.count,
                repetitions);
-    printf("\n%zu of %zu rows at most 1.00; highest %.2f (%s, %s).\n", timed - above_one, timed, highest, slowest->call,
-           slowest->lent->name);
+    printf("\n%zu of %zu rows at most 1.00, beside C behind octets %zu; highest %.2f (%s, %s).\n", timed - above_one, timed,
+           timed - above_lent, highest, slowest->call, slowest->lent->name);
 }
 
 static int once(const char *which, const char *program, const char *times)

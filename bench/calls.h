@@ -32,6 +32,9 @@ typedef struct {
 uint32_t library_call(const catalogue *c, const arguments *a, uint8_t *state, answers *to);
 uint32_t program_call(const catalogue *c, const arguments *a, ref_state *state, answers *to);
 
+/* The C program behind the library's interface: its state is read out of the octets before a call, and written back where that is accepted. */
+uint32_t lent_program_call(const catalogue *c, const arguments *a, uint8_t *octets, answers *to);
+
 /* Whether the octets are that state. What means nothing in it (octets behind the name, results that do not wait) may differ. */
 int same_state(const uint8_t *octets, const ref_state *state);
 

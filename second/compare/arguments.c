@@ -1,0 +1,166 @@
+#include "arguments.h"
+#include "text.h"
+
+#include <string.h>
+
+#define RESULTS_BIT (REF_SLOTS - 1u)
+
+uint32_t some_client(dice *d, const run *r, uint32_t connected, uint32_t wrong)
+{
+    uint32_t from = below(d, REF_CLIENTS);
+    if (one_in(d, wrong)) {
+        return ONE_OF(d, 4, 5, 7, 255, 256, 0x10000u, 0x80000000u, 0xFFFFFFFFu);
+    }
+    if (one_in(d, wrong)) {
+        return from;
+    }
+    for (uint32_t k = 0; k < REF_CLIENTS; k++) {
+        uint32_t client = (from + k) % REF_CLIENTS;
+        if (r->second.clients[client].connected == connected) {
+            return client;
+        }
+    }
+    return from;
+}
+
+uint32_t some_writer(dice *d, const run *r, uint32_t wrong)
+{
+    uint32_t client = some_client(d, r, 1, wrong);
+    for (uint32_t k = 0; k < 2 && client < REF_CLIENTS && (r->second.clients[client].subscribed >> RESULTS_BIT & 1u) == 0;
+         k++) {
+        client = some_client(d, r, 1, UINT32_MAX);
+    }
+    return client;
+}
+
+uint32_t no_characteristic(dice *d)
+{
+    return ONE_OF(d, 0, 2, 3, 10, 11, 12, 13, 14, 20, 21, 23, 24, 31, 32, 33, 36, 39, 50, 255, 257, 0x105, 0x10012u,
+                  0x80000007u, 0xFFFFFFFFu);
+}
+
+uint32_t some_room(dice *d, uint32_t wrong)
+{
+    if (one_in(d, wrong)) {
+        return one_in(d, 2) ? ONE_OF(d, 0, 1, 126, 127) : below(d, MCS_OUTPUT_OCTETS);
+    }
+    return one_in(d, 2) ? MCS_OUTPUT_OCTETS : between(d, MCS_OUTPUT_OCTETS, OUT_ROOM);
+}
+
+void some_name(dice *d, const run *r, uint32_t wrong, step *s)
+{
+    if (one_in(d, wrong)) {
+        s->length = ONE_OF(d, 129, 130, 200, 256, 257, MCS_STATE_OCTETS);
+        right_text(d, s->octets, s->length);
+        return;
+    }
+    s->length = one_in(d, 3) ? ONE_OF(d, 0, 1, 19, 20, 21, 22, 23, 127, 128) : below(d, one_in(d, 3) ? 129 : 30);
+    if (one_in(d, wrong) && s->length > 0) {
+        wrong_text(d, s->octets, s->length);
+        return;
+    }
+    right_text(d, s->octets, s->length);
+    if (r->second.name_len <= REF_NAME_ROOM && r->second.name_len > 0 && one_in(d, 4)) {
+        /* The same name again, or another of its length. */
+        s->length = r->second.name_len;
+        memcpy(s->octets, r->second.name, s->length);
+        if (one_in(d, 2)) {
+            uint32_t at = below(d, s->length);
+            s->octets[at] = (uint8_t)between(d, 'a', 'z');
+        }
+    }
+}
+
+int has_track(const run *r) { return r->second.media != REF_INACTIVE && r->second.track < track_count(&r->lent); }
+
+uint32_t some_number(dice *d, uint32_t far)
+{
+    uint32_t n;
+    switch (below(d, 8)) {
+    case 0:
+        return ONE_OF(d, 0x80000000u, 0x80000001u, 0x7FFFFFFFu, 0x7FFFFFFEu, 0xFFFFFFFFu, 0);
+    case 1:
+        return any_word(d);
+    case 2:
+    case 3:
+        n = far + below(d, 3);
+        n -= n > 0 && one_in(d, 2) ? 1u : 0u;
+        break;
+    case 4:
+        n = below(d, far < 0xFFFFFFFFu ? far + 1u : far);
+        break;
+    default:
+        n = below(d, 5);
+        break;
+    }
+    return one_in(d, 2) ? n : 0u - n;
+}
+
+uint32_t reach(const run *r, uint8_t opcode)
+{
+    if (!has_track(r)) {
+        return 3;
+    }
+    switch (opcode) {
+    case 0x24:
+        return track_word(&r->lent, r->second.track, SEGMENT_COUNT);
+    case 0x34:
+        return r->second.group < group_count(&r->lent) ? group_word(&r->lent, r->second.group, TRACK_COUNT) : 3;
+    case 0x44:
+        return group_count(&r->lent);
+    default:
+        return track_word(&r->lent, r->second.track, DURATION);
+    }
+}
+
+uint32_t value_length(const run *r, uint32_t characteristic)
+{
+    switch (characteristic) {
+    case MCS_NAME:
+        return r->second.name_len;
+    case MCS_TITLE:
+        return has_track(r) ? track_word(&r->lent, r->second.track, TITLE_LENGTH) : 0;
+    case MCS_DURATION:
+    case MCS_POSITION:
+    case MCS_OPCODES_SUPPORTED:
+        return 4;
+    default:
+        return 1;
+    }
+}
+
+uint32_t some_time(dice *d, const run *r)
+{
+    uint32_t left = has_track(r) ? track_word(&r->lent, r->second.track, DURATION) - r->second.position : 100;
+    switch (below(d, 8)) {
+    case 0:
+        return ONE_OF(d, 0, 1, 0x7FFFFFFFu, 0x80000000u, 0xFFFFFFFFu, 0x08000000u);
+    case 1:
+        return any_word(d);
+    case 2:
+        return left;
+    case 3:
+        return left + 1u;
+    case 4:
+        return left - 1u;
+    case 5:
+        return left / 4u;
+    default:
+        return below(d, 60);
+    }
+}
+
+uint32_t some_group(dice *d, const run *r, uint32_t wrong)
+{
+    uint32_t groups = group_count(&r->lent);
+    if (groups == 0 || one_in(d, wrong)) {
+        return ONE_OF(d, groups, groups + 1u, 64, 256, 0x80000000u, 0xFFFFFFFFu);
+    }
+    for (uint32_t k = 0; k < 3; k++) {
+        uint32_t group = below(d, groups);
+        if (group_word(&r->lent, group, TRACK_COUNT) > 0) {
+            return group;
+        }
+    }
+    return below(d, groups);
+}

@@ -1,0 +1,252 @@
+/* The cases of document 01 with the values that it states. A comment in quotation marks is a sentence of document 01. */
+#include "cases.h"
+#include "expect.h"
+
+#include <string.h>
+
+/* ---- Calls */
+
+static void start_desk(uint32_t mask)
+{
+    step s = blank(START);
+    s.number = mask;
+    s.what = 7;
+    s.length = 4;
+    memcpy(s.octets, "Desk", 4);
+    makes(s, 0);
+}
+
+static void activate(uint32_t group, uint32_t number)
+{
+    step s = blank(ACTIVATE);
+    s.number = group;
+    makes(s, number);
+}
+
+static void subscribe(uint32_t client, uint32_t characteristic)
+{
+    step s = blank(SUBSCRIBE);
+    s.who = client;
+    s.what = characteristic;
+    makes(s, 0);
+}
+
+static void connect_client(uint32_t client)
+{
+    step s = blank(CONNECT);
+    s.who = client;
+    s.number = 23;
+    s.what = 1;
+    makes(s, 0);
+    subscribe(client, MCS_CONTROL_POINT);
+}
+
+static void set_name(const char *name)
+{
+    step s = blank(SET_NAME);
+    s.length = (uint32_t)strlen(name);
+    memcpy(s.octets, name, s.length);
+    makes(s, 0);
+}
+
+static void write_value(uint32_t characteristic, const uint8_t *octets, uint32_t length)
+{
+    step s = blank(WRITE);
+    s.what = characteristic;
+    s.length = length;
+    memcpy(s.octets, octets, length);
+    makes(s, 0);
+}
+
+static void write_octet(uint32_t characteristic, uint8_t octet) { write_value(characteristic, &octet, 1); }
+
+static void write_position(int64_t n)
+{
+    uint8_t value[4];
+    put_word(value, (uint32_t)n);
+    write_value(MCS_POSITION, value, 4);
+}
+
+static void read_name(uint32_t offset, uint32_t number)
+{
+    step s = blank(READ);
+    s.what = MCS_NAME;
+    s.number = offset;
+    makes(s, number);
+}
+
+static void takes(uint32_t client, uint32_t characteristic, const void *octets, uint32_t length)
+{
+    const answer *a = &both->library_said;
+    makes(blank(TAKE), 0);
+    expect("the client served", a->served[0], client);
+    expect("the characteristic served", a->served[1], characteristic);
+    expect("the octets served", a->served[2], length);
+    if (a->served[2] == length && length > 0) {
+        expect("octets that differ", memcmp(a->out, octets, length) != 0, 0);
+    }
+}
+
+/* The state as the library's octets have it. */
+static ref_state meant(void)
+{
+    ref_state s;
+    state_of_octets(both->octets, &s);
+    return s;
+}
+
+/* A control write, whose result is then taken. */
+static void commands(uint8_t opcode, int64_t n, uint8_t result)
+{
+    uint8_t value[5], answered[2];
+    value[0] = answered[0] = opcode;
+    answered[1] = result;
+    put_word(value + 1, (uint32_t)n);
+    write_value(MCS_CONTROL_POINT, value, opcode == 0x10 || (opcode > 0x20 && (opcode & 15) == 4) ? 5 : 1);
+    takes(0, MCS_CONTROL_POINT, answered, 2);
+}
+
+/* The sample's group 1 in that order, on that track at that position. */
+static void stand(const char *what, uint8_t order, uint32_t track, uint32_t position)
+{
+    static tables sample;
+    now_trying(what);
+    sample_catalogue(&sample);
+    begin_run(both, &sample);
+    start_desk(0x1FFFFF);
+    activate(1, 0);
+    connect_client(0);
+    commands(0x34, (int64_t)track + 1, 1);
+    write_octet(MCS_PLAYING_ORDER, order);
+    write_position(position);
+    expect("the track before", meant().track, track);
+    expect("the position before", meant().position, position);
+}
+
+static void stands_at(uint32_t group, uint32_t track, uint32_t position)
+{
+    ref_state s = meant();
+    expect("the group", s.group, group);
+    expect("the track", s.track, track);
+    expect("the position", s.position, position);
+}
+
+#define LEAST (-2147483647 - 1)
+#define MOST 2147483647
+
+/* ---- "In track 0", "In group 1" */
+
+static void sample_cases(void)
+{
+    static const struct {
+        const char *what;
+        uint8_t order;
+        uint32_t track, position;
+        uint8_t opcode;
+        int64_t n;
+        uint8_t result;
+        uint32_t to_group, to_track, to_position;
+    } CASES[] = {
+        {"1500 Previous Segment", 3, 0, 1500, 0x20, 0, 1, 1, 0, 0},
+        {"1501 Previous Segment", 3, 0, 1501, 0x20, 0, 1, 1, 0, 1500},
+        {"4000 Next Segment", 3, 0, 4000, 0x21, 0, 1, 1, 0, 6000},
+        {"Goto Segment 3", 3, 0, 77, 0x24, 3, 1, 1, 0, 4000},
+        {"Goto Segment 4", 3, 0, 77, 0x24, 4, 1, 1, 0, 6000},
+        {"Goto Segment -2", 3, 0, 77, 0x24, -2, 1, 1, 0, 1500},
+        {"Goto Segment -2147483648", 3, 0, 77, 0x24, LEAST, 1, 1, 0, 0},
+        {"1500 Move Relative 2147483647", 3, 0, 1500, 0x10, MOST, 1, 1, 0, 6000},
+        {"order 3 Next Track from 2", 3, 2, 0, 0x31, 0, 4, 1, 2, 0},
+        {"order 4 Next Track from 2", 4, 2, 0, 0x31, 0, 1, 1, 0, 0},
+        {"order 5 Next Track from 2", 5, 2, 0, 0x31, 0, 1, 1, 0, 0},
+        {"order 4 Goto Track -2147483648", 4, 0, 55, 0x34, LEAST, 1, 1, 1, 0},
+        {"Next Group", 3, 0, 55, 0x41, 0, 1, 3, 3, 0},
+        /* "Letting group 2 count in Goto Group." */
+        {"Goto Group 3", 3, 0, 55, 0x44, 3, 4, 1, 0, 55},
+        {"Goto Group 2", 3, 0, 55, 0x44, 2, 1, 3, 3, 0},
+        {"Goto Group -3", 3, 0, 55, 0x44, -3, 4, 1, 0, 55},
+        /* "Making |n| in signed 32 bits." */
+        {"Goto Group -2147483648", 3, 0, 55, 0x44, LEAST, 4, 1, 0, 55},
+        {"1500 Move Relative -2147483648", 3, 0, 1500, 0x10, LEAST, 1, 1, 0, 0},
+        /* "Folding a long Goto Track by the count in a once order." */
+        {"order 3 Goto Track 4", 3, 1, 5, 0x34, 4, 4, 1, 1, 5},
+        {"order 5 Goto Track 2147483647", 5, 1, 5, 0x34, MOST, 4, 1, 1, 5},
+        {"order 7 Goto Track -2147483648", 7, 1, 5, 0x34, LEAST, 4, 1, 1, 5},
+        {"order 6 Goto Track 2147483647", 6, 1, 5, 0x34, MOST, 1, 1, 1, 0},
+        /* "Newest as the reverse of Oldest: ties come out 2, 1." */
+        {"order 7 Next Track from 0", 7, 0, 9, 0x31, 0, 1, 1, 1, 0},
+        {"order 7 Next Track from 1", 7, 1, 9, 0x31, 0, 1, 1, 2, 0},
+        {"order 7 Next Track from 2", 7, 2, 0, 0x31, 0, 4, 1, 2, 0},
+        {"order 8 Last Track", 8, 0, 9, 0x33, 0, 1, 1, 2, 0},
+    };
+    for (size_t k = 0; k < sizeof CASES / sizeof CASES[0]; k++) {
+        stand(CASES[k].what, CASES[k].order, CASES[k].track, CASES[k].position);
+        commands(CASES[k].opcode, CASES[k].n, CASES[k].result);
+        stands_at(CASES[k].to_group, CASES[k].to_track, CASES[k].to_position);
+    }
+}
+
+static void position_cases(void)
+{
+    stand("write -4000", 3, 0, 10);
+    write_position(-4000);
+    stands_at(1, 0, 2000);
+    /* "Reading a written −1 as "unavailable"." */
+    stand("write -1", 3, 0, 10);
+    write_position(-1);
+    stands_at(1, 0, 5999);
+    stand("write -2147483648", 3, 0, 10);
+    write_position(LEAST);
+    stands_at(1, 0, 0);
+    stand("write 2147483647", 3, 0, 10);
+    write_position(MOST);
+    stands_at(1, 0, 6000);
+}
+
+/* "All it prints for the sample: 1: 1 2 0, 3: 3" */
+static void order_5_cases(void)
+{
+    stand("the tracks of group 1 in order 5", 5, 0, 0);
+    activate(1, 0);
+    stands_at(1, 1, 0);
+    commands(0x31, 0, 1);
+    stands_at(1, 2, 0);
+    commands(0x31, 0, 1);
+    stands_at(1, 0, 0);
+    commands(0x31, 0, 4);
+    now_trying("the tracks of group 3 in order 5");
+    activate(3, 0);
+    stands_at(3, 3, 0);
+    commands(0x31, 0, 4);
+    now_trying("groups without tracks");
+    activate(0, MCS_BAD_GROUP);
+    activate(2, MCS_BAD_GROUP);
+    activate(4, MCS_BAD_GROUP);
+}
+
+/* "Clearing the changed mark at a read with offset above 0." */
+static void mark_cases(void)
+{
+    stand("the changed mark", 3, 0, 0);
+    read_name(1, MCS_VALUE_CHANGED);
+    read_name(0, 0);
+    read_name(1, 0);
+    set_name("Door");
+    read_name(1, MCS_VALUE_CHANGED);
+    read_name(1, MCS_VALUE_CHANGED);
+    set_name("Desk");
+    read_name(1, MCS_VALUE_CHANGED);
+    read_name(0, 0);
+    read_name(4, 0);
+    expect("the length at the end", both->library_said.length, 0);
+    read_name(5, MCS_BEYOND_END);
+}
+
+static void all_cases(void)
+{
+    sample_cases();
+    position_cases();
+    order_5_cases();
+    mark_cases();
+}
+
+unsigned long play_cases(FILE *out, run *r) { return expect_on(r, out, all_cases); }

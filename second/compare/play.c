@@ -1,0 +1,62 @@
+#include "play.h"
+
+#define ROUND 64u
+
+int goes_on(const play *p) { return p->going && p->t->count + ROUND <= MOST_STEPS; }
+
+step *new_step(play *p) { return &p->t->steps[p->t->count]; }
+
+void take_step(play *p)
+{
+    const step *s = &p->t->steps[p->t->count++];
+    if (!do_step(p->r, s)) {
+        p->going = 0;
+        p->differed = 1;
+    } else if (is_call(s)) {
+        count_call(p->r, s, p->share);
+    }
+}
+
+void bare_step(play *p, uint32_t kind, uint32_t number)
+{
+    if (p->going) {
+        blank_step(&p->d, kind, new_step(p));
+        new_step(p)->number = number;
+        take_step(p);
+    }
+}
+
+void call_in(play *p, const mood *m)
+{
+    if (p->going) {
+        draw_call(&p->d, p->r, m, new_step(p));
+        take_step(p);
+    }
+}
+
+void damage(play *p, uint32_t times, void (*draw)(dice *, const run *, step *))
+{
+    for (; times > 0 && p->going; times--) {
+        draw(&p->d, p->r, new_step(p));
+        take_step(p);
+    }
+}
+
+uint32_t few_times(play *p) { return one_in(&p->d, 2) ? 1u : between(&p->d, 1, 3); }
+
+void cannot_be(play *p, const char *why)
+{
+    if (p->going) {
+        snprintf(p->r->difference, sizeof p->r->difference, "%s", why);
+        p->going = 0;
+        p->differed = p->unshrinkable = 1;
+    }
+}
+
+void expect_standing(play *p)
+{
+    uint32_t number = p->r->second_said.number;
+    if (number == MCS_BAD_CATALOGUE || number == MCS_BAD_STATE) {
+        cannot_be(p, "both refuse a catalogue or a state that was made right");
+    }
+}

@@ -1,0 +1,30 @@
+/* A state as the library's octets and as the second program's struct. */
+#ifndef STATE_H
+#define STATE_H
+
+#include "mcs.h"
+#include "ref.h"
+
+#include <stddef.h>
+
+/* What the octets mean. A yes of any octet but 0 becomes 1; a number of waiting results that the struct cannot hold becomes
+ * the most that it holds, which is as wrong. */
+void state_of_octets(const uint8_t octets[MCS_STATE_OCTETS], ref_state *s);
+void octets_of_state(const ref_state *s, uint8_t octets[MCS_STATE_OCTETS]);
+
+/* A number of four octets. */
+uint32_t word_at(const uint8_t *p);
+void put_word(uint8_t *p, uint32_t word);
+
+/* Whether both mean the same; where not, what differs is written to `what`. Octets of the name behind its length and
+ * results that do not wait mean nothing. */
+int same_meaning(const ref_state *library, const ref_state *second, char *what, size_t room);
+
+/* Whether every yes or no is written as 1 or 0, as an accepted call does. */
+int plain_truths(const uint8_t octets[MCS_STATE_OCTETS]);
+
+/* The characteristics of the slots, and those that may be read. */
+extern const uint32_t SLOT_OF_BIT[REF_SLOTS];
+extern const uint32_t READABLE[11];
+
+#endif

@@ -1,0 +1,52 @@
+/* What a trial is made of: calls, and what is done to state, catalogue and card between them. */
+#ifndef STEP_H
+#define STEP_H
+
+#include "mcs.h"
+
+enum {
+    /* the thirteen calls */
+    START,
+    SET_NAME,
+    ACTIVATE,
+    DEACTIVATE,
+    ADVANCE,
+    CONNECT,
+    DISCONNECT,
+    SUBSCRIBE,
+    UNSUBSCRIBE,
+    READ,
+    WRITE,
+    TAKE,
+    CARD_LOAD,
+    CALLS,
+    /* between calls */
+    SET_STATE = CALLS, /* the state's octets are `octets` */
+    POKE_STATE,        /* its octets from `number` on are `octets` */
+    POKE_TABLE,        /* entry `number` of table `who` is `what` */
+    TABLE_LENGTH,      /* table `who` is lent with `number` entries */
+    MAKE_CARD,         /* the card is one of the catalogue; `number` decides how the blocks are filled */
+    POKE_CARD,         /* octet `number` of the card is `what` */
+    CARD_LENGTH,       /* the card is lent with `number` octets */
+    SWAP_BLOCKS,       /* the blocks `who` and `what` change places, and are numbered anew */
+    MEND_BLOCK,        /* block `number` gets the sums that its octets have */
+    KEEP,              /* state and catalogue are remembered */
+    PUT_BACK           /* and are again as they were */
+};
+
+typedef struct {
+    uint8_t kind;
+    uint8_t against;                  /* which barred page the lent buffers touch */
+    uint8_t null;                     /* a buffer of no octets is lent as a null pointer */
+    uint8_t fill;                     /* what lent outputs hold before the call */
+    uint32_t who;                     /* client */
+    uint32_t what;                    /* characteristic; of start the Content Control ID, of connect whether encrypted */
+    uint32_t number;                  /* mask, group, hundredths, ATT_MTU, offset */
+    uint32_t room[4];                 /* of the output of a read or a take; of the tables of a card load, in entries */
+    uint32_t length;                  /* of octets */
+    uint8_t octets[MCS_STATE_OCTETS]; /* name or value */
+} step;
+
+static inline int is_call(const step *s) { return s->kind < CALLS; }
+
+#endif

@@ -1,0 +1,47 @@
+#include "catalogue.h"
+#include "guard.h"
+#include "play.h"
+
+int replay_trial(trial *t, run *r)
+{
+    wind_the_watch();
+    begin_run(r, &t->catalogue);
+    for (uint32_t k = 0; k < t->count; k++) {
+        if (!do_step(r, &t->steps[k])) {
+            t->count = k + 1u;
+            return 0;
+        }
+    }
+    return 1;
+}
+
+int play_trial(uint64_t seed, uint64_t number, trial *t, run *r, int *unshrinkable)
+{
+    /* Trials are of very different lengths; these weights give the shares of calls that the counts print. */
+    enum { ANY_TABLES = 3 };
+    static const uint32_t WEIGHT[5] = {12, 12, 14, 30, 50};
+    static void (*const PLAYS[5])(play *) = {play_history, play_states, play_catalogues, play_any_tables, play_cards};
+    play p;
+    uint32_t at, kind = 0;
+    p.d = dice_of(seed, number);
+    p.t = t;
+    p.r = r;
+    p.share = FROM_HISTORY;
+    p.going = 1;
+    p.differed = p.unshrinkable = 0;
+    at = below(&p.d, WEIGHT[0] + WEIGHT[1] + WEIGHT[2] + WEIGHT[3] + WEIGHT[4]);
+    while (at >= WEIGHT[kind]) {
+        at -= WEIGHT[kind++];
+    }
+    t->count = 0;
+    if (kind == ANY_TABLES) {
+        random_tables(&p.d, &t->catalogue);
+    } else {
+        random_catalogue(&p.d, &t->catalogue);
+    }
+    wind_the_watch();
+    begin_run(r, &t->catalogue);
+    PLAYS[kind](&p);
+    *unshrinkable = p.unshrinkable;
+    return !p.differed;
+}

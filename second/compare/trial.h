@@ -1,0 +1,22 @@
+/* A trial: a catalogue, and the steps that were drawn for it one after the other. */
+#ifndef TRIAL_H
+#define TRIAL_H
+
+#include "run.h"
+
+#define MOST_STEPS 6000u
+
+typedef struct {
+    tables catalogue;
+    uint32_t count;
+    step steps[MOST_STEPS];
+} trial;
+
+/* Draws trial `number` of a seed and plays it. Returns 0 at a difference, which is then the last step's; `t` holds the
+ * steps up to it. A number that both programs give but that cannot be right is a difference too, `unshrinkable`. */
+int play_trial(uint64_t seed, uint64_t number, trial *t, run *r, int *unshrinkable);
+
+/* Plays the steps of a trial from the beginning, up to the first difference; the steps behind it are dropped. */
+int replay_trial(trial *t, run *r);
+
+#endif
