@@ -4,7 +4,6 @@
 #include <stdlib.h>
 #include <string.h>
 
-#define ALL_OPCODES 0x1FFFFFu
 #define ACCEPTED 0u
 
 /* A group with tracks in every catalogue here. */
@@ -112,7 +111,7 @@ static desk idle(const catalogue *c)
     desk d;
     uint32_t k, s;
     memset(&d, 0, sizeof d);
-    make(&d, c, with_octets(START, 0, ALL_OPCODES, NAME, sizeof NAME - 1u));
+    make(&d, c, with_octets(START, 0, MCS_ALL_OPCODES, NAME, sizeof NAME - 1u));
     for (k = 0; k < MCS_CLIENTS; k++) {
         make(&d, c, plain(CONNECT, k, MTU[k], 0));
         for (s = 0; s < 10u; s++) {
@@ -235,7 +234,7 @@ void add_card_load(table *t, const catalogue *c, const uint8_t *card, size_t car
 {
     desk none;
     memset(&none, 0, sizeof none);
-    make(&none, c, with_octets(START, 0, ALL_OPCODES, NAME, 0));
+    make(&none, c, with_octets(START, 0, MCS_ALL_OPCODES, NAME, 0));
     add(t, "card load", c, with_octets(CARD_LOAD, 0, 0, card, card_len), none, ACCEPTED);
 }
 
@@ -243,7 +242,7 @@ void add_check(table *t, const catalogue *c)
 {
     desk none;
     memset(&none, 0, sizeof none);
-    make(&none, c, with_octets(START, 0, ALL_OPCODES, NAME, 0));
+    make(&none, c, with_octets(START, 0, MCS_ALL_OPCODES, NAME, 0));
     add(t, "deactivate, no client", c, plain(DEACTIVATE, 0, 0, 0), none, ACCEPTED);
 }
 
@@ -257,7 +256,7 @@ void add_calls(table *t, const catalogue *c, const uint8_t *card, size_t card_le
     take_until(&falling, c, 0);
 
     add_card_load(t, c, card, card_len);
-    add(t, "start", c, with_octets(START, 0, ALL_OPCODES, NAME, sizeof NAME - 1u), inactive, ACCEPTED);
+    add(t, "start", c, with_octets(START, 0, MCS_ALL_OPCODES, NAME, sizeof NAME - 1u), inactive, ACCEPTED);
     add(t, "set name", c, with_octets(SET_NAME, 0, 0, NAME, 10), plays, ACCEPTED);
     add(t, "activate, order 3", c, plain(ACTIVATE, GROUP, 0, 0), inactive, ACCEPTED);
     add(t, "activate, order 7", c, plain(ACTIVATE, GROUP, 0, 0), falling, ACCEPTED);
@@ -296,7 +295,7 @@ void add_text_checks(table *t)
     make_text(mixed_text, sizeof mixed_text, MIXED);
     make_even(&none, "none", 0, 0, 0, 0, ASCII);
     memset(&before, 0, sizeof before);
-    make(&before, &none, with_octets(START, 0, ALL_OPCODES, NAME, 0));
+    make(&before, &none, with_octets(START, 0, MCS_ALL_OPCODES, NAME, 0));
     add(t, "set name, no octets", &none, with_octets(SET_NAME, 0, 0, plain_text, 0), before, ACCEPTED);
     add(t, "set name, 128 octets, ASCII", &none, with_octets(SET_NAME, 0, 0, plain_text, 128), before, ACCEPTED);
     add(t, "set name, 128 octets, mixed", &none, with_octets(SET_NAME, 0, 0, mixed_text, 128), before, ACCEPTED);

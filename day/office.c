@@ -8,7 +8,6 @@
 #include "lines.h"
 #include "words.h"
 
-#define ALL_OPCODES 0x1FFFFFu
 #define CONTENT_CONTROL_ID 1u
 #define CONTROL_SLOT 9u
 
@@ -90,7 +89,7 @@ uint32_t open_office(const catalogue *c)
 {
     static const uint8_t NAME[] = "Mantelhona";
     lent = c;
-    return mcs_start(LENT(lent), NAME, sizeof NAME - 1u, ALL_OPCODES, CONTENT_CONTROL_ID, state);
+    return mcs_start(LENT(lent), NAME, sizeof NAME - 1u, MCS_ALL_OPCODES, CONTENT_CONTROL_ID, state);
 }
 
 void introduce(void)

@@ -1,4 +1,4 @@
--- What a call leaves of the state's octets: "A refusal returns its number alone and alters nothing."
+-- What a call tells C, and what it leaves of the state's octets: "A refusal returns its number alone and alters nothing."
 -- Assumes nothing.
 use mathlib.Core.Path.{_≡_}
 use mathlib.Core.List.{List, [], _∷_, _++_}
@@ -27,7 +27,8 @@ toldOf said =
 abbrev pub toldAfter : ℕ → List ℕ → List ℕ → List ℕ
 toldAfter number values old = pick (eqb number 0) (take (length old) values) old
 
--- those of a call: 0 where it says no value; as they were where it is refused. A read's is its number of octets; a take's are client, characteristic and number of octets, 0, 0, 0 where nothing is owed; a card load's are the four counts
+-- those of a call: 0 where it says no value; as they were where it is refused. A read's is its number of octets; a take's are client, characteristic and
+-- number of octets, 0, 0, 0 where nothing is owed; a card load's are the four counts
 abbrev pub wordsAfter : Said → List ℕ → List ℕ
 wordsAfter said old =
     toldAfter (said .number) (getD (said .values) 0 0 ∷ getD (said .values) 1 0 ∷ getD (said .values) 2 0 ∷ getD (said .values) 3 0 ∷ []) old
