@@ -45,26 +45,35 @@ static double batch_of_library(const row *r, uint32_t times) { return batch_on_o
 
 static double batch_of_lent_program(const row *r, uint32_t times) { return batch_on_octets(r, times, lent_program_call); }
 
-static double batch_of_program(const row *r, uint32_t times)
+static double batch_on_struct(const row *r, uint32_t times,
+                              uint32_t (*call)(const catalogue *, const arguments *, ref_state *, answers *))
 {
     ref_state state;
     double began = now();
     uint32_t k, sum = 0;
     for (k = 0; k < times; k++) {
         memcpy(&state, &r->before.state, sizeof state);
-        sum += program_call(r->lent, &r->arguments, &state, &answered);
+        sum += call(r->lent, &r->arguments, &state, &answered);
     }
     numbers = sum;
     return now() - began;
 }
 
-/* Nanoseconds a call, the best of the batches: of the library, of the C program, and of that behind the library's octets. */
-enum { LIBRARY, PROGRAM, LENT_PROGRAM, TIMED };
+static double batch_of_program(const row *r, uint32_t times) { return batch_on_struct(r, times, program_call); }
+
+static double batch_by_clang(const row *r, uint32_t times) { return batch_on_struct(r, times, clang_sheet_call); }
+
+static int is_sheet(const row *r) { return r->arguments.call == CUE_SHEET; }
+
+/* Nanoseconds a call, the best of the batches: of the library, of the C program, and of that behind the library's octets, of a
+ * cue sheet of that as clang builds it. */
+enum { LIBRARY, PROGRAM, OTHER, TIMED };
 
 /* The programs take turns, batch by batch, so that whatever else the machine does falls on all. */
 static void time_row(const row *r, uint32_t repetitions, double best[TIMED])
 {
-    double (*const BATCH[TIMED])(const row *, uint32_t) = {batch_of_library, batch_of_program, batch_of_lent_program};
+    double (*const BATCH[TIMED])(const row *, uint32_t) = {
+        batch_of_library, batch_of_program, is_sheet(r) && clang_cue_sheet ? batch_by_clang : batch_of_lent_program};
     uint32_t times = 1, k, turn;
     while (batch_of_library(r, times) + batch_of_program(r, times) < BATCH_NS) {
         times *= 2u;
@@ -78,7 +87,7 @@ static void time_row(const row *r, uint32_t repetitions, double best[TIMED])
     }
 }
 
-static size_t above_one, above_lent, timed;
+static size_t above_one, above_other, timed;
 static double highest;
 static const row *slowest;
 
@@ -88,11 +97,11 @@ static void print_row(const row *r, uint32_t repetitions)
     time_row(r, repetitions, best);
     ratio = best[LIBRARY] / best[PROGRAM];
     printf("| %s | %s | %.0f | %.0f | %.2f | %.0f | %.2f |\n", r->call, r->lent->name, best[LIBRARY], best[PROGRAM], ratio,
-           best[LENT_PROGRAM], best[LIBRARY] / best[LENT_PROGRAM]);
+           best[OTHER], best[LIBRARY] / best[OTHER]);
     fflush(stdout);
     timed += 1u;
     above_one += ratio > 1.0;
-    above_lent += best[LIBRARY] > best[LENT_PROGRAM];
+    above_other += best[LIBRARY] > best[OTHER];
     if (ratio > highest) {
         highest = ratio;
         slowest = r;
@@ -100,11 +109,11 @@ static void print_row(const row *r, uint32_t repetitions)
 }
 
 /* The rows of one table of the report. Every one is first made once by both programs, which must agree. */
-static void print_rows(const char *title, size_t from, size_t to, uint32_t repetitions)
+static void print_rows(const char *title, const char *other, size_t from, size_t to, uint32_t repetitions)
 {
     size_t k;
-    printf("\n%s\n\n| call | catalogue | library, ns | C, ns | ratio | C behind octets, ns | ratio |\n"
-           "|---|---|---:|---:|---:|---:|---:|\n", title);
+    printf("\n%s\n\n| call | %s | library, ns | C, ns | ratio | %s, ns | ratio |\n|---|---|---:|---:|---:|---:|---:|\n", title,
+           is_sheet(&rows.rows[from]) ? "sheet" : "catalogue", other);
     for (k = from; k < to; k++) {
         if (!row_agrees(&rows.rows[k])) {
             fprintf(stderr, "bench: the programs differ in '%s' on the catalogue '%s'\n", rows.rows[k].call,
@@ -118,7 +127,7 @@ static void print_rows(const char *title, size_t from, size_t to, uint32_t repet
 /* ---- What is timed */
 
 static catalogue sample, full, mixed, uneven;
-static size_t calls_end, text_end;
+static size_t calls_end, text_end, sheets_end;
 
 /* A catalogue that shows how cost grows: so many of each table, and its card. */
 typedef struct {
@@ -165,6 +174,8 @@ static void make_rows(void)
     calls_end = rows.count;
     add_text_checks(&rows);
     text_end = rows.count;
+    add_cue_sheets(&rows);
+    sheets_end = rows.count;
     for (k = 0; k < SIZES_COUNT; k++) {
         const size *s = &SIZES[k];
         make_even(&grown[k], s->name, s->groups, s->tracks, s->segments, s->text, s->letters);
@@ -179,17 +190,19 @@ static void make_rows(void)
 
 static void report(const char *where, uint32_t repetitions)
 {
+    static const char BEHIND_OCTETS[] = "C behind octets";
     char date[16];
     time_t today = time(NULL);
     strftime(date, sizeof date, "%Y-%m-%d", gmtime(&today));
     printf("x86-64, %s, %s: best of %u batches, the programs in turn.\n", where, date, repetitions);
-    print_rows("Calls", 0, calls_end, repetitions);
-    print_rows("Text check (no call is the check alone: set name, no catalogue, the name before is empty)", calls_end, text_end,
-               repetitions);
-    print_rows("Growth with the tables (catalogue check: deactivate while Inactive; card load)", text_end, rows.count,
-               repetitions);
-    printf("\n%zu of %zu rows at most 1.00, beside C behind octets %zu; highest %.2f (%s, %s).\n", timed - above_one, timed,
-           timed - above_lent, highest, slowest->call, slowest->lent->name);
+    print_rows("Calls", BEHIND_OCTETS, 0, calls_end, repetitions);
+    print_rows("Text check (no call is the check alone: set name, no catalogue, the name before is empty)", BEHIND_OCTETS,
+               calls_end, text_end, repetitions);
+    print_rows("Cue sheets", clang_cue_sheet ? "C by clang" : BEHIND_OCTETS, text_end, sheets_end, repetitions);
+    print_rows("Growth with the tables (catalogue check: deactivate while Inactive; card load)", BEHIND_OCTETS, sheets_end,
+               rows.count, repetitions);
+    printf("\n%zu of %zu rows at most 1.00, beside the other C %zu; highest %.2f (%s, %s).\n", timed - above_one, timed,
+           timed - above_other, highest, slowest->call, slowest->lent->name);
 }
 
 static int once(const char *which, const char *program, const char *times)

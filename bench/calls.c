@@ -18,7 +18,7 @@ uint32_t lent_program_call(const catalogue *c, const arguments *a, uint8_t *octe
 {
     ref_state state;
     uint32_t number;
-    const int reads = a->call != CARD_LOAD && a->call != START, writes = a->call != CARD_LOAD;
+    const int writes = a->call != CARD_LOAD && a->call != CUE_SHEET, reads = writes && a->call != START;
     if (reads) {
         state_of_octets(octets, &state);
     }
@@ -27,6 +27,13 @@ uint32_t lent_program_call(const catalogue *c, const arguments *a, uint8_t *octe
         octets_of_state(&state, octets);
     }
     return number;
+}
+
+uint32_t clang_sheet_call(const catalogue *c, const arguments *a, ref_state *state, answers *to)
+{
+    (void)c;
+    (void)state;
+    return clang_cue_sheet(a->octets, a->len, to->starts, MOST_STARTS, &to->length, &to->line);
 }
 
 int same_state(const uint8_t *octets, const ref_state *state)

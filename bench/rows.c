@@ -20,9 +20,10 @@ static void fill_answers(answers *a, int tables_too)
     memset(a->out, 0x5A, sizeof a->out);
     memset(a->served, 0x5A, sizeof a->served);
     memset(a->counts, 0x5A, sizeof a->counts);
-    a->length = 0x5A;
+    a->length = a->line = 0x5A;
     if (tables_too) {
         memset(&a->loaded, 0x5A, sizeof a->loaded);
+        memset(a->starts, 0x5A, sizeof a->starts);
     }
 }
 
@@ -35,15 +36,16 @@ static int same_tables(const catalogue *a, const catalogue *b)
 static int same_answers(const answers *a, const answers *b, int tables_too)
 {
     return memcmp(a->out, b->out, sizeof a->out) == 0 && memcmp(a->served, b->served, sizeof a->served) == 0 &&
-           memcmp(a->counts, b->counts, sizeof a->counts) == 0 && a->length == b->length &&
-           (!tables_too || same_tables(&a->loaded, &b->loaded));
+           memcmp(a->counts, b->counts, sizeof a->counts) == 0 && a->length == b->length && a->line == b->line &&
+           (!tables_too ||
+            (same_tables(&a->loaded, &b->loaded) && memcmp(a->starts, b->starts, sizeof a->starts) == 0));
 }
 
 /* The call by both programs on d. Whether they agree that it gives this number and on all else. */
 static int both_give(const catalogue *c, const arguments *a, desk *d, uint32_t number)
 {
     uint32_t by_library, by_program;
-    int loads = a->call == CARD_LOAD;
+    int loads = a->call == CARD_LOAD || a->call == CUE_SHEET;
     fill_answers(&from_library, loads);
     fill_answers(&from_program, loads);
     by_library = library_call(c, a, d->octets, &from_library);
@@ -236,6 +238,22 @@ void add_card_load(table *t, const catalogue *c, const uint8_t *card, size_t car
     memset(&none, 0, sizeof none);
     make(&none, c, with_octets(START, 0, MCS_ALL_OPCODES, NAME, 0));
     add(t, "card load", c, with_octets(CARD_LOAD, 0, 0, card, card_len), none, ACCEPTED);
+}
+
+void add_cue_sheets(table *t)
+{
+    static catalogue none[SHEETS];
+    static uint8_t sheets[SHEETS][MCS_SHEET_OCTETS];
+    desk before;
+    uint32_t k;
+    for (k = 0; k < SHEETS; k++) {
+        make_sheet((enum sheet_of)k, sheets[k]);
+        make_even(&none[k], SHEET_NAME[k], 0, 0, 0, 0, ASCII);
+        memset(&before, 0, sizeof before);
+        make(&before, &none[k], with_octets(START, 0, MCS_ALL_OPCODES, NAME, 0));
+        add(t, "cue sheet, 65,536 octets", &none[k], with_octets(CUE_SHEET, 0, 0, sheets[k], MCS_SHEET_OCTETS), before,
+            k == WRONG_AT_ONCE ? MCS_BAD_LINE : ACCEPTED);
+    }
 }
 
 void add_check(table *t, const catalogue *c)

@@ -34,9 +34,12 @@ void add_text_checks(table *t);
 /* A call that is hardly more than the catalogue check: Deactivate while Inactive. */
 void add_check(table *t, const catalogue *c);
 
+/* A sheet of every kind. */
+void add_cue_sheets(table *t);
+
 void add_card_load(table *t, const catalogue *c, const uint8_t *card, size_t card_len);
 
-/* Whether both programs give the same to a row: number, state, output, counts and loaded tables. */
+/* Whether both programs give the same to a row: number, state, output, counts, line, starts and loaded tables. */
 int row_agrees(const row *r);
 
 #endif

@@ -1,13 +1,16 @@
-/* The Media Control Service core of a desk player: thirteen calls, proved (crates/mcs), for C and C++ on x86-64.
+/* The Media Control Service core of a desk player: fourteen calls, proved (crates/mcs), for C and C++ on x86-64.
  *
  * Every call takes all octets, numbers, tables and states there are, checks them itself, and ends. It returns 0, or the number of
  * the first refusal that applies, in the order of the list below. A refusal alters nothing: state, tables, output, length,
- * served and counts hold what they held.
+ * served, counts, starts and count hold what they held. Two refusals carry a line, MCS_BAD_LINE and MCS_NOT_RISING, and these
+ * two alone write it to the word that is lent for it.
  *
  * What is the caller's to see to, as for any function of C:
  * - a pointer with a length points to that many octets or words (a length of 0: it is not followed, and may be null);
- *   words are aligned as uint32_t is; state points to MCS_STATE_OCTETS octets, length to 1 word, served to 3, counts to 4;
- * - what a call writes (state, output, length, served, counts, and the tables of a card load) overlaps nothing else lent to it;
+ *   words are aligned as uint32_t is; state points to MCS_STATE_OCTETS octets, length, count and line to 1 word, served to 3,
+ *   counts to 4;
+ * - what a call writes (state, output, length, served, counts, the tables of a card load, and starts, count and line of a cue
+ *   sheet) overlaps nothing else lent to it;
  * - no other thread touches what is lent while the call runs. The library keeps nothing of its own and calls no function
  *   but its own and memcpy, memset, memmove.
  */
@@ -69,6 +72,14 @@ extern "C" {
 #define MCS_BAD_BLOCK 211u
 /* Card load: a limit, or a lent table's room, is exceeded. */
 #define MCS_NO_ROOM 212u
+/* Cue sheet: it has over 65,536 octets. */
+#define MCS_LONG_SHEET 225u
+/* Cue sheet: a line is not understood, and the lines before it are neither 226 nor 227. */
+#define MCS_BAD_LINE 226u
+/* Cue sheet: the first start is not 0, or a start is not above the one before, and the lines before it are neither 226 nor 227. */
+#define MCS_NOT_RISING 227u
+/* Cue sheet: it has more starts than there is room for. */
+#define MCS_MANY_STARTS 228u
 
 /* ---- Sizes ---------------------------------------------------------------------------------------------------------------- */
 
@@ -76,6 +87,7 @@ extern "C" {
 #define MCS_OUTPUT_OCTETS 128u  /* the least output that a read or a take may be lent */
 #define MCS_BLOCK_OCTETS 512u   /* a block of a card */
 #define MCS_CARD_OCTETS 65536u  /* the longest card */
+#define MCS_SHEET_OCTETS 65536u /* the longest cue sheet */
 
 /* Words of a group, a track and a segment record, and the most of each, in records; of text, in octets. */
 #define MCS_GROUP_WORDS 3u   /* parent, first track, number of tracks */
@@ -172,7 +184,8 @@ extern "C" {
 #define MCS_IN_RESULTS 30u        /* 8 times 2 octets: requested opcode, result; oldest first; those that do not wait mean nothing */
 
 /* ---- Calls ------------------------------------------------------------------------------------------------------------------
- * The catalogue is lent to every call but card load: three tables of words and the text, lengths in words and in octets.
+ * The catalogue is lent to every call but card load and cue sheet: three tables of words and the text, lengths in words and in
+ * octets.
  */
 #define MCS_CATALOGUE                                                                                                          \
     const uint32_t *groups, size_t groups_len, const uint32_t *tracks, size_t tracks_len, const uint32_t *segments,            \
@@ -185,6 +198,16 @@ extern "C" {
 uint32_t mcs_card_load(const uint8_t *card, size_t card_len, uint32_t *groups, size_t groups_len, uint32_t *tracks,
                        size_t tracks_len, uint32_t *segments, size_t segments_len, uint8_t *text, size_t text_len,
                        uint32_t counts[4]);
+
+/* Cue sheet: fills the front of starts with the segment starts of one track, in hundredths of a second, and *count with their
+ * number. A line `INDEX 01 mm:ss:ff`, with ss up to 59 and ff up to 74, gives a start of (60 mm + ss) 100 plus the whole part
+ * of 4 ff / 3. Lines that begin with INDEX, one space and two other digits, or with REM, TITLE, PERFORMER, FILE or TRACK, and
+ * empty ones are passed over; spaces may stand before any line; a line ends in LF, in CR LF, or where the sheet does. The words
+ * behind the starts stay as they were. The starts begin at 0 and rise: they are a track's segment starts where the last of them
+ * lies below its duration. Refusals: 225, 226, 227, 228. By 226 and 227 *line is the line, counted from 1; of the two the lower
+ * line is told, and 228 comes after both. */
+uint32_t mcs_cue_sheet(const uint8_t *sheet, size_t sheet_len, uint32_t *starts, size_t starts_len, uint32_t *count,
+                       uint32_t *line);
 
 /* Start: a state with this name, opcode mask and Content Control ID, Inactive, order 3, speed 0, no client connected. What the
  * state's octets held before does not matter. Refusals: 200, 207. */

@@ -1,4 +1,5 @@
-/* The desk player core, written along document 01. A comment in quotation marks is a sentence of document 01. */
+/* The desk player core, written along document 01, and the cue sheet along request W-212 of document 02. A comment in
+ * quotation marks is a sentence of document 01, and in the cue sheet's part one of document 02. */
 #include "ref.h"
 
 #include <string.h>
@@ -17,6 +18,10 @@ enum {
     CARD_LENGTH = 210,
     BLOCK_WRONG = 211,
     NO_ROOM = 212,
+    SHEET_LONG = 225,
+    LINE_WRONG = 226,
+    NOT_RISING = 227,
+    STARTS_MANY = 228,
     ATT_NO_SUCH = 0x01,
     ATT_NO_READ = 0x02,
     ATT_NO_WRITE = 0x03,
@@ -301,6 +306,126 @@ uint32_t ref_card_load(const uint8_t *card, size_t card_len, uint32_t *groups, s
     for (k = 0; k < 4u; k++) {
         counts[k] = total[k + 1u];
     }
+    return 0;
+}
+
+/* ---- The cue sheet */
+
+#define MOST_SHEET 65536u
+/* `INDEX 01 mm:ss:ff`: its octets, and where mm is. */
+#define INDEX_LINE 17u
+#define INDEX_TIME 9u
+/* So many lines of that length fit a sheet, with an LF between two. */
+#define MOST_STARTS ((MOST_SHEET + 1u) / (INDEX_LINE + 1u))
+
+/* What a line says, where it is no start: the greatest start is 599,998. */
+#define PASSED_OVER 0xFFFFFFFEu
+#define NOT_UNDERSTOOD 0xFFFFFFFFu
+
+#define NO_DIGITS 100u
+
+static int is_digit(uint8_t octet) { return octet >= '0' && octet <= '9'; }
+
+/* 0 to 99, or NO_DIGITS */
+static uint32_t two_digits(const uint8_t *p)
+{
+    return is_digit(p[0]) && is_digit(p[1]) ? 10u * (uint32_t)(p[0] - '0') + (uint32_t)(p[1] - '0') : NO_DIGITS;
+}
+
+static int begins(const uint8_t *line, size_t len, const char *with)
+{
+    size_t k;
+    for (k = 0; with[k] != 0; k++) {
+        if (k == len || line[k] != (uint8_t)with[k]) {
+            return 0;
+        }
+    }
+    return 1;
+}
+
+/* "mm:ss:ff, two digits each, ss to 59, ff to 74, gives (60 times mm + ss) times 100 plus the whole part of 4 times ff
+ * over 3" */
+static uint32_t start_of(const uint8_t time[8])
+{
+    uint32_t mm = two_digits(time), ss = two_digits(time + 3), ff = two_digits(time + 6);
+    if (mm == NO_DIGITS || time[2] != ':' || ss > 59u || time[5] != ':' || ff > 74u) {
+        return NOT_UNDERSTOOD;
+    }
+    return (60u * mm + ss) * 100u + 4u * ff / 3u;
+}
+
+/* A line without its leading spaces and its end: a start, PASSED_OVER or NOT_UNDERSTOOD. */
+static uint32_t line_says(const uint8_t *line, size_t len)
+{
+    static const char *const PASSED[5] = {"REM", "TITLE", "PERFORMER", "FILE", "TRACK"};
+    uint32_t k;
+
+    if (len == 0) {
+        return PASSED_OVER;
+    }
+    if (begins(line, len, "INDEX 01")) {
+        return len == INDEX_LINE && line[INDEX_TIME - 1u] == ' ' ? start_of(line + INDEX_TIME) : NOT_UNDERSTOOD;
+    }
+    /* "Lines beginning INDEX, one space and two other digits, or REM, TITLE, PERFORMER, FILE or TRACK are passed over" */
+    if (begins(line, len, "INDEX ")) {
+        return len >= 8u && two_digits(line + 6) != NO_DIGITS ? PASSED_OVER : NOT_UNDERSTOOD;
+    }
+    for (k = 0; k < 5u; k++) {
+        if (begins(line, len, PASSED[k])) {
+            return PASSED_OVER;
+        }
+    }
+    return NOT_UNDERSTOOD;
+}
+
+uint32_t ref_cue_sheet(const uint8_t *sheet, size_t sheet_len, uint32_t *starts, size_t starts_len, uint32_t *count,
+                       uint32_t *line)
+{
+    /* "nothing is written" on a refusal, so the starts stand here until the last line is understood. */
+    uint32_t found[MOST_STARTS];
+    uint32_t found_count = 0, number = 0;
+    size_t at = 0;
+
+    if (sheet_len > MOST_SHEET) {
+        return SHEET_LONG;
+    }
+    while (at < sheet_len) {
+        /* "lines end in LF or CR LF or at the end of the text" */
+        const uint8_t *lf = memchr(sheet + at, '\n', sheet_len - at);
+        size_t end = lf == NULL ? sheet_len : (size_t)(lf - sheet), next = lf == NULL ? sheet_len : end + 1u;
+        uint32_t says;
+
+        if (lf != NULL && end > at && sheet[end - 1u] == '\r') {
+            end -= 1u;
+        }
+        /* "leading spaces are allowed" */
+        while (at < end && sheet[at] == ' ') {
+            at += 1u;
+        }
+        number += 1u;
+        says = line_says(sheet + at, end - at);
+        if (says == NOT_UNDERSTOOD) {
+            *line = number;
+            return LINE_WRONG;
+        }
+        if (says != PASSED_OVER) {
+            /* "first start not 0 or not rising" */
+            if (found_count == 0 ? says != 0 : says <= found[found_count - 1u]) {
+                *line = number;
+                return NOT_RISING;
+            }
+            found[found_count++] = says;
+        }
+        at = next;
+    }
+    /* "then 228 more starts than room" */
+    if (found_count > starts_len) {
+        return STARTS_MANY;
+    }
+    if (found_count > 0) {
+        memcpy(starts, found, found_count * sizeof found[0]);
+    }
+    *count = found_count;
     return 0;
 }
 

@@ -1,7 +1,8 @@
 /* Tests of the desk player core: the document's cases, every refusal and the order of the table, what is owed, the
- * rounds, the cuts, 0x80; then random histories against a shadow that is kept from the calls alone.
+ * rounds, the cuts, 0x80, cue sheets; then random histories against a shadow that is kept from the calls alone.
  *
- * Usage: test [histories [seed]]. A comment in quotation marks is a sentence of document 01. */
+ * Usage: test [histories [seed]]. A comment in quotation marks is a sentence of document 01, and among the cue sheets one of
+ * document 02's request W-212. */
 #include "ref.h"
 
 #include <stdio.h>
@@ -676,6 +677,168 @@ static void card_cases(void)
         seal(b);
         EQUAL(load(&k, &d, 195, 1542, 1025, 32769, n), 212);
     }
+}
+
+/* ---- Cue sheets */
+
+#define FILLED 0xA5A5A5A5u
+#define SHEET 65536u
+#define FRAMES (100u * 60u * 75u)
+
+static struct {
+    uint32_t starts[4096], count, line;
+} cue;
+
+/* Reads a sheet into a table of that room, both ending where they are lent. "nothing is written" on a refusal but the line
+ * of 226 and 227; a success leaves the line, and the words behind the starts. */
+static uint32_t reads_sheet(const void *octets, size_t len, size_t room)
+{
+    uint8_t *sheet = malloc(len > 0 ? len : 1);
+    uint32_t *starts = malloc(room > 0 ? room * sizeof *starts : 1), refusal;
+    if (sheet == NULL || starts == NULL || room > 4096) exit(2);
+    memcpy(sheet, octets, len);
+    for (size_t k = 0; k < room; k++) starts[k] = FILLED;
+    cue.count = cue.line = FILLED;
+    refusal = ref_cue_sheet(len > 0 ? sheet : NULL, len, room > 0 ? starts : NULL, room, &cue.count, &cue.line);
+    if (refusal == 0) {
+        CHECK(cue.count <= room);
+    } else {
+        EQUAL(cue.count, FILLED);
+    }
+    CHECK((cue.line == FILLED) == (refusal != 226 && refusal != 227));
+    for (size_t k = refusal == 0 ? cue.count : 0; k < room; k++) {
+        if (starts[k] != FILLED) { check_at(__LINE__, 0, "words that are no starts were touched"); break; }
+    }
+    memcpy(cue.starts, starts, room * sizeof *starts);
+    free(sheet);
+    free(starts);
+    return refusal;
+}
+
+#define READS(text, room) reads_sheet(text, sizeof text - 1, room)
+/* The sheet is refused with a number and a line; it is accepted and has no start, the start 0, the starts 0 and this one. */
+#define REFUSED(text, number, at) do { EQUAL(READS(text, 9), number); EQUAL(cue.line, at); } while (0)
+#define NO_START(text) do { EQUAL(READS(text, 9), 0); EQUAL(cue.count, 0); } while (0)
+#define START_0(text) do { EQUAL(READS(text, 9), 0); EQUAL(cue.count, 1); EQUAL(cue.starts[0], 0); } while (0)
+#define START_0_AND(text, start) do { EQUAL(READS(text, 9), 0); EQUAL(cue.count, 2); EQUAL(cue.starts[0], 0); EQUAL(cue.starts[1], start); } while (0)
+
+static void line_cases(void)
+{
+    NO_START("");
+    NO_START("\n"); NO_START("\n\n\n"); NO_START("\r\n"); NO_START(" "); NO_START("   \n  \r\n ");
+    START_0("INDEX 01 00:00:00"); START_0("INDEX 01 00:00:00\n"); START_0("INDEX 01 00:00:00\r\n");
+    START_0("  INDEX 01 00:00:00"); START_0("\n\r\n \nINDEX 01 00:00:00\n\n");
+    EQUAL(READS("FILE \"day.wav\" WAVE\r\n  TRACK 01 AUDIO\r\n    TITLE \"One\"\r\n    INDEX 00 00:00:00\r\n    INDEX 01 00:00:00\r\n"
+                "  TRACK 02 AUDIO\n    PERFORMER \"Two\"\n    INDEX 01 04:05:06\n  REM\r\n\r\n    INDEX 01 99:59:74", 3), 0);
+    CHECK(cue.count == 3 && cue.starts[0] == 0 && cue.starts[1] == 24508 && cue.starts[2] == 599998);
+
+    /* "lines end in LF or CR LF or at the end of the text"; any other CR is in the line. */
+    START_0_AND("INDEX 01 00:00:00\nINDEX 01 00:00:01", 1);
+    START_0_AND("INDEX 01 00:00:00\r\nINDEX 01 00:00:02\n", 2);
+    START_0_AND("INDEX 01 00:00:00\nINDEX 01 00:00:03\r\n", 4);
+    REFUSED("INDEX 01 00:00:00\rINDEX 01 00:00:01", 226, 1);
+    REFUSED("INDEX 01 00:00:00\r", 226, 1); REFUSED("\r", 226, 1); REFUSED("\n\r", 226, 2); REFUSED("\n\n  \r", 226, 3);
+    REFUSED("\r\r\n", 226, 1); REFUSED("\rINDEX 01 00:00:00\n", 226, 1); REFUSED("INDEX 01 00:00:00\r\r\n", 226, 1); REFUSED("INDEX 01 00:00:00\n\r", 226, 2);
+    NO_START("REM\r"); NO_START("REM \r a\n"); NO_START("\r\nREM\r\r\n"); NO_START("INDEX 02\r");
+
+    /* "Lines beginning INDEX, one space and two other digits, or REM, TITLE, PERFORMER, FILE or TRACK are passed over" */
+    NO_START("INDEX 00"); NO_START("INDEX 02"); NO_START("INDEX 10"); NO_START("INDEX 11"); NO_START("INDEX 99");
+    NO_START("INDEX 00 00:00:00"); NO_START("INDEX 02 99:99:99"); NO_START("INDEX 001"); NO_START("INDEX 02x\t\r\xFF"); NO_START("  INDEX 00 \r\n");
+    NO_START("REM"); NO_START("TITLE"); NO_START("PERFORMER"); NO_START("FILE"); NO_START("TRACK");
+    NO_START("REM INDEX 01"); NO_START(" TITLE \"\xC3\x9C\""); NO_START("PERFORMER\t"); NO_START("FILEINDEX 01 00:00:05"); NO_START("TRACK 01 AUDIO\r\n"); NO_START("REMARK");
+    REFUSED("RE", 226, 1); REFUSED("TITL", 226, 1); REFUSED("PERFORME", 226, 1); REFUSED("FIL", 226, 1); REFUSED("TRAC", 226, 1); REFUSED("RE\nM", 226, 1);
+    REFUSED("rem", 226, 1); REFUSED("Title", 226, 1); REFUSED("CATALOG 1", 226, 1); REFUSED("FLAGS DCP", 226, 1); REFUSED("0", 226, 1); REFUSED("xREM", 226, 1);
+    REFUSED("\tREM", 226, 1); REFUSED("\t\n", 226, 1); REFUSED(" \t", 226, 1); REFUSED("\xC3\x9C", 226, 1); REFUSED("\xEF\xBB\xBFREM", 226, 1); REFUSED("\xA0REM", 226, 1);
+    REFUSED("REM\n\r\n  x\nREM", 226, 3); REFUSED("\0REM", 226, 1); NO_START("REM\0\xFF\x80\x0B\x0C");
+    /* Spaces behind an empty line's end are the next line's. */
+    REFUSED("\r \n", 226, 1); START_0("\n INDEX 01 00:00:00");
+
+    /* "A line INDEX 01 mm:ss:ff, two digits each, ss to 59, ff to 74" */
+    REFUSED("INDEX 01", 226, 1); REFUSED("INDEX 01 ", 226, 1); REFUSED("INDEX 01 00:00:0", 226, 1); REFUSED("INDEX 01 00:00:000", 226, 1); REFUSED("INDEX 011", 226, 1);
+    REFUSED("INDEX 01 0:00:00", 226, 1); REFUSED("INDEX 01 00:0:00", 226, 1); REFUSED("INDEX 01 000:00:00", 226, 1); REFUSED("INDEX 01 00:00", 226, 1); REFUSED("INDEX 01 00 00 00", 226, 1);
+    REFUSED("INDEX 01 00:60:00", 226, 1); REFUSED("INDEX 01 00:00:75", 226, 1); REFUSED("INDEX 01 00:99:00", 226, 1); REFUSED("INDEX 01 00:00:99", 226, 1);
+    REFUSED("INDEX 01 00:00:00 ", 226, 1); REFUSED("INDEX 01 00:00:00 \r\n", 226, 1); REFUSED("INDEX 01 00:00:00\t", 226, 1); REFUSED("INDEX 01  00:00:00", 226, 1);
+    REFUSED("INDEX  01 00:00:00", 226, 1); REFUSED("INDEX\t01 00:00:00", 226, 1); REFUSED("INDEX 01\t00:00:00", 226, 1); REFUSED("\tINDEX 01 00:00:00", 226, 1);
+    REFUSED("index 01 00:00:00", 226, 1); REFUSED("Index 01 00:00:00", 226, 1); REFUSED("INDEX01 00:00:00", 226, 1); REFUSED("INDEX 1 00:00:00", 226, 1);
+    REFUSED("INDEX", 226, 1); REFUSED("INDEX ", 226, 1); REFUSED("INDEX 0", 226, 1); REFUSED("INDEX 2", 226, 1); REFUSED("INDEX 0a", 226, 1); REFUSED("INDEX a0", 226, 1);
+    REFUSED("INDEX  02", 226, 1); REFUSED("INDEX\t02", 226, 1); REFUSED("INDEX-02", 226, 1); REFUSED("index 02", 226, 1); REFUSED("INDEX 0\n2", 226, 1); REFUSED("INDEX 0:", 226, 1); REFUSED("INDEX /0", 226, 1);
+    /* Every octet of the line, and every other one in its place: only a digit may take that of a digit, 0 to 5 and 0 to 7 where
+     * it is the first of ss and ff, and another index is passed over. */
+    for (uint32_t at = 0; at < 17; at++) {
+        for (uint32_t octet = 0; octet < 256; octet++) {
+            static const char RIGHT[] = "INDEX 01 00:00:00";
+            uint8_t sheet[17];
+            int digit = octet >= '0' && octet <= '9';
+            uint32_t should = octet == (uint8_t)RIGHT[at] || ((at == 6 || at == 7) && digit) ? 0 : 226;
+            if (at == 9 || at == 10 || at == 13 || at == 16) should = octet == '0' ? 0 : digit ? 227 : 226;
+            if (at == 12 || at == 15) should = octet == '0' ? 0 : digit && octet <= (at == 12 ? '5' : '7') ? 227 : 226;
+            memcpy(sheet, RIGHT, sizeof sheet);
+            sheet[at] = (uint8_t)octet;
+            EQUAL(reads_sheet(sheet, sizeof sheet, 1), should);
+        }
+    }
+}
+
+static void start_cases(void)
+{
+    static uint8_t sheet[SHEET + 2];
+    static char right[4096 * 18 + 1];
+    uint32_t before = 0;
+
+    /* (60 · 1 + 2) · 100 = 6200; 4 · 1 / 3 = 1, 4 · 2 / 3 = 2, 4 · 3 / 3 = 4, 4 · 37 / 3 = 49, 4 · 38 / 3 = 50, 4 · 73 / 3 = 97, 4 · 74 / 3 = 98 */
+    START_0_AND("INDEX 01 00:00:00\nINDEX 01 01:02:00", 6200); START_0_AND("INDEX 01 00:00:00\nINDEX 01 01:02:01", 6201);
+    START_0_AND("INDEX 01 00:00:00\nINDEX 01 01:02:02", 6202); START_0_AND("INDEX 01 00:00:00\nINDEX 01 01:02:03", 6204);
+    START_0_AND("INDEX 01 00:00:00\nINDEX 01 10:20:37", 62049); START_0_AND("INDEX 01 00:00:00\nINDEX 01 10:20:38", 62050);
+    START_0_AND("INDEX 01 00:00:00\nINDEX 01 00:59:73", 5997); START_0_AND("INDEX 01 00:00:00\nINDEX 01 00:59:74", 5998); START_0_AND("INDEX 01 00:00:00\nINDEX 01 01:00:00", 6000);
+
+    /* "first start not 0 or not rising" */
+    REFUSED("INDEX 01 00:00:01", 227, 1); REFUSED("INDEX 01 99:59:74", 227, 1); REFUSED("\n\r\nREM\n  INDEX 01 00:01:00\n", 227, 4);
+    REFUSED("INDEX 01 00:00:00\nINDEX 01 00:00:00", 227, 2); REFUSED("INDEX 01 00:00:00\nREM\nINDEX 01 00:02:00\n\nINDEX 01 00:02:00\n", 227, 5);
+    REFUSED("INDEX 01 00:00:00\nINDEX 01 00:02:00\r\nINDEX 01 00:01:74", 227, 3); REFUSED("INDEX 01 00:00:00\nINDEX 01 01:00:00\nINDEX 01 00:59:74\nINDEX 01 02:00:00", 227, 3);
+    /* INDEX 00 and 02 are no starts, wherever they stand. */
+    START_0_AND("INDEX 00 00:07:00\nINDEX 01 00:00:00\nINDEX 02 00:09:00\nINDEX 01 00:00:74\nINDEX 03 00:00:00", 98);
+
+    /* "by lowest line 226 not understood, 227": whichever comes first. */
+    REFUSED("INDEX 01 00:00:00\nx\nINDEX 01 00:00:00", 226, 2); REFUSED("INDEX 01 00:00:00\nINDEX 01 00:00:00\nx", 227, 2);
+    REFUSED("x\nINDEX 01 00:00:01", 226, 1); REFUSED("INDEX 01 00:00:01\nx", 227, 1); REFUSED("x\ny", 226, 1); REFUSED("INDEX 01 00:00:05\nINDEX 01 00:00:04", 227, 1);
+    /* "then 228": behind any line. */
+    EQUAL(READS("INDEX 01 00:00:00\nINDEX 01 00:01:00\nINDEX 01 00:02:00\nx", 1), 226); EQUAL(cue.line, 4);
+    EQUAL(READS("INDEX 01 00:00:00\nINDEX 01 00:01:00\nINDEX 01 00:02:00\nINDEX 01 00:02:00", 1), 227); EQUAL(cue.line, 4);
+    EQUAL(READS("INDEX 01 00:00:00\nINDEX 01 00:01:00\nINDEX 01 00:02:00\n", 4), 0); EQUAL(cue.count, 3);
+    EQUAL(READS("INDEX 01 00:00:00\nINDEX 01 00:01:00\nINDEX 01 00:02:00\n", 3), 0); EQUAL(cue.count, 3);
+    EQUAL(READS("INDEX 01 00:00:00\nINDEX 01 00:01:00\nINDEX 01 00:02:00\n", 2), 228); EQUAL(READS("INDEX 01 00:00:00\nINDEX 01 00:01:00\nINDEX 01 00:02:00\n", 0), 228);
+    EQUAL(READS("INDEX 01 00:00:00", 0), 228); EQUAL(READS("REM\nINDEX 02", 0), 0); EQUAL(READS("", 0), 0); EQUAL(cue.count, 0);
+    EQUAL(READS("x", 0), 226); EQUAL(READS("INDEX 01 00:00:01", 0), 227);
+
+    /* "at most 65,536 octets" */
+    memset(sheet, ' ', sizeof sheet);
+    EQUAL(reads_sheet(sheet, SHEET, 0), 0); EQUAL(reads_sheet(sheet, SHEET + 1, 0), 225);
+    memset(sheet, '\n', sizeof sheet);
+    EQUAL(reads_sheet(sheet, SHEET, 0), 0); EQUAL(reads_sheet(sheet, SHEET + 1, 0), 225); EQUAL(reads_sheet(sheet, SHEET + 2, 0), 225);
+    sheet[SHEET - 1] = 'x'; /* line 65,536 */
+    EQUAL(reads_sheet(sheet, SHEET, 0), 226); EQUAL(cue.line, SHEET); EQUAL(reads_sheet(sheet, SHEET + 1, 0), 225);
+    memcpy(sheet + SHEET - 17, "INDEX 01 00:00:00", 17);
+    EQUAL(reads_sheet(sheet, SHEET, 1), 0); EQUAL(cue.count, 1); EQUAL(reads_sheet(sheet, SHEET, 0), 228); EQUAL(reads_sheet(sheet, SHEET + 1, 0), 225);
+    sheet[0] = 'x';
+    EQUAL(reads_sheet(sheet, SHEET, 0), 226); EQUAL(cue.line, 1); EQUAL(reads_sheet(sheet, SHEET + 1, 0), 225);
+    memset(sheet, 0xFF, sizeof sheet);
+    memcpy(sheet, "REM", 3);
+    EQUAL(reads_sheet(sheet, SHEET, 0), 0); EQUAL(reads_sheet(sheet, SHEET + 1, 0), 225);
+
+    /* As many starts as a sheet can have: 3,640 lines of 18 octets are 65,520. Then any frame: "Different frames give different
+     * starts", and rising ones, from 0 to 599,998. */
+    for (uint32_t k = 0; k < 3640; k++) {
+        sprintf(right + 18 * k, "INDEX 01 %02u:%02u:%02u\n", (unsigned)(k / 4500), (unsigned)(k / 75 % 60), (unsigned)(k % 75));
+    }
+    EQUAL(reads_sheet(right, 65520, 3640), 0); EQUAL(cue.count, 3640); EQUAL(cue.starts[3639], 4852); EQUAL(reads_sheet(right, 65520, 3639), 228);
+    for (uint32_t frame = 1; frame < FRAMES; frame++) {
+        char text[40];
+        uint32_t two[2], count = 0, line;
+        sprintf(text, "INDEX 01 00:00:00\nINDEX 01 %02u:%02u:%02u", (unsigned)(frame / 4500), (unsigned)(frame / 75 % 60), (unsigned)(frame % 75));
+        CHECK(ref_cue_sheet((const uint8_t *)text, 35, two, 2, &count, &line) == 0 && count == 2 && two[0] == 0 && two[1] > before);
+        before = two[1];
+    }
+    EQUAL(before, 599998);
 }
 
 /* ---- Refusals and their order */
@@ -1571,6 +1734,38 @@ static void wild_catalogues(unsigned long rounds)
     CHECK(wrong * 10 > rounds && wrong < rounds);
 }
 
+/* Sheets of lines and of parts of them. A refusal is that of the first line that has one: without that line and those behind it
+ * the sheet is accepted, and what follows the line does not matter. */
+static void wild_sheets(unsigned long rounds)
+{
+    static const char *const PIECES[] = {"INDEX 01 00:00:00\n", "INDEX 01 00:00:0", "INDEX 01 ", "INDEX ", "01", "02 ", "00:00:01", "\n", "\r\n", "\r", " ", "REM",
+                                         "TITLE", "FILE", "TRACK", "PERFORMER", "INDEX 02", "INDEX 01 00:59:74\r\n", "INDEX 01 01:60:00", "INDEX 01 01:00:75",
+                                         "INDEX 01 12:34:56\n", "\nINDEX 01 00:00:00", "x", "\xFF", "\t", "5"};
+    unsigned long accepted = 0, wrong = 0, falling = 0;
+    for (unsigned long n = 0; n < rounds; n++) {
+        char text[512] = "";
+        uint32_t refusal, line = 0, at = 0, next;
+        if (below(2) == 0) strcat(text, PIECES[0]);
+        for (uint32_t k = below(14); k > 0; k--) strcat(text, PIECES[below(sizeof PIECES / sizeof PIECES[0])]);
+        refusal = reads_sheet(text, strlen(text), 20);
+        accepted += refusal == 0 && cue.count > 0;
+        wrong += refusal == 226;
+        falling += refusal == 227;
+        if (refusal == 0) {
+            for (uint32_t k = 0; k < cue.count; k++) CHECK(k == 0 ? cue.starts[0] == 0 : cue.starts[k] > cue.starts[k - 1]);
+            continue;
+        }
+        line = cue.line;
+        for (uint32_t k = 1; k < line; k++) at += (uint32_t)strcspn(text + at, "\n") + 1;
+        EQUAL(reads_sheet(text, at, 20), 0);
+        next = at + (uint32_t)strcspn(text + at, "\n");
+        next += text[next] == '\n';
+        EQUAL(reads_sheet(text, next, 20), refusal);
+        EQUAL(cue.line, line);
+    }
+    CHECK(rounds < 600 || (accepted * 50 > rounds && wrong * 50 > rounds && falling * 50 > rounds));
+}
+
 int main(int argc, char **argv)
 {
     unsigned long histories = argc > 1 ? strtoul(argv[1], NULL, 10) : 300;
@@ -1580,6 +1775,8 @@ int main(int argc, char **argv)
     catalogue_cases();
     name_cases();
     card_cases();
+    line_cases();
+    start_cases();
     refusal_cases();
     state_cases();
     owed_cases();
@@ -1589,6 +1786,7 @@ int main(int argc, char **argv)
     for (unsigned long k = 0; k < histories; k++) history(400, k % 3 == 0);
     wild_states(20 * histories);
     wild_catalogues(20 * histories);
+    wild_sheets(20 * histories);
     CHECK(histories < 30 || (bound_used > 1000 && refused_calls > 1000 && accepted_calls > 1000));
     printf("checks: %lu, failures: %lu; histories: %lu, calls accepted: %lu, refused: %lu, takes answered: %lu, longest wait: %lu\n", checks, failures, histories,
            accepted_calls, refused_calls, answered_takes, most_age);

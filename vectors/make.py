@@ -1,5 +1,5 @@
 #!/usr/bin/env python3
-"""The vectors of the card reader, the catalogue check and the text check.
+"""The vectors of the card reader, the catalogue check, the text check and the cue sheet reader.
 
     python3 vectors/make.py            writes the files below
     python3 vectors/make.py --check    compares them, and fails on a difference
@@ -8,8 +8,9 @@
     crates/vectors/stdout   the answer of each
     crates/inspect/stdin    the card of the sample catalogue
 
-Each vector has its answer beside it, worked out by hand from document 01. Only the check numbers of the tables are
-computed, from the tables that the vector was made of. A comment in quotation marks is a sentence of document 01.
+Each vector has its answer beside it, worked out by hand from document 01, and that of a sheet from W-212 of document 02.
+Only the check numbers of the tables are computed, from the tables that the vector was made of. A comment in quotation marks
+is a sentence of document 01, and of document 02 where it stands over sheets.
 """
 import struct
 import sys
@@ -18,7 +19,7 @@ from vector_files import write_or_compare
 
 WORD = 0xFFFFFFFF
 
-CARD, CATALOGUE, TEXT = 1, 2, 3
+CARD, CATALOGUE, TEXT, SHEET = 1, 2, 3, 4
 GROUP_KIND, TRACK_KIND, SEGMENT_KIND, TEXT_KIND = 1, 2, 3, 4
 
 # One entry for each vector: its kind, its name, the octets of its case, its answer.
@@ -140,10 +141,15 @@ def after(table, old):
     return list(table) + old[len(table):]
 
 
+def lent_words(room):
+    """A lent table of words before a call: each word another."""
+    return [(0xA5A50000 + i) & WORD for i in range(room)]
+
+
 def card(name, answer, octets, tables=None, room=AT_LIMITS):
     """A card vector: `tables` are what a granted load fills in; a refusal "alters nothing"."""
     tables = tables or Tables()
-    lent = [[(0xA5A50000 + i) & WORD for i in range(n)] for n in room[:3]] + [[0xA5] * room[3]]
+    lent = [lent_words(n) for n in room[:3]] + [[0xA5] * room[3]]
     left = [after(*pair) for pair in zip((tables.groups, tables.tracks, tables.segments, tables.text), lent)]
     case = struct.pack('<I', len(octets)) + octets + words(room)
     add(CARD, name, case, ' '.join([answer] + [str(check_number(table)) for table in left]))
@@ -577,6 +583,418 @@ text('text-first-for-tail', 'bad at 0', b'\xC3\xC3\xA9')
 text('text-first-of-two-bad', 'bad at 1', b'a\xFF\xC0\x80')
 
 
+# ---- Sheets: the number of starts, or the refusal and its line. The starts are hundredths of a second.
+
+def sheet(name, answer, octets, starts=(), room=16):
+    """A sheet vector: `starts` are what an accepted sheet fills in; on a refusal "nothing is written"."""
+    assert not starts or answer == str(len(starts))
+    case = struct.pack('<I', len(octets)) + octets + words([room])
+    add(SHEET, name, case, '%s %d' % (answer, check_number(after(starts, lent_words(room)))))
+
+
+ZERO = b'INDEX 01 00:00:00\n'  # gives 0
+FIFTEEN = b'INDEX 01 00:15:00\n'  # 15 seconds: gives 1500
+FORTY = b'INDEX 01 00:40:00\n'  # 40 seconds: gives 4000
+
+# "Read a cue sheet .. into segment starts for one track."
+sheet('sheet-empty', '0', b'')
+sheet('sheet-one-start', '1', ZERO, [0])
+sheet('sheet-two-starts', '2', ZERO + FIFTEEN, [0, 1500])
+sheet('sheet-three-starts', '3', ZERO + FIFTEEN + FORTY, [0, 1500, 4000])
+sheet('sheet-no-starts', '0', b'REM nothing marked\nTRACK 01 AUDIO\n  INDEX 00 00:00:00\n')
+# 2 minutes, 5 seconds, 30 frames: 125 seconds and 120 / 3 = 40. 61 minutes, 0 seconds, 70 frames: 3660 seconds and
+# 280 / 3, of which 93 is the whole part.
+sheet('sheet-of-a-recorder', '3',
+      b'REM GENRE Interview\r\nPERFORMER "A. Castelo"\r\nTITLE "The lighthouse"\r\nFILE "LIGHT.WAV" WAVE\r\n'
+      b'  TRACK 01 AUDIO\r\n    TITLE "Arrival"\r\n    INDEX 01 00:00:00\r\n'
+      b'  TRACK 02 AUDIO\r\n    TITLE "The keeper"\r\n    INDEX 00 02:03:00\r\n    INDEX 01 02:05:30\r\n'
+      b'  TRACK 03 AUDIO\r\n    TITLE "The storm"\r\n    INDEX 01 61:00:70\r\n    INDEX 02 61:10:00\r\n',
+      [0, 12540, 366093])
+
+# ".. gives (60 times mm + ss) times 100 plus the whole part of 4 times ff over 3."
+# Three frames are four hundredths: the frames 3k, 3k + 1, 3k + 2 give 4k, 4k + 1, 4k + 2, and 4k + 3 is given by none.
+sheet('sheet-frames-0-1-2-3', '4', ZERO + b'INDEX 01 00:00:01\nINDEX 01 00:00:02\nINDEX 01 00:00:03\n', [0, 1, 2, 4])
+sheet('sheet-frames-all-75', '75', b''.join(b'INDEX 01 00:00:%02d\n' % frame for frame in range(75)),
+      [0, 1, 2, 4, 5, 6, 8, 9, 10, 12, 13, 14, 16, 17, 18, 20, 21, 22, 24, 25, 26, 28, 29, 30, 32, 33, 34, 36, 37, 38,
+       40, 41, 42, 44, 45, 46, 48, 49, 50, 52, 53, 54, 56, 57, 58, 60, 61, 62, 64, 65, 66, 68, 69, 70, 72, 73, 74,
+       76, 77, 78, 80, 81, 82, 84, 85, 86, 88, 89, 90, 92, 93, 94, 96, 97, 98], room=80)
+sheet('sheet-frames-into-second', '3', ZERO + b'INDEX 01 00:00:74\nINDEX 01 00:01:00\n', [0, 98, 100])
+sheet('sheet-frames-into-minute', '3', ZERO + b'INDEX 01 00:59:74\nINDEX 01 01:00:00\n', [0, 5998, 6000])
+sheet('sheet-frames-into-ten-minutes', '3', ZERO + b'INDEX 01 09:59:74\nINDEX 01 10:00:00\n', [0, 59998, 60000])
+sheet('sheet-greatest-start', '2', ZERO + b'INDEX 01 99:59:74\n', [0, 599998])
+# One in each digit: 4 / 3 is 1, 40 / 3 is 13.
+sheet('sheet-one-in-each-digit', '7',
+      ZERO + b'INDEX 01 00:00:01\nINDEX 01 00:00:10\nINDEX 01 00:01:00\nINDEX 01 00:10:00\nINDEX 01 01:00:00\n'
+      b'INDEX 01 10:00:00\n', [0, 1, 13, 100, 1000, 6000, 60000])
+sheet('sheet-tens-of-minutes', '10', b''.join(b'INDEX 01 %d0:00:00\n' % digit for digit in range(10)),
+      [0, 60000, 120000, 180000, 240000, 300000, 360000, 420000, 480000, 540000])
+sheet('sheet-minutes', '10', b''.join(b'INDEX 01 0%d:00:00\n' % digit for digit in range(10)),
+      [0, 6000, 12000, 18000, 24000, 30000, 36000, 42000, 48000, 54000])
+sheet('sheet-tens-of-seconds', '6', b''.join(b'INDEX 01 00:%d0:00\n' % digit for digit in range(6)),
+      [0, 1000, 2000, 3000, 4000, 5000])
+sheet('sheet-seconds', '10', b''.join(b'INDEX 01 00:0%d:00\n' % digit for digit in range(10)),
+      [0, 100, 200, 300, 400, 500, 600, 700, 800, 900])
+# 12 minutes, 34 seconds, 56 frames: 754 seconds and 224 / 3, of which 74 is the whole part.
+sheet('sheet-12-34-56', '2', ZERO + b'INDEX 01 12:34:56\n', [0, 75474])
+
+# "lines end in LF or CR LF or at the end of the text"
+sheet('sheet-crlf', '3', b'INDEX 01 00:00:00\r\nINDEX 01 00:15:00\r\nINDEX 01 00:40:00\r\n', [0, 1500, 4000])
+sheet('sheet-crlf-then-lf', '3', b'INDEX 01 00:00:00\r\nINDEX 01 00:15:00\nINDEX 01 00:40:00\r\n', [0, 1500, 4000])
+sheet('sheet-lf-then-crlf', '3', b'INDEX 01 00:00:00\nINDEX 01 00:15:00\r\nINDEX 01 00:40:00\n', [0, 1500, 4000])
+sheet('sheet-no-end', '1', b'INDEX 01 00:00:00', [0])
+sheet('sheet-no-end-behind-lf', '2', b'INDEX 01 00:00:00\nINDEX 01 00:15:00', [0, 1500])
+sheet('sheet-no-end-behind-crlf', '2', b'INDEX 01 00:00:00\r\nINDEX 01 00:15:00', [0, 1500])
+sheet('sheet-no-end-passed-over', '1', ZERO + b'REM', [0])
+sheet('sheet-no-end-not-understood', '226 2', ZERO + b'x')
+sheet('sheet-lf-alone', '0', b'\n')
+sheet('sheet-crlf-alone', '0', b'\r\n')
+sheet('sheet-lf-many', '1', b'\n\n\n' + ZERO + b'\n\n', [0])
+sheet('sheet-crlf-many', '1', b'\r\n\r\n\r\nINDEX 01 00:00:00\r\n\r\n\r\n', [0])
+sheet('sheet-word-cut-by-lf', '226 1', b'RE\nM\n')
+sheet('sheet-start-cut-by-lf', '226 1', b'INDEX 01\n00:00:00\n')
+sheet('sheet-start-cut-by-crlf', '226 1', b'INDEX 0\r\n1 00:00:00\r\n')
+# Nothing else ends a line: the whole of this is one line that begins REM.
+sheet('sheet-other-ends', '0', b'REM\x0BINDEX 01 00:00:01\x0CINDEX 01 00:00:01\x1CINDEX 01 00:00:01\x85INDEX 01 00:00:01'
+      b'\xE2\x80\xA8INDEX 01 00:00:01\0INDEX 01 00:00:01')
+sheet('sheet-form-feed-behind-start', '226 1', b'INDEX 01 00:00:00\x0C\n')
+sheet('sheet-end-of-file-mark', '226 2', ZERO + b'\x1A')
+
+# CR ends a line only directly before LF: elsewhere, and at the end of the text, it belongs to its line.
+sheet('sheet-cr-in-rem', '1', b'REM a\rb\n' + ZERO, [0])
+sheet('sheet-cr-hides-start', '0', b'REM a\rINDEX 01 00:00:01\r\n')
+sheet('sheet-cr-hides-nonsense', '1', b'TITLE a\rnonsense\n' + ZERO, [0])
+sheet('sheet-cr-behind-word-at-end', '0', b'REM\r')
+sheet('sheet-cr-behind-index-00-at-end', '0', b'INDEX 00\r')
+sheet('sheet-cr-behind-start-at-end', '226 1', b'INDEX 01 00:00:00\r')
+sheet('sheet-cr-behind-second-start-at-end', '226 2', ZERO + b'INDEX 01 00:15:00\r')
+sheet('sheet-cr-between-starts', '226 1', b'INDEX 01 00:00:00\rINDEX 01 00:15:00\n')
+sheet('sheet-cr-before-start', '226 1', b'\rINDEX 01 00:00:00\n')
+sheet('sheet-cr-before-rem', '226 1', b'\rREM\n')
+sheet('sheet-cr-behind-lf', '226 2', b'INDEX 01 00:00:00\n\rINDEX 01 00:15:00\n\r')
+sheet('sheet-cr-alone', '226 1', b'\r')
+sheet('sheet-cr-alone-second', '226 2', ZERO + b'\r')
+sheet('sheet-cr-spaces-lf', '226 1', b'\r  \n')
+sheet('sheet-spaces-cr-at-end', '226 1', b'   \r')
+sheet('sheet-cr-space-behind-start', '226 1', b'INDEX 01 00:00:00\r \n')
+sheet('sheet-cr-cr-lf', '226 1', b'\r\r\n')
+sheet('sheet-cr-cr-lf-behind-rem', '1', b'REM\r\r\n' + ZERO, [0])
+sheet('sheet-cr-cr-lf-behind-start', '226 1', b'INDEX 01 00:00:00\r\r\n')
+sheet('sheet-cr-in-short-index', '226 1', b'INDEX 0\r\n')
+sheet('sheet-cr-in-bare-index', '226 1', b'INDEX \r\n')
+sheet('sheet-cr-for-a-digit', '226 1', b'INDEX 01 00:00:0\r\n')
+sheet('sheet-cr-only', '226 1', b'INDEX 01 00:00:00\rINDEX 01 00:15:00\r')
+
+# "leading spaces are allowed"
+sheet('sheet-space-before-start', '1', b' INDEX 01 00:00:00\n', [0])
+sheet('sheet-spaces-before-starts', '2', b'    INDEX 01 00:00:00\n  INDEX 01 00:15:00\r\n', [0, 1500])
+sheet('sheet-300-spaces-before-start', '1', b' ' * 300 + ZERO, [0])
+sheet('sheet-spaces-before-index-00', '0', b'  INDEX 00 00:00:00\n')
+sheet('sheet-spaces-before-words', '1', b' REM\n  TITLE a\n   PERFORMER\n    FILE b\n     TRACK\n      ' + ZERO, [0])
+sheet('sheet-spaces-before-nonsense', '226 1', b'   nonsense\n')
+sheet('sheet-spaces-before-bad-start', '226 2', ZERO + b'  INDEX 01 00:15\n')
+sheet('sheet-spaces-before-low-start', '227 2', ZERO + b'  INDEX 01 00:00:00\n')
+sheet('sheet-spaces-alone', '0', b'     ')
+sheet('sheet-spaces-alone-lf', '1', b'   \n' + ZERO, [0])
+sheet('sheet-spaces-alone-crlf', '1', b'   \r\n' + ZERO, [0])
+sheet('sheet-spaces-at-end', '1', ZERO + b'   ', [0])
+sheet('sheet-tab-before-start', '226 1', b'\tINDEX 01 00:00:00\n')
+sheet('sheet-tab-before-rem', '226 1', b'\tREM\n')
+sheet('sheet-tab-before-index-00', '226 1', b'\tINDEX 00 00:00:00\n')
+sheet('sheet-space-tab-before-start', '226 1', b' \tINDEX 01 00:00:00\n')
+sheet('sheet-tab-space-before-rem', '226 1', b'\t REM\n')
+sheet('sheet-tab-alone', '226 1', b'\t\n')
+sheet('sheet-spaces-tab', '226 2', ZERO + b'  \t\n')
+sheet('sheet-other-space-before-start', '226 1', b'\xA0INDEX 01 00:00:00\n')
+sheet('sheet-byte-order-mark', '226 1', b'\xEF\xBB\xBFREM\n' + ZERO)
+
+# "Lines beginning INDEX, one space and two other digits .. are passed over": whatever follows, and they give no start.
+for digits in (b'00', b'02', b'03', b'09', b'10', b'11', b'20', b'21', b'91', b'99'):
+    name = 'sheet-index-' + digits.decode('ascii')
+    sheet(name + '-alone', '0', b'INDEX ' + digits)
+    sheet(name + '-time', '1', b'INDEX ' + digits + b' 00:00:01\n' + ZERO, [0])
+    sheet(name + '-anything', '1', b'INDEX ' + digits + b' any\tthing INDEX 01 at all\r\n' + ZERO, [0])
+sheet('sheet-index-001', '0', b'INDEX 001 00:00:01\n')
+sheet('sheet-index-000', '0', b'INDEX 000\n')
+sheet('sheet-index-00-letters', '0', b'INDEX 00letters\n')
+sheet('sheet-index-02-space', '0', b'INDEX 02 \n')
+sheet('sheet-index-02-tab', '0', b'INDEX 02\t00:00:01\n')
+sheet('sheet-index-02-falls', '3', ZERO + FIFTEEN + b'INDEX 02 00:01:00\n' + FORTY + b'INDEX 02 00:00:00\n', [0, 1500, 4000])
+sheet('sheet-index-00-rises', '3', b'INDEX 00 99:59:74\n' + ZERO + b'INDEX 00 99:59:74\n' + FIFTEEN + FORTY, [0, 1500, 4000])
+
+# "or REM, TITLE, PERFORMER, FILE or TRACK": beginnings, whatever follows.
+for word in ('REM', 'TITLE', 'PERFORMER', 'FILE', 'TRACK'):
+    octets = word.encode('ascii')
+    sheet('sheet-%s-alone' % word, '0', octets)
+    sheet('sheet-%s-lf' % word, '1', octets + b'\n' + ZERO, [0])
+    sheet('sheet-%s-crlf' % word, '1', octets + b'\r\n' + ZERO, [0])
+    sheet('sheet-%s-space' % word, '1', octets + b' \n' + ZERO, [0])
+    sheet('sheet-%s-anything' % word, '1', octets + b' "any\tthing", INDEX 01 00:00:01\n' + ZERO, [0])
+    sheet('sheet-%s-letters' % word, '1', octets + b'arkable\n' + ZERO, [0])
+    sheet('sheet-%s-01' % word, '1', octets + b'01\n' + ZERO, [0])
+    sheet('sheet-%s-cut' % word, '226 2', ZERO + octets[:-1])
+    sheet('sheet-%s-cut-lf' % word, '226 2', ZERO + octets[:-1] + b'\n')
+    sheet('sheet-%s-cut-space' % word, '226 1', octets[:-1] + b' ' + octets[-1:] + b'\n')
+    sheet('sheet-%s-first-letter' % word, '226 1', octets[:1] + b'\n')
+    sheet('sheet-%s-without-first-letter' % word, '226 1', octets[1:] + b'\n')
+    sheet('sheet-%s-small' % word, '226 1', octets.lower() + b' a\n')
+    sheet('sheet-%s-one-small' % word, '226 1', octets[:-1] + octets[-1:].lower() + b' a\n')
+    sheet('sheet-%s-behind-letter' % word, '226 1', b'X' + octets + b'\n')
+    sheet('sheet-%s-in-quotation-marks' % word, '226 1', b'"' + octets + b'"\n')
+sheet('sheet-REMARK', '0', b'REMARK\n')
+sheet('sheet-words-after-each-other', '0', b'REM\nTITLE\nPERFORMER\nFILE\nTRACK\nINDEX 00')
+
+# 226: "not understood"
+for other in ('CATALOG', 'CDTEXTFILE', 'FLAGS', 'ISRC', 'PREGAP', 'POSTGAP', 'SONGWRITER'):
+    sheet('sheet-other-word-' + other, '226 1', other.encode('ascii') + b' 00:00:00\n')
+sheet('sheet-letter', '226 1', b'x')
+sheet('sheet-letter-lf', '226 1', b'x\n')
+sheet('sheet-digit', '226 1', b'0\n')
+sheet('sheet-time-alone', '226 1', b'00:00:00\n')
+sheet('sheet-number-alone', '226 1', b'01 00:00:00\n')
+sheet('sheet-semicolon', '226 1', b'; INDEX 01 00:00:00\n')
+sheet('sheet-start-in-quotation-marks', '226 1', b'"INDEX 01 00:00:00"\n')
+sheet('sheet-two-words-one-line', '226 1', b'INDEX 01 00:00:00 REM here it begins\n')
+
+# 226: INDEX with anything but one space and two digits.
+sheet('sheet-index-bare', '226 1', b'INDEX')
+sheet('sheet-index-bare-lf', '226 1', b'INDEX\n')
+sheet('sheet-index-space', '226 1', b'INDEX \n')
+sheet('sheet-index-spaces', '226 1', b'INDEX    \n')
+sheet('sheet-index-0', '226 1', b'INDEX 0\n')
+sheet('sheet-index-0-at-end', '226 1', b'INDEX 0')
+sheet('sheet-index-2', '226 1', b'INDEX 2 00:00:00\n')
+sheet('sheet-index-1', '226 1', b'INDEX 1 00:00:00\n')
+sheet('sheet-INDEX1', '226 1', b'INDEX1\n')
+sheet('sheet-INDEX01', '226 1', b'INDEX01 00:00:00\n')
+sheet('sheet-INDEX00', '226 1', b'INDEX00 00:00:00\n')
+sheet('sheet-INDEXES', '226 1', b'INDEXES 00\n')
+sheet('sheet-index-two-spaces-00', '226 1', b'INDEX  00 00:00:00\n')
+sheet('sheet-index-two-spaces-01', '226 1', b'INDEX  01 00:00:00\n')
+sheet('sheet-index-tab-00', '226 1', b'INDEX\t00 00:00:00\n')
+sheet('sheet-index-tab-01', '226 1', b'INDEX\t01 00:00:00\n')
+sheet('sheet-index-letters', '226 1', b'INDEX AB\n')
+sheet('sheet-index-digit-letter', '226 1', b'INDEX 0A\n')
+sheet('sheet-index-letter-digit', '226 1', b'INDEX A0\n')
+sheet('sheet-index-O1', '226 1', b'INDEX O1 00:00:00\n')
+sheet('sheet-index-0l', '226 1', b'INDEX 0l 00:00:00\n')
+# / and : stand beside the digits.
+sheet('sheet-index-slash-first', '226 1', b'INDEX /0\n')
+sheet('sheet-index-slash-second', '226 1', b'INDEX 0/\n')
+sheet('sheet-index-colon-first', '226 1', b'INDEX :0\n')
+sheet('sheet-index-colon-second', '226 1', b'INDEX 0:\n')
+sheet('sheet-index-minus', '226 1', b'INDEX -1 00:00:00\n')
+sheet('sheet-index-small', '226 1', b'index 00 00:00:00\n')
+sheet('sheet-index-some-small', '226 1', b'Index 00 00:00:00\n')
+
+# 226: INDEX 01 in any other form than "`INDEX 01 mm:ss:ff`, two digits each, ss to 59, ff to 74"
+RIGHT = b'INDEX 01 12:34:56'  # gives 75474
+
+
+def second_line(name, answer, line, starts=()):
+    """The line behind one that gives 0."""
+    sheet(name, answer, ZERO + line + b'\n', starts)
+
+
+second_line('sheet-form-right', '2', RIGHT, [0, 75474])
+# The line breaks off, at the end of its line and at that of the text.
+for length in range(1, 17):
+    second_line('sheet-form-first-%d-octets' % length, '226 2', RIGHT[:length])
+    sheet('sheet-form-first-%d-octets-at-end' % length, '226 2', ZERO + RIGHT[:length])
+# The room's word follows the sheet in its frame, and begins here with the digit 2 and with the digit 6.
+sheet('sheet-index-0-before-a-digit', '226 1', b'INDEX 0', room=0x32)
+sheet('sheet-form-first-16-octets-before-a-digit', '226 2', ZERO + RIGHT[:16], room=0x36)
+# The octets beside the right one: the letters and the space of INDEX, the space behind 01, and both colons.
+for place in (0, 1, 2, 3, 4, 5, 8, 11, 14):
+    second_line('sheet-form-octet-%d-below' % place, '226 2', spoiled(RIGHT, place, RIGHT[place] - 1))
+    second_line('sheet-form-octet-%d-above' % place, '226 2', spoiled(RIGHT, place, RIGHT[place] + 1))
+# No digit: the six digits of the time.
+for place in (9, 10, 12, 13, 15, 16):
+    second_line('sheet-form-octet-%d-letter' % place, '226 2', spoiled(RIGHT, place, ord('O')))
+    second_line('sheet-form-octet-%d-slash' % place, '226 2', spoiled(RIGHT, place, ord('/')))
+    second_line('sheet-form-octet-%d-colon' % place, '226 2', spoiled(RIGHT, place, ord(':')))
+    second_line('sheet-form-octet-%d-space' % place, '226 2', spoiled(RIGHT, place, ord(' ')))
+    second_line('sheet-form-octet-%d-top-bit' % place, '226 2', spoiled(RIGHT, place, RIGHT[place] | 0x80))
+second_line('sheet-form-small', '226 2', b'index 01 12:34:56')
+second_line('sheet-form-no-space', '226 2', b'INDEX 0112:34:56')
+second_line('sheet-form-two-spaces', '226 2', b'INDEX 01  12:34:56')
+second_line('sheet-form-tab', '226 2', b'INDEX 01\t12:34:56')
+second_line('sheet-form-space-in-time', '226 2', b'INDEX 01 12: 34:56')
+second_line('sheet-form-dots', '226 2', b'INDEX 01 12.34.56')
+second_line('sheet-form-dot-last', '226 2', b'INDEX 01 12:34.56')
+second_line('sheet-form-minuses', '226 2', b'INDEX 01 12-34-56')
+second_line('sheet-form-no-colons', '226 2', b'INDEX 01 123456')
+second_line('sheet-form-one-digit-mm', '226 2', b'INDEX 01 2:34:56')
+second_line('sheet-form-one-digit-ss', '226 2', b'INDEX 01 12:4:56')
+second_line('sheet-form-one-digit-ff', '226 2', b'INDEX 01 12:34:6')
+second_line('sheet-form-three-digits-mm', '226 2', b'INDEX 01 012:34:56')
+second_line('sheet-form-three-digits-ss', '226 2', b'INDEX 01 12:034:56')
+second_line('sheet-form-three-digits-ff', '226 2', b'INDEX 01 12:34:056')
+second_line('sheet-form-no-mm', '226 2', b'INDEX 01 34:56')
+second_line('sheet-form-empty-mm', '226 2', b'INDEX 01 :34:56')
+second_line('sheet-form-empty-ss', '226 2', b'INDEX 01 12::56')
+second_line('sheet-form-four-parts', '226 2', b'INDEX 01 12:34:56:00')
+second_line('sheet-form-plus', '226 2', b'INDEX 01 +2:34:56')
+second_line('sheet-form-minus', '226 2', b'INDEX 01 -2:34:56')
+second_line('sheet-form-space-behind', '226 2', b'INDEX 01 12:34:56 ')
+second_line('sheet-form-tab-behind', '226 2', b'INDEX 01 12:34:56\t')
+second_line('sheet-form-letter-behind', '226 2', b'INDEX 01 12:34:56x')
+second_line('sheet-form-digit-behind', '226 2', b'INDEX 01 12:34:560')
+second_line('sheet-form-zero-octet-behind', '226 2', b'INDEX 01 12:34:56\0')
+second_line('sheet-form-word-behind', '226 2', b'INDEX 01 12:34:56 REM')
+second_line('sheet-form-space-behind-crlf', '226 2', b'INDEX 01 12:34:56 \r')
+sheet('sheet-form-space-behind-at-end', '226 2', ZERO + b'INDEX 01 12:34:56 ')
+second_line('sheet-form-010', '226 2', b'INDEX 010 12:34:56')
+second_line('sheet-form-01-letter', '226 2', b'INDEX 01A 12:34:56')
+second_line('sheet-form-01-anything', '226 2', b'INDEX 01 anything')
+second_line('sheet-ss-59', '2', b'INDEX 01 12:59:56', [0, 77974])
+second_line('sheet-ss-60', '226 2', b'INDEX 01 12:60:56')
+second_line('sheet-ss-61', '226 2', b'INDEX 01 12:61:00')
+second_line('sheet-ss-70', '226 2', b'INDEX 01 12:70:00')
+second_line('sheet-ss-99', '226 2', b'INDEX 01 12:99:00')
+second_line('sheet-ff-74', '2', b'INDEX 01 12:34:74', [0, 75498])
+second_line('sheet-ff-75', '226 2', b'INDEX 01 12:34:75')
+second_line('sheet-ff-76', '226 2', b'INDEX 01 12:34:76')
+second_line('sheet-ff-80', '226 2', b'INDEX 01 12:34:80')
+second_line('sheet-ff-99', '226 2', b'INDEX 01 12:34:99')
+second_line('sheet-mm-99', '2', b'INDEX 01 99:34:56', [0, 597474])
+second_line('sheet-mm-60', '2', b'INDEX 01 60:00:00', [0, 360000])
+second_line('sheet-mm-100', '226 2', b'INDEX 01 100:00:00')
+sheet('sheet-first-ss-60', '226 1', b'INDEX 01 00:60:00\n')
+sheet('sheet-first-ff-75', '226 1', b'INDEX 01 00:00:75\n')
+
+# 227: "first start not 0"
+sheet('sheet-first-1-frame', '227 1', b'INDEX 01 00:00:01\n')
+sheet('sheet-first-1-frame-no-end', '227 1', b'INDEX 01 00:00:01')
+sheet('sheet-first-1-second', '227 1', b'INDEX 01 00:01:00\n')
+sheet('sheet-first-1-minute', '227 1', b'INDEX 01 01:00:00\r\n')
+sheet('sheet-first-greatest', '227 1', b'INDEX 01 99:59:74\n')
+sheet('sheet-first-not-0-then-rising', '227 1', FIFTEEN + FORTY)
+sheet('sheet-first-not-0-then-0', '227 1', FIFTEEN + ZERO)
+sheet('sheet-first-behind-index-00', '227 3', b'REM\nINDEX 00 00:00:00\nINDEX 01 00:02:00\n')
+sheet('sheet-first-behind-spaces', '227 2', b'    \n    INDEX 01 00:00:01\n')
+
+# 227: "or not rising"
+sheet('sheet-equal-zeros', '227 2', ZERO + ZERO)
+sheet('sheet-equal', '227 3', ZERO + FIFTEEN + FIFTEEN)
+sheet('sheet-equal-last', '227 4', ZERO + FIFTEEN + FORTY + FORTY)
+sheet('sheet-equal-greatest', '227 3', ZERO + b'INDEX 01 99:59:74\nINDEX 01 99:59:74\n')
+sheet('sheet-falls', '227 3', ZERO + FORTY + FIFTEEN)
+sheet('sheet-falls-to-0', '227 3', ZERO + FIFTEEN + ZERO)
+sheet('sheet-falls-a-frame', '227 3', ZERO + b'INDEX 01 00:00:02\nINDEX 01 00:00:01\n')
+sheet('sheet-falls-a-frame-of-a-minute', '227 3', ZERO + b'INDEX 01 01:00:00\nINDEX 01 00:59:74\n')
+sheet('sheet-falls-but-frames-rise', '227 3', ZERO + b'INDEX 01 00:02:00\nINDEX 01 00:01:74\n')
+sheet('sheet-falls-but-seconds-rise', '227 3', ZERO + b'INDEX 01 02:00:00\nINDEX 01 01:59:00\n')
+sheet('sheet-falls-behind-rise', '227 4', ZERO + FIFTEEN + FORTY + b'INDEX 01 00:39:74\n')
+sheet('sheet-falls-to-one-before', '227 4', ZERO + FIFTEEN + FORTY + FIFTEEN)
+sheet('sheet-falls-behind-others', '227 5', ZERO + b'REM\nINDEX 02 00:00:10\n\nINDEX 01 00:00:00\n')
+sheet('sheet-rises-a-frame', '3', ZERO + b'INDEX 01 00:00:01\nINDEX 01 00:00:02\n', [0, 1, 2])
+sheet('sheet-rises-a-frame-two-hundredths', '3', ZERO + b'INDEX 01 00:00:05\nINDEX 01 00:00:06\n', [0, 6, 8])
+
+# "then by lowest line 226 .., 227 .."
+sheet('sheet-226-1-then-227-2', '226 1', b'x\nINDEX 01 00:00:01\n')
+sheet('sheet-227-1-then-226-2', '227 1', b'INDEX 01 00:00:01\nx\n')
+sheet('sheet-226-2-then-227-3', '226 2', ZERO + b'x\n' + ZERO)
+sheet('sheet-227-2-then-226-3', '227 2', ZERO + ZERO + b'x\n')
+sheet('sheet-226-1-then-226-2', '226 1', b'x\ny\n')
+sheet('sheet-226-far-before-227', '226 3', ZERO + b'REM\nx\n' + b'REM\n' * 20 + ZERO)
+sheet('sheet-227-far-before-226', '227 3', ZERO + b'REM\n' + ZERO + b'REM\n' * 20 + b'x\n')
+sheet('sheet-227-2-then-227-3', '227 2', ZERO + ZERO + ZERO)
+sheet('sheet-227-1-then-227-3', '227 1', FIFTEEN + FORTY + FIFTEEN)
+sheet('sheet-226-2-then-226-3', '226 2', ZERO + b'INDEX 01 00:00:75\nx\n')
+# A first start that is not 0 and one that falls, in another form than the right one: these are no starts.
+sheet('sheet-226-and-not-0', '226 1', b'INDEX 01 00:00:01 \n')
+sheet('sheet-226-and-falls', '226 3', ZERO + FORTY + b'INDEX 01 00:15:00 \n')
+
+# "Each of 226 and 227 carries the line, from 1": LF ends a line to be counted, CR alone does not.
+BEFORE = b'\n\r\nREM\r\n   \n  INDEX 00\n' + ZERO  # six lines
+sheet('sheet-226-behind-6-lines', '226 7', BEFORE + b'x\n')
+sheet('sheet-227-behind-6-lines', '227 7', BEFORE + ZERO)
+sheet('sheet-226-behind-empty-line', '226 2', b'\nx')
+sheet('sheet-226-behind-crlf-line', '226 2', b'\r\nx')
+sheet('sheet-227-behind-crlf-lines', '227 3', b'\r\n\r\nINDEX 01 00:00:01\r\n')
+sheet('sheet-226-behind-crs', '226 2', b'REM a\rb\rc\r\r\nx\n')
+sheet('sheet-226-line-10', '226 10', b'REM\n' * 9 + b'x\n')
+sheet('sheet-226-line-256', '226 256', b'\r\n' * 255 + b'x')
+sheet('sheet-226-line-300', '226 300', b'\n' * 299 + b'x\n')
+sheet('sheet-227-line-257', '227 257', b'TRACK\r\n' * 256 + b'INDEX 01 00:00:01')
+# Lines 1 to 75 rise by a frame each, line 76 gives what line 75 does.
+sheet('sheet-227-line-76', '227 76',
+      b''.join(b'INDEX 01 00:00:%02d\n' % frame for frame in range(75)) + b'INDEX 01 00:00:74\n', room=80)
+
+# "then 228 more starts than room"
+sheet('sheet-room-0-empty', '0', b'', room=0)
+sheet('sheet-room-0-no-starts', '0', b'REM\nINDEX 00 00:00:00\n', room=0)
+sheet('sheet-room-0-one-start', '228', ZERO, room=0)
+sheet('sheet-room-0-one-start-no-end', '228', b'INDEX 01 00:00:00', room=0)
+sheet('sheet-room-1-empty', '0', b'', room=1)
+sheet('sheet-room-1-one-start', '1', ZERO, [0], 1)
+sheet('sheet-room-1-two-starts', '228', ZERO + FIFTEEN, room=1)
+sheet('sheet-room-2-three-starts', '228', ZERO + FIFTEEN + FORTY, room=2)
+sheet('sheet-room-3-three-starts', '3', ZERO + FIFTEEN + FORTY, [0, 1500, 4000], 3)
+sheet('sheet-room-4-three-starts', '3', ZERO + FIFTEEN + FORTY, [0, 1500, 4000], 4)
+sheet('sheet-room-3-three-starts-others', '3', BEFORE + FIFTEEN + b'INDEX 02 00:20:00\n' + FORTY + b'REM\n',
+      [0, 1500, 4000], 3)
+sheet('sheet-room-1-many-starts', '228', ZERO + FIFTEEN + FORTY + b'INDEX 01 01:00:00\nINDEX 01 02:00:00\n', room=1)
+# A line that is not understood and one that is not rising come first, wherever the room ends.
+sheet('sheet-room-0-226-first', '226 1', b'x\n' + ZERO, room=0)
+sheet('sheet-room-0-226-behind', '226 2', ZERO + b'x\n', room=0)
+sheet('sheet-room-0-227', '227 1', b'INDEX 01 00:00:01\n', room=0)
+sheet('sheet-room-0-227-behind', '227 2', ZERO + ZERO, room=0)
+sheet('sheet-room-1-226-behind', '226 3', ZERO + FIFTEEN + b'x\n', room=1)
+sheet('sheet-room-1-226-far-behind', '226 24', ZERO + FIFTEEN + FORTY + b'REM\n' * 20 + b'INDEX 01 00:41\n', room=1)
+sheet('sheet-room-1-227-second', '227 2', ZERO + ZERO, room=1)
+sheet('sheet-room-1-227-third', '227 3', ZERO + FIFTEEN + FIFTEEN, room=1)
+sheet('sheet-room-1-227-behind', '227 4', ZERO + FIFTEEN + FORTY + FIFTEEN, room=1)
+# The third start is above the first, behind which the room ends, but not above the second.
+sheet('sheet-room-1-227-above-first', '227 3', ZERO + FORTY + FIFTEEN, room=1)
+
+# Octets above 127, and 0, are as any other.
+sheet('sheet-title-utf-8', '1', b'TITLE "Pr\xC3\xA9lude"\n' + ZERO, [0])
+sheet('sheet-title-not-utf-8', '1', b'TITLE "Pr\xE9lude\xFF"\n' + ZERO, [0])
+sheet('sheet-index-00-any-octets', '1', b'INDEX 00\xFF\x80\0\n' + ZERO, [0])
+sheet('sheet-rem-every-octet-but-lf', '1', b'REM' + bytes(n for n in range(256) if n != 10) + b'\n' + ZERO, [0])
+sheet('sheet-rem-zero-octet', '1', b'REM\0\0\n' + ZERO, [0])
+sheet('sheet-octets-above-127', '226 1', b'\xC3\xA9\n')
+sheet('sheet-octet-128', '226 1', b'\x80')
+sheet('sheet-octet-255', '226 2', ZERO + b'\xFF')
+sheet('sheet-octet-0', '226 1', b'\0')
+sheet('sheet-octet-0-lf', '226 1', b'\0\n')
+sheet('sheet-octet-0-before-rem', '226 1', b'\0REM\n')
+sheet('sheet-octet-0-behind-starts', '226 3', ZERO + FIFTEEN + b'\0')
+sheet('sheet-octet-127', '226 1', b'\x7F\n')
+sheet('sheet-top-bit-of-a-letter', '226 1', b'R\xC5M\n')
+sheet('sheet-top-bit-of-index-digit', '226 1', b'INDEX 0\xB0\n')
+sheet('sheet-top-bit-of-a-space', '226 1', b'INDEX\xA000 00:00:00\n')
+
+
+# Many starts: a start in every so many frames, of which a minute has 4500 and a second 75.
+def every(step, count):
+    return [(frame // 4500, frame // 75 % 60, frame % 75) for frame in range(0, step * count, step)]
+
+
+def lines_of(times):
+    return b''.join(b'INDEX 01 %02d:%02d:%02d\n' % time for time in times)
+
+
+def starts_of(times):
+    """"(60 times mm + ss) times 100 plus the whole part of 4 times ff over 3" """
+    return [(60 * mm + ss) * 100 + 4 * ff // 3 for mm, ss, ff in times]
+
+
+sheet('sheet-1024-starts-room-1024', '1024', lines_of(every(1, 1024)), starts_of(every(1, 1024)), 1024)
+sheet('sheet-1025-starts-room-1024', '228', lines_of(every(439, 1025)), room=1024)
+sheet('sheet-300-starts-then-equal', '227 301', lines_of(every(1499, 300)) + lines_of(every(1499, 300))[-18:], room=1024)
+
+# "at most 65,536 octets", and 225: "sheet too long"
+# 3640 lines of 18 octets and one of 16.
+LONGEST = lines_of(every(122, 3640)) + b'REM the last one'
+assert len(LONGEST) == 65536
+sheet('sheet-65536-octets', '3640', LONGEST, starts_of(every(122, 3640)), 4096)
+sheet('sheet-65537-octets', '225', LONGEST + b'.', room=4096)
+sheet('sheet-65536-octets-226-in-last', '226 65536', b'\n' * 65535 + b'x')
+sheet('sheet-65537-octets-226-in-line-1', '225', b'x' * 65537, room=0)
+
+
 # ---- Files
 
 def files():
@@ -591,7 +1009,7 @@ def files():
 
 def main(arguments):
     differing = write_or_compare(__doc__, arguments, files())
-    for kind, kind_name in ((CARD, 'cards'), (CATALOGUE, 'catalogues'), (TEXT, 'texts')):
+    for kind, kind_name in ((CARD, 'cards'), (CATALOGUE, 'catalogues'), (TEXT, 'texts'), (SHEET, 'sheets')):
         print('%s: %d' % (kind_name, sum(1 for vector in VECTORS if vector[0] == kind)))
     if differing:
         sys.exit(1)

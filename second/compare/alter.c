@@ -79,6 +79,23 @@ static void alter_card(run *r, const step *s)
     }
 }
 
+static void alter_sheet(run *r, const step *s)
+{
+    sheet *c = &r->lent_sheet;
+    if (s->kind == NEW_SHEET) {
+        c->length = 0;
+    }
+    if (s->kind == ADD_TEXT) {
+        add_text(c, s->octets, s->length, s->number);
+    }
+    if (s->kind == ADD_STARTS) {
+        add_starts(c, s->who, s->what, s->number, s->octets, s->length);
+    }
+    if (s->kind == CUT_SHEET && s->number < c->length) {
+        c->length = s->number;
+    }
+}
+
 void alter(run *r, const step *s)
 {
     switch (s->kind) {
@@ -89,6 +106,12 @@ void alter(run *r, const step *s)
     case POKE_TABLE:
     case TABLE_LENGTH:
         alter_tables(r, s);
+        break;
+    case NEW_SHEET:
+    case ADD_TEXT:
+    case ADD_STARTS:
+    case CUT_SHEET:
+        alter_sheet(r, s);
         break;
     case KEEP:
         remember(r);

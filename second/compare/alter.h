@@ -1,4 +1,4 @@
-/* What is done between calls to state, catalogue and card. */
+/* What is done between calls to state, catalogue, card and cue sheet. */
 #ifndef ALTER_H
 #define ALTER_H
 

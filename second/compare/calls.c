@@ -2,7 +2,7 @@
 
 const char *const CALL_NAME[CALLS] = {"start",   "set name",   "activate",  "deactivate",  "advance",
                                       "connect", "disconnect", "subscribe", "unsubscribe", "read",
-                                      "write",   "take",       "card load"};
+                                      "write",   "take",       "card load",  "cue sheet"};
 
 #define LENT                                                                                                               \
     l->table[GROUPS], l->length[GROUPS], l->table[TRACKS], l->length[TRACKS], l->table[SEGMENTS], l->length[SEGMENTS],     \
@@ -52,8 +52,11 @@ void call_library(void *lent)
     case TAKE:
         l->number = mcs_take(LENT, l->state, l->out, s->room[0], l->served);
         break;
-    default:
+    case CARD_LOAD:
         l->number = mcs_card_load(l->card, l->card_length, LOADED, l->counts);
+        break;
+    default:
+        l->number = mcs_cue_sheet(l->sheet, l->sheet_length, l->starts, s->room[0], l->word, l->line);
         break;
     }
 }
@@ -99,8 +102,11 @@ void call_second(void *lent)
     case TAKE:
         l->number = ref_take(LENT, l->state, l->out, s->room[0], l->served);
         break;
-    default:
+    case CARD_LOAD:
         l->number = ref_card_load(l->card, l->card_length, LOADED, l->counts);
+        break;
+    default:
+        l->number = ref_cue_sheet(l->sheet, l->sheet_length, l->starts, s->room[0], l->word, l->line);
         break;
     }
 }

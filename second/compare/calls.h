@@ -1,4 +1,4 @@
-/* The thirteen calls of both programs. */
+/* The fourteen calls of both programs. */
 #ifndef CALLS_H
 #define CALLS_H
 
@@ -12,11 +12,11 @@ typedef struct {
     const void *table[TABLES];
     size_t length[TABLES];
     void *loaded[TABLES]; /* of a card load, with the step's room */
-    const uint8_t *octets, *card;
-    size_t card_length;
+    const uint8_t *octets, *card, *sheet;
+    size_t card_length, sheet_length;
     void *state; /* MCS_STATE_OCTETS octets, or a ref_state */
     uint8_t *out;
-    uint32_t *counts, *word, *served;
+    uint32_t *counts, *word, *served, *starts, *line; /* word: the length of a read, the count of a cue sheet */
     uint32_t number;
 } lent_buffers;
 

@@ -1,4 +1,4 @@
-/* The cases and the bounds of document 01, on both programs. */
+/* The cases of document 01 and the bounds of both documents, on both programs. */
 #ifndef CASES_H
 #define CASES_H
 
@@ -6,7 +6,7 @@
 
 #include <stdio.h>
 
-/* Each prints what differs between the programs or from the document, and returns how many did. */
+/* Each prints what differs between the programs or from the documents, and returns how many did. */
 unsigned long play_cases(FILE *out, run *r);
 unsigned long play_limits(FILE *out, run *r);
 

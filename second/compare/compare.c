@@ -1,6 +1,6 @@
 /* Compares the proved library with the second program, call by call.
  *
- *   compare CALLS [SEED]        the cases of document 01, then random trials until at least CALLS calls are made
+ *   compare CALLS [SEED]        the cases of the documents, then random trials until at least CALLS calls are made
  *   compare --trial SEED NUMBER one trial
  *   compare --office            a script from standard input on both; the library's lines on standard output
  *
@@ -89,14 +89,14 @@ static int compare_random(uint64_t calls, uint64_t seed)
 static int compare_cases(void)
 {
     unsigned long wrong;
-    strcpy(what_runs, "the cases of document 01");
+    strcpy(what_runs, "the cases of the documents");
     wind_the_watch();
     wrong = play_cases(stdout, &pair);
     wrong += play_limits(stdout, &pair);
     strcpy(what_runs, "lengths of more than 32 bits");
     wrong += play_wide_lengths(stdout);
     if (wrong == 0) {
-        printf("compare: the cases of document 01 agree\n");
+        printf("compare: the cases of the documents agree\n");
     }
     return wrong == 0 ? 0 : 1;
 }

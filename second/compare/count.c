@@ -1,7 +1,9 @@
 #include "count.h"
 #include "calls.h"
 
-#define NUMBERS 256u /* the greatest is 212; what is beyond is counted as 255 */
+#include <string.h>
+
+#define NUMBERS 256u /* the greatest is 228; what is beyond is counted as 255 */
 #define OPCODES 22u  /* the last stands for every unknown one */
 
 static unsigned long by_number[CALLS][NUMBERS], by_share[SHARES], by_media[4], by_order[9], by_result[OPCODES][5],
@@ -13,9 +15,10 @@ static const char *const SHARE_NAME[SHARES] = {"histories",
                                                "any octets as a state",
                                                "damaged catalogues",
                                                "any words as a catalogue",
-                                               "cards"};
+                                               "cards",
+                                               "cue sheets"};
 
-/* The rows of document 01's table that can apply, in its order; 0, accepted, ends each list. */
+/* The rows of document 01's table that can apply, of a cue sheet document 02's, in their order; 0, accepted, ends each list. */
 static const uint8_t ROWS[CALLS][12] = {
     [START] = {200, 207, 0},
     [SET_NAME] = {200, 201, 207, 0},
@@ -30,6 +33,7 @@ static const uint8_t ROWS[CALLS][12] = {
     [WRITE] = {200, 201, 202, 203, 0x01, 0x03, 0x0F, 0x0D, 0x13, 0x11, 0},
     [TAKE] = {200, 205, 201, 0},
     [CARD_LOAD] = {210, 211, 212, 0},
+    [CUE_SHEET] = {225, 226, 227, 228, 0},
 };
 
 static const uint8_t OPCODE[OPCODES - 1u] = {0x01, 0x02, 0x03, 0x04, 0x05, 0x10, 0x20, 0x21, 0x22, 0x23, 0x24,
@@ -87,11 +91,82 @@ static void count_accepted(const run *r, const step *s)
             }
         }
     }
-    if (s->kind != CARD_LOAD) {
+    if (has_state(s)) {
         by_media[r->second.media & 3u]++;
         by_order[r->second.order % 9u]++;
         by_rung[(uint8_t)r->second.seeking]++;
     }
+}
+
+/* ---- Cue sheets: what would have come next, so that the order of the refusals is seen to matter; and those at a bound */
+
+enum { NO_STARTS, NO_ROOM_LEFT, LONGEST, ONE_TOO_LONG, BOUNDS };
+static const char *const BOUND_NAME[BOUNDS] = {"accepted without starts", "accepted with no room left",
+                                               "accepted with 65,536 octets", "refused with 65,537 octets"};
+static const uint8_t NEXT[4] = {0, MCS_BAD_LINE, MCS_NOT_RISING, MCS_MANY_STARTS};
+static unsigned long by_next[3][4], by_bound[BOUNDS]; /* by 225, 226, 227 */
+
+/* The number of the sheet without what it was refused for: cut to the limit, or with an empty line in that one's place. */
+static uint32_t next_number(const run *r, const step *s)
+{
+    static sheet rest;
+    static uint32_t starts[STARTS_ROOM];
+    uint32_t count, line;
+    rest.length = r->lent_sheet.length;
+    memcpy(rest.octets, r->lent_sheet.octets, rest.length);
+    if (r->second_said.number == MCS_LONG_SHEET) {
+        rest.length = MCS_SHEET_OCTETS;
+    } else {
+        blank_line(&rest, r->second_said.line);
+    }
+    return ref_cue_sheet(rest.octets, rest.length, starts, s->room[0], &count, &line);
+}
+
+static void count_sheet(const run *r, const step *s)
+{
+    const answer *a = &r->second_said;
+    uint32_t octets = r->lent_sheet.length;
+    by_bound[NO_STARTS] += a->number == 0 && a->length == 0;
+    by_bound[NO_ROOM_LEFT] += a->number == 0 && a->length > 0 && a->length == s->room[0];
+    by_bound[LONGEST] += a->number == 0 && octets == MCS_SHEET_OCTETS;
+    by_bound[ONE_TOO_LONG] += a->number == MCS_LONG_SHEET && octets == MCS_SHEET_OCTETS + 1u;
+    if (a->number >= MCS_LONG_SHEET && a->number <= MCS_NOT_RISING) {
+        uint32_t next = next_number(r, s);
+        for (uint32_t k = 0; k < 4; k++) {
+            by_next[a->number - MCS_LONG_SHEET][k] += next == NEXT[k];
+        }
+    }
+}
+
+static void print_sheets(FILE *out)
+{
+    fprintf(out, "cue sheets by number and by what would have come next: accepted, 226, 227, 228\n");
+    for (uint32_t k = 0; k < 3; k++) {
+        fprintf(out, "  %u      %8lu %8lu %8lu %8lu\n", (unsigned)(MCS_LONG_SHEET + k), by_next[k][0], by_next[k][1],
+                by_next[k][2], by_next[k][3]);
+    }
+    for (uint32_t k = 0; k < BOUNDS; k++) {
+        fprintf(out, "  %-27s %lu\n", BOUND_NAME[k], by_bound[k]);
+    }
+}
+
+static int sheets_are_right(FILE *out)
+{
+    int right = 1;
+    for (uint32_t k = 0; k < 12; k++) {
+        if (by_next[k / 4u][k % 4u] == 0) {
+            fprintf(out, "compare: never happened: a cue sheet with %u, and then %u\n", (unsigned)(MCS_LONG_SHEET + k / 4u),
+                    (unsigned)NEXT[k % 4u]);
+            right = 0;
+        }
+    }
+    for (uint32_t k = 0; k < BOUNDS; k++) {
+        if (by_bound[k] == 0) {
+            fprintf(out, "compare: never happened: a cue sheet %s\n", BOUND_NAME[k]);
+            right = 0;
+        }
+    }
+    return right;
 }
 
 void count_call(const run *r, const step *s, uint32_t share)
@@ -102,6 +177,9 @@ void count_call(const run *r, const step *s, uint32_t share)
     by_number[s->kind][number < NUMBERS ? number : NUMBERS - 1u]++;
     if (number == 0) {
         count_accepted(r, s);
+    }
+    if (s->kind == CUE_SHEET) {
+        count_sheet(r, s);
     }
 }
 
@@ -134,7 +212,7 @@ static const uint32_t WRITABLE[4] = {7, 8, 15, 18};
 
 void print_counts(FILE *out)
 {
-    fprintf(out, "calls by where the state and the catalogue came from\n");
+    fprintf(out, "calls by where what they are lent came from\n");
     for (uint32_t k = 0; k < SHARES; k++) {
         fprintf(out, "  %-26s %lu\n", SHARE_NAME[k], by_share[k]);
     }
@@ -180,6 +258,7 @@ void print_counts(FILE *out)
     print_row(out, "reads at 0 by characteristic", READABLE, 11, read_whole);
     print_row(out, "reads above 0 by characteristic", READABLE, 11, read_on);
     print_row(out, "writes by characteristic", WRITABLE, 4, written);
+    print_sheets(out);
 }
 
 /* ---- What has to have happened */
@@ -272,6 +351,7 @@ int counts_are_right(FILE *out, int all)
         right &= list_is_met(out, "a read at 0 of characteristic", READABLE, 11, read_whole);
         right &= list_is_met(out, "a read above 0 of characteristic", READABLE, 11, read_on);
         right &= list_is_met(out, "a write of characteristic", WRITABLE, 4, written);
+        right &= sheets_are_right(out);
         for (uint32_t k = 0; k < SHARES; k++) {
             if (by_share[k] == 0) {
                 right = missing(out, SHARE_NAME[k], k);

@@ -7,7 +7,7 @@
 static struct {
     region table[2][TABLES]; /* by the page that they touch, so that a catalogue is laid down once and not at each call */
     region loaded[TABLES];   /* of a card load */
-    region state, octets, out, length, served, counts, card;
+    region state, octets, out, length, served, counts, card, sheet, starts, line;
 } guarded;
 
 void prepare_lending(void)
@@ -25,6 +25,9 @@ void prepare_lending(void)
     guarded.served = make_region(3 * sizeof(uint32_t));
     guarded.counts = make_region(4 * sizeof(uint32_t));
     guarded.card = make_region(CARD_ROOM);
+    guarded.sheet = make_region(SHEET_ROOM);
+    guarded.starts = make_region(STARTS_ROOM * sizeof(uint32_t));
+    guarded.line = make_region(sizeof(uint32_t));
 }
 
 void table_changed(run *r, uint32_t table) { r->stale[AGAINST_END][table] = r->stale[AGAINST_START][table] = 1; }
@@ -41,17 +44,27 @@ static void fill_answer(const step *s, answer *a)
     a->length = 0x01010101u * s->fill;
     a->served[0] = a->served[1] = a->served[2] = a->length + 1u;
     a->counts[0] = a->counts[1] = a->counts[2] = a->counts[3] = a->length + 2u;
+    a->line = a->length + 3u;
     for (uint32_t k = 0; has_output(s) && k < OUT_ROOM; k++) {
         a->out[k] = filled(s->fill, k);
     }
 }
 
+static uint32_t filled_word(const step *s, uint32_t at) { return (s->fill + at) * 0x9E3779B1u; }
+
 static void fill_loaded(run *r, const step *s)
 {
     for (uint32_t table = 0; table < TABLES; table++) {
         for (uint32_t k = 0; k < s->room[table]; k++) {
-            set_table_entry(&r->loaded, table, k, (s->fill + k) * 0x9E3779B1u);
+            set_table_entry(&r->loaded, table, k, filled_word(s, k));
         }
+    }
+}
+
+static void fill_starts(run *r, const step *s)
+{
+    for (uint32_t k = 0; k < s->room[0]; k++) {
+        r->starts[k] = filled_word(s, k);
     }
 }
 
@@ -68,6 +81,10 @@ void lend_to_second(run *r, const step *s, lent_buffers *l)
     l->octets = s->octets;
     l->card = r->lent_card.octets;
     l->card_length = r->lent_card.length;
+    l->sheet = r->lent_sheet.octets;
+    l->sheet_length = r->lent_sheet.length;
+    l->starts = r->starts;
+    l->line = &a->line;
     l->state = &r->second;
     l->out = a->out;
     l->word = &a->length;
@@ -76,6 +93,8 @@ void lend_to_second(run *r, const step *s, lent_buffers *l)
     fill_answer(s, a);
     if (s->kind == CARD_LOAD) {
         fill_loaded(r, s);
+    } else if (s->kind == CUE_SHEET) {
+        fill_starts(r, s);
     }
 }
 
@@ -115,18 +134,28 @@ static void lend_card(run *r, const step *s, lent_buffers *l)
     }
 }
 
+static void lend_sheet(run *r, const step *s, lent_buffers *l)
+{
+    l->sheet = guarded_copy(&guarded.sheet, s, r->lent_sheet.octets, r->lent_sheet.length);
+    l->sheet_length = r->lent_sheet.length;
+    l->starts = guarded_copy(&guarded.starts, s, r->starts, s->room[0] * sizeof r->starts[0]);
+}
+
 void lend_to_library(run *r, const step *s, lent_buffers *l)
 {
     const answer *a = &r->second_said;
     l->s = s;
     if (s->kind == CARD_LOAD) {
         lend_card(r, s, l);
+    } else if (s->kind == CUE_SHEET) {
+        lend_sheet(r, s, l);
     } else {
         lend_catalogue(r, s, l);
     }
     l->octets = guarded_copy(&guarded.octets, s, s->octets, s->length);
     l->state = guarded_copy(&guarded.state, s, r->octets, MCS_STATE_OCTETS);
     l->word = guarded_copy(&guarded.length, s, &a->length, sizeof a->length);
+    l->line = guarded_copy(&guarded.line, s, &a->line, sizeof a->line);
     l->served = guarded_copy(&guarded.served, s, a->served, sizeof a->served);
     l->counts = guarded_copy(&guarded.counts, s, a->counts, sizeof a->counts);
     l->out = has_output(s) ? guarded_copy(&guarded.out, s, a->out, s->room[0]) : NULL;

@@ -97,6 +97,22 @@ static int plain_octets(trial *t, run *r, uint32_t k)
     return changed;
 }
 
+/* Any octet may go, and one that has to stay may be a 0. */
+static int fewer_octets(trial *t, run *r, uint32_t k)
+{
+    int changed = 0;
+    for (uint32_t at = t->steps[k].length; at-- > 0 && k < t->count && time_is_left();) {
+        try_copy(t);
+        memmove(tried.steps[k].octets + at, tried.steps[k].octets + at + 1, t->steps[k].length - at - 1u);
+        tried.steps[k].length--;
+        changed |= holds(t, r);
+    }
+    for (uint32_t at = 0; k < t->count && at < t->steps[k].length; at++) {
+        changed |= with_octet(t, r, k, at, '0');
+    }
+    return changed;
+}
+
 int plainer_arguments(trial *t, run *r)
 {
     int changed = 0;
@@ -129,6 +145,13 @@ int plainer_arguments(trial *t, run *r)
             break;
         case POKE_STATE:
             changed |= smaller(t, r, k, LENGTH);
+            break;
+        case ADD_TEXT:
+            changed |= smaller(t, r, k, NUMBER);
+            changed |= fewer_octets(t, r, k);
+            break;
+        case CUE_SHEET:
+            changed |= smaller(t, r, k, ROOM);
             break;
         case CARD_LOAD:
         case KEEP:

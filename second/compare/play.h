@@ -45,6 +45,7 @@ void play_states(play *p);
 void play_catalogues(play *p);
 void play_any_tables(play *p);
 void play_cards(play *p);
+void play_sheets(play *p);
 
 /* What they share: a start that is accepted, with clients that connect and subscribe; a state of its own. */
 void start_and_open(play *p);

@@ -13,6 +13,23 @@ static void print_octets(FILE *out, const uint8_t *octets, uint32_t length)
     }
 }
 
+/* As a string of C. */
+static void print_text(FILE *out, const uint8_t *octets, uint32_t length)
+{
+    fprintf(out, " \"");
+    for (uint32_t k = 0; k < length; k++) {
+        uint8_t octet = octets[k];
+        if (octet == '\n' || octet == '\r' || octet == '\t') {
+            fprintf(out, "\\%c", octet == '\n' ? 'n' : octet == '\r' ? 'r' : 't');
+        } else if (octet < ' ' || octet > '~') {
+            fprintf(out, "\\%03o", (unsigned)octet);
+        } else {
+            fprintf(out, octet == '"' || octet == '\\' ? "\\%c" : "%c", octet);
+        }
+    }
+    fprintf(out, "\"");
+}
+
 static void print_call(FILE *out, const step *s)
 {
     fprintf(out, "%s", CALL_NAME[s->kind]);
@@ -49,6 +66,9 @@ static void print_call(FILE *out, const step *s)
     case CARD_LOAD:
         fprintf(out, " rooms %u %u %u %u", (unsigned)s->room[0], (unsigned)s->room[1], (unsigned)s->room[2],
                 (unsigned)s->room[3]);
+        break;
+    case CUE_SHEET:
+        fprintf(out, " room %u", (unsigned)s->room[0]);
         break;
     default:
         break;
@@ -120,6 +140,21 @@ static void print_step(FILE *out, const step *s)
     case MEND_BLOCK:
         fprintf(out, "block %u of the card gets its sums", (unsigned)s->number);
         break;
+    case NEW_SHEET:
+        fprintf(out, "the cue sheet is empty");
+        break;
+    case ADD_TEXT:
+        fprintf(out, "the cue sheet goes on, %u times,", (unsigned)s->number);
+        print_text(out, s->octets, s->length);
+        break;
+    case ADD_STARTS:
+        fprintf(out, "the cue sheet goes on with %u lines INDEX 01, from frame %u on, %u frames apart, each with the end",
+                (unsigned)s->number, (unsigned)s->who, (unsigned)s->what);
+        print_text(out, s->octets, s->length);
+        break;
+    case CUT_SHEET:
+        fprintf(out, "the cue sheet has at most %u octets", (unsigned)s->number);
+        break;
     case KEEP:
         fprintf(out, "state and catalogue are remembered");
         break;
@@ -140,6 +175,9 @@ static void print_answer(FILE *out, const step *s, const answer *a, int faulted)
         return;
     }
     fprintf(out, a->number >= 200 || a->number == 0 ? "%u" : "0x%02X", (unsigned)a->number);
+    if (s->kind == CUE_SHEET) {
+        fprintf(out, ", count %u, line %u", (unsigned)a->length, (unsigned)a->line);
+    }
     if (a->number != 0) {
         return;
     }

@@ -17,7 +17,7 @@ void lend_tables(run *r, const tables *t)
 void begin_run(run *r, const tables *t)
 {
     lend_tables(r, t);
-    r->lent_card.length = 0;
+    r->lent_card.length = r->lent_sheet.length = 0;
     memset(r->octets, 0, sizeof r->octets);
     state_of_octets(r->octets, &r->second);
     remember(r);
@@ -47,7 +47,7 @@ int loaded_what_is_lent(const run *r)
 /* What was lent to be read holds what it held. */
 static int inputs_stay(run *r, const step *s, const lent_buffers *l)
 {
-    for (uint32_t table = 0; s->kind != CARD_LOAD && table < TABLES; table++) {
+    for (uint32_t table = 0; has_state(s) && table < TABLES; table++) {
         if (!same_octets(l->table[table], table_octets(&r->lent, table), lent_octets(r, table))) {
             table_changed(r, table);
             return differs(r, "the library wrote into the catalogue");
@@ -59,6 +59,9 @@ static int inputs_stay(run *r, const step *s, const lent_buffers *l)
     if (s->kind == CARD_LOAD && !same_octets(l->card, r->lent_card.octets, r->lent_card.length)) {
         return differs(r, "the library wrote into the card");
     }
+    if (s->kind == CUE_SHEET && !same_octets(l->sheet, r->lent_sheet.octets, r->lent_sheet.length)) {
+        return differs(r, "the library wrote into the cue sheet");
+    }
     return 1;
 }
 
@@ -69,7 +72,10 @@ static int same_answers(run *r, const step *s, const lent_buffers *l)
         return differs(r, "the numbers differ");
     }
     if (a->length != b->length) {
-        return differs(r, "the lengths of a read differ");
+        return differs(r, s->kind == CUE_SHEET ? "the counts differ" : "the lengths of a read differ");
+    }
+    if (a->line != b->line) {
+        return differs(r, "the lines differ");
     }
     if (!same_octets(a->served, b->served, sizeof a->served)) {
         return differs(r, "what a take served differs");
@@ -85,6 +91,9 @@ static int same_answers(run *r, const step *s, const lent_buffers *l)
         if (!same_octets(l->loaded[table], table_octets(&r->loaded, table), octets)) {
             return differs(r, "a loaded table differs");
         }
+    }
+    if (s->kind == CUE_SHEET && !same_octets(l->starts, r->starts, s->room[0] * sizeof r->starts[0])) {
+        return differs(r, "the starts differ");
     }
     return 1;
 }
@@ -117,6 +126,7 @@ static void collect(run *r, const step *s, const lent_buffers *l)
     answer *a = &r->library_said;
     a->number = l->number;
     a->length = *l->word;
+    a->line = *l->line;
     memcpy(a->served, l->served, sizeof a->served);
     memcpy(a->counts, l->counts, sizeof a->counts);
     for (uint32_t k = 0; has_output(s) && k < OUT_ROOM; k++) {
@@ -147,9 +157,7 @@ static int do_call(run *r, const step *s)
     if (!inputs_stay(r, s, &library) || !same_answers(r, s, &library)) {
         return 0;
     }
-    /* A card load has no state. */
-    return r->library_said.number != 0 || s->kind == CARD_LOAD ? states_stay(r, octets_before, &second_before)
-                                                               : same_states(r);
+    return r->library_said.number != 0 || !has_state(s) ? states_stay(r, octets_before, &second_before) : same_states(r);
 }
 
 int do_step(run *r, const step *s)

@@ -3,6 +3,7 @@
 #define RUN_H
 
 #include "card.h"
+#include "sheet.h"
 #include "state.h"
 #include "step.h"
 
@@ -11,9 +12,10 @@
 
 typedef struct {
     uint32_t number;
-    uint32_t length;       /* of a read */
+    uint32_t length;       /* of a read; the count of a cue sheet */
     uint32_t served[3];    /* of a take */
     uint32_t counts[4];    /* of a card load */
+    uint32_t line;         /* of a cue sheet */
     uint8_t out[OUT_ROOM]; /* of a read or a take; behind what was lent it stays as it was filled */
 } answer;
 
@@ -26,6 +28,7 @@ typedef struct {
 typedef struct {
     tables lent;
     card lent_card;
+    sheet lent_sheet;
     uint8_t octets[MCS_STATE_OCTETS]; /* the library's state */
     ref_state second;                 /* the second program's */
     uint8_t kept_octets[MCS_STATE_OCTETS];
@@ -34,12 +37,13 @@ typedef struct {
     uint32_t undos;
     int stale[2][TABLES]; /* the guarded copy of a table is not what is lent */
     tables loaded;        /* by the second program's last card load */
+    uint32_t starts[STARTS_ROOM]; /* by its last cue sheet */
     int library_faulted, second_faulted;
     answer library_said, second_said;
     char difference[256]; /* empty while there is none */
 } run;
 
-/* Both begin with this catalogue, a state of 0 octets and no card. There is one run at a time. */
+/* Both begin with this catalogue, a state of 0 octets, no card and no cue sheet. There is one run at a time. */
 void begin_run(run *r, const tables *t);
 
 /* From now on this catalogue is lent; the states stay. */

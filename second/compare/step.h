@@ -1,11 +1,11 @@
-/* What a trial is made of: calls, and what is done to state, catalogue and card between them. */
+/* What a trial is made of: calls, and what is done to state, catalogue, card and cue sheet between them. */
 #ifndef STEP_H
 #define STEP_H
 
 #include "mcs.h"
 
 enum {
-    /* the thirteen calls */
+    /* the fourteen calls */
     START,
     SET_NAME,
     ACTIVATE,
@@ -19,6 +19,7 @@ enum {
     WRITE,
     TAKE,
     CARD_LOAD,
+    CUE_SHEET,
     CALLS,
     /* between calls */
     SET_STATE = CALLS, /* the state's octets are `octets` */
@@ -30,6 +31,10 @@ enum {
     CARD_LENGTH,       /* the card is lent with `number` octets */
     SWAP_BLOCKS,       /* the blocks `who` and `what` change places, and are numbered anew */
     MEND_BLOCK,        /* block `number` gets the sums that its octets have */
+    NEW_SHEET,         /* the cue sheet is empty */
+    ADD_TEXT,          /* `octets` come behind it, `number` times */
+    ADD_STARTS,        /* `number` lines of starts, from frame `who` on and `what` frames apart, each ending in `octets` */
+    CUT_SHEET,         /* it is lent with at most `number` octets */
     KEEP,              /* state and catalogue are remembered */
     PUT_BACK           /* and are again as they were */
 };
@@ -42,11 +47,14 @@ typedef struct {
     uint32_t who;                     /* client */
     uint32_t what;                    /* characteristic; of start the Content Control ID, of connect whether encrypted */
     uint32_t number;                  /* mask, group, hundredths, ATT_MTU, offset */
-    uint32_t room[4];                 /* of the output of a read or a take; of the tables of a card load, in entries */
+    uint32_t room[4];                 /* of the output of a read or a take; in entries of a card load's tables, of starts */
     uint32_t length;                  /* of octets */
-    uint8_t octets[MCS_STATE_OCTETS]; /* name or value */
+    uint8_t octets[MCS_STATE_OCTETS]; /* name, value or text */
 } step;
 
 static inline int is_call(const step *s) { return s->kind < CALLS; }
+
+/* A card load and a cue sheet are lent neither a state nor a catalogue. */
+static inline int has_state(const step *s) { return s->kind < CARD_LOAD; }
 
 #endif

@@ -2,6 +2,8 @@
 #include "guard.h"
 #include "play.h"
 
+#include <string.h>
+
 int replay_trial(trial *t, run *r)
 {
     wind_the_watch();
@@ -18,9 +20,10 @@ int replay_trial(trial *t, run *r)
 int play_trial(uint64_t seed, uint64_t number, trial *t, run *r, int *unshrinkable)
 {
     /* Trials are of very different lengths; these weights give the shares of calls that the counts print. */
-    enum { ANY_TABLES = 3 };
-    static const uint32_t WEIGHT[5] = {12, 12, 14, 30, 50};
-    static void (*const PLAYS[5])(play *) = {play_history, play_states, play_catalogues, play_any_tables, play_cards};
+    enum { ANY_TABLES = 3, SHEETS = 5, KINDS = 6 };
+    static const uint32_t WEIGHT[KINDS] = {12, 12, 14, 30, 50, 11};
+    static void (*const PLAYS[KINDS])(play *) = {play_history,    play_states, play_catalogues,
+                                                 play_any_tables, play_cards,  play_sheets};
     play p;
     uint32_t at, kind = 0;
     p.d = dice_of(seed, number);
@@ -29,13 +32,15 @@ int play_trial(uint64_t seed, uint64_t number, trial *t, run *r, int *unshrinkab
     p.share = FROM_HISTORY;
     p.going = 1;
     p.differed = p.unshrinkable = 0;
-    at = below(&p.d, WEIGHT[0] + WEIGHT[1] + WEIGHT[2] + WEIGHT[3] + WEIGHT[4]);
+    at = below(&p.d, WEIGHT[0] + WEIGHT[1] + WEIGHT[2] + WEIGHT[3] + WEIGHT[4] + WEIGHT[5]);
     while (at >= WEIGHT[kind]) {
         at -= WEIGHT[kind++];
     }
     t->count = 0;
     if (kind == ANY_TABLES) {
         random_tables(&p.d, &t->catalogue);
+    } else if (kind == SHEETS) {
+        memset(&t->catalogue, 0, sizeof t->catalogue); /* a cue sheet has none */
     } else {
         random_catalogue(&p.d, &t->catalogue);
     }

@@ -106,6 +106,18 @@ static void wide_cards(void)
     wide_card("a card", TABLES, space, MORE + made.length, MCS_BAD_CARD_LENGTH);
 }
 
+static void wide_sheets(void)
+{
+    static const uint8_t LINE[18] = "INDEX 01 00:00:00";
+    uint32_t starts[2], count[2] = {2, 2}, line[2];
+    expect("the room of starts", mcs_cue_sheet(LINE, 17, (uint32_t *)(void *)space, MORE, &count[0], &line[0]),
+           ref_cue_sheet(LINE, 17, (uint32_t *)(void *)space, MORE, &count[1], &line[1]), 0);
+    expect("the count in a room", count[0], count[1], 1);
+    memcpy(space, LINE, 17);
+    expect("a cue sheet", mcs_cue_sheet(space, MORE + 17, starts, 2, &count[0], &line[0]),
+           ref_cue_sheet(space, MORE + 17, starts, 2, &count[1], &line[1]), MCS_LONG_SHEET);
+}
+
 unsigned long play_wide_lengths(FILE *out)
 {
     size_t all = (MORE + 65536u) * sizeof(uint32_t);
@@ -124,6 +136,7 @@ unsigned long play_wide_lengths(FILE *out)
     wide_table("text", TEXT);
     wide_octets();
     wide_cards();
+    wide_sheets();
     munmap(space, all);
     return wrong;
 }

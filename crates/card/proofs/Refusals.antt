@@ -5,12 +5,12 @@ use mathlib.Core.List.{List}
 use mathlib.Core.Logic.{_⊎_, inl, inr}
 use Prim.Native.Nat.{ℕ}
 use contract.Lifetimes.{Lfts}
-use borrow.Author.Tests.{ne-eqb}
 use denote.Ref.{RefT}
-use Rattle.ground.specs.Cases.{Said, granted, refuseIf}
+use Rattle.ground.specs.Cases.{granted, refuseIf}
 use Rattle.ground.specs.Words.{words}
+use Rattle.ground.proofs.Settled.{table-kept}
 use Rattle.card.specs.Card.{lengthRule, blocksOf, blocksRule, gather, octets}
-use Rattle.card.specs.Load.{saidOf, roomRule, loadSaid, tableAfter}
+use Rattle.card.specs.Load.{saidOf, roomRule, loadSaid}
 use Rattle.card.proofs.Outcome.{Outcome, Meets}
 
 -- the numbers of card load
@@ -29,18 +29,14 @@ unfolding loadSaid
 load-numbers card groups tracks segments text =
     number-by (lengthRule card) (blocksRule 0 1 (blocksOf card)) (roomRule (blocksOf card) groups tracks segments text) _
 
--- a table after a refusal
-kept : (said : Said) (front old t : List ℕ) → (said .number ≡ 0 → ⊥) → t ≡ tableAfter said front old → t ≡ old
-kept said front old t h p = rw (ne-eqb _ _ h) at p
-
 pub load-keeps : (κs : Lfts 5) (card groups tracks segments text : RefT (List ℕ)) (o : Outcome)
     → Meets κs card groups tracks segments text o → (saidOf (o .answer) .number ≡ 0 → ⊥)
     → (o .groups ≡ groups .now) × (o .tracks ≡ tracks .now) × (o .segments ≡ segments .now) × (o .text ≡ text .now)
 load-keeps κs card groups tracks segments text o p h =
     let said = saidOf (o .answer) in
     let bs = blocksOf (card .now) in (
-      kept said (gather words 1 bs) (groups .now) (o .groups) h (p .1 .0),
-      kept said (gather words 2 bs) (tracks .now) (o .tracks) h (p .1 .1 .0),
-      kept said (gather words 3 bs) (segments .now) (o .segments) h (p .1 .1 .1 .0),
-      kept said (gather octets 4 bs) (text .now) (o .text) h (p .1 .1 .1 .1),
+      table-kept said (gather words 1 bs) (groups .now) (o .groups) h (p .1 .0),
+      table-kept said (gather words 2 bs) (tracks .now) (o .tracks) h (p .1 .1 .0),
+      table-kept said (gather words 3 bs) (segments .now) (o .segments) h (p .1 .1 .1 .0),
+      table-kept said (gather octets 4 bs) (text .now) (o .text) h (p .1 .1 .1 .1),
     )

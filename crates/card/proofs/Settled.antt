@@ -8,10 +8,11 @@ use lib.Dec.{eqb}
 use lib.ListN.{getD}
 use Rattle.ground.specs.Cases.{pick, Said}
 use Rattle.ground.specs.Words.{words}
+use Rattle.ground.proofs.Settled.{table-settled}
 use Rattle.card.specs.declared.Loaded.{Loaded}
 use Rattle.card.specs.declared.Loaded.the-variants.{Done, BadLength, BadBlock, NoRoom}
 use Rattle.card.specs.Card.{blocksOf, gather, octets}
-use Rattle.card.specs.Load.{saidOf, tableAfter}
+use Rattle.card.specs.Load.{saidOf}
 use Rattle.card.proofs.Outcome.{Outcome, Meets}
 
 -- the answer, back from what it says
@@ -32,9 +33,6 @@ loaded-said NoRoom = refl
 -- answers that say the same are the same
 pub said-settles : (r₁ r₂ : Loaded) → saidOf r₁ ≡ saidOf r₂ → r₁ ≡ r₂
 said-settles r₁ r₂ e = sym (loaded-said r₁) ∙ ap loadedOf e ∙ loaded-said r₂
-
-table-settled : (said₁ said₂ : Said) (front old t₁ t₂ : List ℕ) → said₁ ≡ said₂ → t₁ ≡ tableAfter said₁ front old → t₂ ≡ tableAfter said₂ front old → t₁ ≡ t₂
-table-settled said₁ said₂ front old t₁ t₂ e p q = p ∙ ap (λ (said : Said). tableAfter said front old) e ∙ sym q
 
 pub load-settled : (κs : Lfts 5) (card groups tracks segments text : RefT (List ℕ)) (o₁ o₂ : Outcome)
     → Meets κs card groups tracks segments text o₁ → Meets κs card groups tracks segments text o₂ → o₁ ≡ o₂

@@ -6,7 +6,6 @@ use Prim.Native.Nat.{ℕ, _/_}
 use lib.Dec.{eqb, leb}
 use Rattle.ground.specs.Cases.{pick, Said, granted, refused, refuseIf}
 use Rattle.ground.specs.Limits.{mostGroups, mostTracks, mostSegments, mostText, groupWords, trackWords}
-use Rattle.ground.specs.Lists.{filled}
 use Rattle.card.specs.Card.{lengthRule, blocksRule, blocksOf, recordCount}
 use Rattle.card.specs.declared.Loaded.{Loaded}
 use Rattle.card.specs.declared.Loaded.the-variants.{Done, BadLength, BadBlock, NoRoom}
@@ -37,7 +36,3 @@ loadSaid card groups tracks segments text =
     (refuseIf (not (blocksRule 0 1 (blocksOf card))) 211
     (refuseIf (not (roomRule (blocksOf card) groups tracks segments text)) 212
     (granted (recordCount 1 (blocksOf card) ∷ recordCount 2 (blocksOf card) ∷ recordCount 3 (blocksOf card) ∷ recordCount 4 (blocksOf card) ∷ []))))
-
--- a lent table afterwards: "on success fills the front of each table"; a refusal alters nothing
-abbrev pub tableAfter : Said → List ℕ → List ℕ → List ℕ
-tableAfter said front old = pick (eqb (said .number) 0) (filled front old) old

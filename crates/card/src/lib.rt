@@ -3,10 +3,10 @@ ghost use mathlib.Core.Path.{_≡_};
 ghost use Prim.Native.Nat.{_+_, _*_, _≤_};
 ghost use lib.ListN.{length, drop};
 ghost use lib.Seq.{paste};
-ghost use Rattle.ground.specs.Lists.{filled};
+ghost use Rattle.ground.specs.Lists.{filled, tableAfter};
 ghost use Rattle.ground.specs.Words.{words};
 ghost use Rattle.card.specs.Card.{blocks, blocksOf, blocksRule, recordCount, gather, octets, CountsFit};
-ghost use Rattle.card.specs.Load.{fits, saidOf, loadSaid, tableAfter};
+ghost use Rattle.card.specs.Load.{fits, saidOf, loadSaid};
 
 // How many records of each kind were loaded.
 pub struct Counts {

@@ -4,3 +4,4 @@ pub mod Settled
 pub mod Bounded
 pub mod Words
 pub mod Sweep
+pub mod Filling

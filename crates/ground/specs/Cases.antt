@@ -18,7 +18,7 @@ within low high x = leb low x && leb x high
 unfoldable pub has : ℕ → ℕ → Bool
 has w s = eqb (w / 2 ^ s % 2) 1
 
--- What a call says in document 01's terms: 0 and its values, or the number of a refusal, which stands alone.
+-- What a call says in document 01's terms: 0 and its values, or the number of a refusal and what it carries; a number that carries nothing stands alone.
 pub record Said : Type 0 where
   pub number : ℕ
   pub values : List ℕ
@@ -26,8 +26,11 @@ pub record Said : Type 0 where
 abbrev pub granted : List ℕ → Said
 granted values = record { number = 0; values = values }
 
+abbrev pub refusedWith : ℕ → List ℕ → Said
+refusedWith number values = record { number = number; values = values }
+
 abbrev pub refused : ℕ → Said
-refused number = record { number = number; values = [] }
+refused number = refusedWith number []
 
 -- "Several at once: the first in the table": where the row applies its number is said, else what stands behind it.
 abbrev pub refuseIf : Bool → ℕ → Said → Said

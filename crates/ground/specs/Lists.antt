@@ -3,8 +3,9 @@
 use mathlib.Core.Bool.{Bool, true, _&&_}
 use mathlib.Core.List.{List, [], _∷_, _++_}
 use Prim.Native.Nat.{ℕ, zero, suc, _+_, _-_}
+use lib.Dec.{eqb}
 use lib.ListN.{length, take, drop}
-use Rattle.ground.specs.Cases.{pick}
+use Rattle.ground.specs.Cases.{pick, Said}
 
 -- the elements from the place a up to the place e
 abbrev pub part : {A : Type 0} → List A → ℕ → ℕ → List A
@@ -13,6 +14,10 @@ part s a e = take (e - a) (drop a s)
 -- a table whose front is filled; the rest stays
 abbrev pub filled : {A : Type 0} → List A → List A → List A
 filled front old = front ++ drop (length front) old
+
+-- a lent table afterwards: "on success fills the front of each table"; a refusal alters nothing
+abbrev pub tableAfter : Said → List ℕ → List ℕ → List ℕ
+tableAfter said front old = pick (eqb (said .number) 0) (filled front old) old
 
 -- each element by f, which is told its place, from the place i on
 abbrev pub mapFrom : {A : Type 0} → (ℕ → A → A) → ℕ → List A → List A

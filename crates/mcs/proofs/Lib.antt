@@ -1,4 +1,5 @@
 -- The laws that belong to no one function.
 pub mod Leaving
 pub mod Short
+pub mod Carried
 pub mod Settled

@@ -7,6 +7,7 @@ use contract.Lifetimes.{Lfts}
 use denote.Ref.{RefT, at-last}
 use Rattle.mcs.proofs.Leaving.{leaves-settled}
 use Rattle.mcs.proofs.mcs_card_load.Reads as card-load
+use Rattle.mcs.proofs.mcs_cue_sheet.Reads as cue-sheet
 use Rattle.mcs.proofs.mcs_start.Reads as start
 use Rattle.mcs.proofs.mcs_set_name.Reads as set-name
 use Rattle.mcs.proofs.mcs_activate.Reads as activate
@@ -91,4 +92,21 @@ module _ (κs : Lfts 6) (card groups tracks segments text counts : RefT (List �
     p .1 .1 .1 .0 ∙ sym (q .1 .1 .1 .0),
     p .1 .1 .1 .1 .0 ∙ sym (q .1 .1 .1 .1 .0),
     p .1 .1 .1 .1 .1 ∙ sym (q .1 .1 .1 .1 .1),
+  )
+
+-- a cue sheet's starts, its count and its line
+module _ (κs : Lfts 4) (sheet starts count line : RefT (List ℕ)) where
+  -- what is lent, with other contents
+  abbrev cued : List ℕ → List ℕ → List ℕ → RefT (List ℕ) × (RefT (List ℕ) × (RefT (List ℕ) × (RefT (List ℕ) × Unit {0})))
+  cued s c l = (sheet, (at-last starts s, (at-last count c, (at-last line l, tt))))
+
+  pub cue-sheet-settled : (n₁ n₂ : ℕ) (s₁ s₂ c₁ c₂ l₁ l₂ : List ℕ)
+      → cue-sheet.Post κs (sheet, (starts, (count, (line, tt)))) n₁ (cued s₁ c₁ l₁)
+      → cue-sheet.Post κs (sheet, (starts, (count, (line, tt)))) n₂ (cued s₂ c₂ l₂)
+      → (n₁ ≡ n₂) × (s₁ ≡ s₂) × (c₁ ≡ c₂) × (l₁ ≡ l₂)
+  cue-sheet-settled n₁ n₂ s₁ s₂ c₁ c₂ l₁ l₂ p q = (
+    p .0 ∙ sym (q .0),
+    p .1 .0 ∙ sym (q .1 .0),
+    p .1 .1 .0 ∙ sym (q .1 .1 .0),
+    p .1 .1 .1 ∙ sym (q .1 .1 .1),
   )

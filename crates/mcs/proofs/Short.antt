@@ -39,17 +39,19 @@ at-word [] i h = lit≤ tt
 at-word (x ∷ xs) zero h = h .0
 at-word (x ∷ xs) (suc i) h = at-word xs i (h .1)
 
-low : (n : ℕ) → n < 4294967296 → lowWord n ≡ n
+pub low : (n : ℕ) → n < 4294967296 → lowWord n ≡ n
 low n h = omega arith
 
 -- what is told is what is said
-pub told-as-said : (said : Said) (old : List ℕ) → AllWords (said .values) → toldAfter (toldOf said .number) (toldOf said .values) old ≡ wordsAfter said old
-told-as-said said old h =
+pub told-by-places : (said : Said) (old : List ℕ) → ((i : ℕ) → getD (said .values) i 0 < 4294967296)
+    → toldAfter (toldOf said .number) (toldOf said .values) old ≡ wordsAfter said old
+told-by-places said old h =
     let v : List ℕ = said .values in
     λ k.
-    toldAfter (said .number)
-    (low (getD v 0 0) (at-word v 0 h) k ∷ low (getD v 1 0) (at-word v 1 h) k ∷ low (getD v 2 0) (at-word v 2 h) k ∷ low (getD v 3 0) (at-word v 3 h) k ∷ [])
-    old
+    toldAfter (said .number) (low (getD v 0 0) (h 0) k ∷ low (getD v 1 0) (h 1) k ∷ low (getD v 2 0) (h 2) k ∷ low (getD v 3 0) (h 3) k ∷ []) old
+
+pub told-as-said : (said : Said) (old : List ℕ) → AllWords (said .values) → toldAfter (toldOf said .number) (toldOf said .values) old ≡ wordsAfter said old
+told-as-said said old h = told-by-places said old (λ i. at-word (said .values) i h)
 
 -- a refusal says no value, so only the work is asked
 behind-refusal : (t : Bool) (n : ℕ) (behind : Said) → (t ≡ false → AllWords (behind .values)) → AllWords (refuseIf t n behind .values)

@@ -6,6 +6,7 @@ use Prim.Native.Nat.{ℕ, _%_}
 use lib.Dec.{eqb}
 use lib.ListN.{length, take, drop, getD}
 use Rattle.ground.specs.Cases.{pick, Said}
+use Rattle.ground.specs.Lists.{filled}
 use Rattle.admission.specs.Refusals.{Left}
 use Rattle.desk.specs.declared.Desk.{Desk}
 use Rattle.codec.specs.Codec.{deskOf, deskOctets}
@@ -32,6 +33,10 @@ toldAfter number values old = pick (eqb number 0) (take (length old) values) old
 abbrev pub wordsAfter : Said → List ℕ → List ℕ
 wordsAfter said old =
     toldAfter (said .number) (getD (said .values) 0 0 ∷ getD (said .values) 1 0 ∷ getD (said .values) 2 0 ∷ getD (said .values) 3 0 ∷ []) old
+
+-- words afterwards that a refusal has for what it carries: as they were where it carries nothing, and where the call is accepted
+abbrev pub carriedAfter : Said → List ℕ → List ℕ
+carriedAfter said old = pick (eqb (said .number) 0) old (filled (said .values) old)
 
 -- the octets of the next state, or as they were
 abbrev pub stateAfter : Left Desk → List ℕ → List ℕ

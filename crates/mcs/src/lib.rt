@@ -6,18 +6,21 @@ ghost use Prim.Native.Nat.{_≤_};
 ghost use lib.ListN.{length as len};
 ghost use Rattle.tables.specs.Tables.{tables};
 ghost use Rattle.replies.specs.Replies.{saidOf, leftBy, outputAfter};
+ghost use Rattle.ground.specs.Lists.{tableAfter};
 ghost use Rattle.ground.specs.Words.{words};
 ghost use Rattle.card.specs.Card.{blocksOf, gather, octets};
-ghost use Rattle.card.specs.Load.{saidOf as loadSaidOf, loadSaid, tableAfter};
-ghost use Rattle.ground.specs.Cases.{refused as refusedBy, granted as grantedWith};
+ghost use Rattle.card.specs.Load.{saidOf as loadSaidOf, loadSaid};
+ghost use Rattle.ground.specs.Cases.{refused as refusedBy, refusedWith, granted as grantedWith};
+ghost use Rattle.cue.specs.Sheet.{saidOf as cueSaidOf, cueSaid, sheetLines, startsOf};
 ghost use Rattle.codec.specs.Codec.{flag, deskOf};
 ghost use Rattle.console.specs.Console.{startCall, nameCall, activateCall, deactivateCall, advanceCall};
 ghost use Rattle.clients.specs.Links.{connectCall, disconnectCall, subscribeCall, unsubscribeCall};
 ghost use Rattle.exchange.specs.Read.{readCall, readOctets};
 ghost use Rattle.exchange.specs.Write.{writeCall};
 ghost use Rattle.takes.specs.Take.{takeCall, takeOctets};
-ghost use Rattle.mcs.specs.Calls.{Leaves, toldOf, toldAfter, wordsAfter};
+ghost use Rattle.mcs.specs.Calls.{Leaves, toldOf, toldAfter, wordsAfter, carriedAfter};
 use card::Loaded;
+use cue::Cued;
 use replies::Answer;
 use replies::Outcome;
 
@@ -36,6 +39,16 @@ fn refused(number: u32) -> Told
     }
 }
 
+// A refusal that carries a value.
+fn refused_at(number: u32, value: usize) -> Told
+    ensures { λ r. ⌜ r ≡ toldOf (refusedWith number (value ∷ [])) ⌝ }
+{
+    Told {
+        number: number,
+        values: [(value % 4294967296) as u32, 0, 0, 0],
+    }
+}
+
 fn granted(first: usize, second: usize, third: usize, fourth: usize) -> Told
     ensures { λ r. ⌜ r ≡ toldOf (grantedWith (first ∷ second ∷ third ∷ fourth ∷ [])) ⌝ }
 {
@@ -50,7 +63,7 @@ fn granted(first: usize, second: usize, third: usize, fourth: usize) -> Told
     }
 }
 
-// What is told of an answer of the calls on the state, and of card load's.
+// What is told of an answer of the calls on the state, of card load's, and of cue sheet's.
 fn told_of(a: Answer) -> Told
     ensures { λ r. ⌜ r ≡ toldOf (saidOf a) ⌝ }
 {
@@ -95,6 +108,18 @@ fn told_of_load(l: Loaded) -> Told
         Loaded::BadLength => refused(210),
         Loaded::BadBlock => refused(211),
         Loaded::NoRoom => refused(212),
+    }
+}
+
+fn told_of_cue(c: Cued) -> Told
+    ensures { λ r. ⌜ r ≡ toldOf (cueSaidOf c) ⌝ }
+{
+    match c {
+        Cued::Done(count) => granted(count, 0, 0, 0),
+        Cued::TooLong => refused(225),
+        Cued::BadLine(line) => refused_at(226, line),
+        Cued::NotRising(line) => refused_at(227, line),
+        Cued::NoRoom => refused(228),
     }
 }
 
@@ -150,6 +175,30 @@ pub extern "C" fn mcs_card_load(
     let values = t.values;
     tell(t.number, values, counts);
     t.number
+}
+
+// Cue sheet.
+#[no_mangle]
+pub extern "C" fn mcs_cue_sheet(
+    sheet: &[u8],
+    starts: &mut [u32],
+    count: &mut [u32; 1],
+    line: &mut [u32; 1],
+) -> u32
+    ensures { λ r. ⌜ r ≡ (cueSaid (now (sheet .entry)) (len (now (starts .entry)))) .number ⌝ }
+    ensures { λ r. ⌜ now (starts .exit) ≡ tableAfter (cueSaid (now (sheet .entry)) (len (now (starts .entry)))) (startsOf (sheetLines (now (sheet .entry)))) (now (starts .entry)) ⌝ }
+    ensures { λ r. ⌜ now (count .exit) ≡ wordsAfter (cueSaid (now (sheet .entry)) (len (now (starts .entry)))) (now (count .entry)) ⌝ }
+    ensures { λ r. ⌜ now (line .exit) ≡ carriedAfter (cueSaid (now (sheet .entry)) (len (now (starts .entry)))) (now (line .entry)) ⌝ }
+{
+    let a = cue::read(sheet, starts);
+    let t = told_of_cue(a);
+    let values = t.values;
+    let number = t.number;
+    tell(number, values, count);
+    if (number == 226) | (number == 227) {
+        tell(0, values, line);
+    }
+    number
 }
 
 // Start.

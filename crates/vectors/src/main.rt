@@ -1,9 +1,10 @@
-// Runs card load, the catalogue check and the text check on framed cases from standard input, and writes a line for each.
-// A frame: an octet for the kind (1 card, 2 catalogue, 3 text), an octet for the length of the name, the name, the case.
+// Runs card load, the catalogue check, the text check and the reading of a cue sheet on framed cases from standard input, and writes a line for each.
+// A frame: an octet for the kind (1 card, 2 catalogue, 3 text, 4 cue sheet), an octet for the length of the name, the name, the case.
 ghost use Prim.Native.Nat.{_-_, _≤_};
 ghost use lib.ListN.{length};
 use card::Loaded;
 use catalogue::Catalogue;
+use cue::Cued;
 use text::Checked;
 
 fn at_most(n: usize, most: usize) -> usize
@@ -254,6 +255,51 @@ fn text_case(s: &[u8]) -> &[u8]
     rest(octets, len)
 }
 
+fn write_cued(answer: Cued) {
+    match answer {
+        Cued::Done(count) => {
+            write_number(count);
+        }
+        Cued::TooLong => {
+            write_number(225);
+        }
+        Cued::BadLine(line) => {
+            write_number(226);
+            write_number(line);
+        }
+        Cued::NotRising(line) => {
+            write_number(227);
+            write_number(line);
+        }
+        Cued::NoRoom => {
+            write_number(228);
+        }
+    }
+}
+
+fn read_sheet(sheet: &[u8], starts: &mut [u32]) {
+    prefill(starts);
+    write_cued(cue::read(sheet, starts));
+    write_sum_of_words(starts);
+}
+
+fn read_sheet_into(sheet: &[u8], room: usize) {
+    let mut table = [0u32; 4096];
+    let n = at_most(room, 4096);
+    read_sheet(sheet, &mut table[0..n]);
+}
+
+// The length of the sheet, the sheet, and the room for its starts in words.
+fn sheet_case(s: &[u8]) -> &[u8]
+    ensures { λ r. ⌜ length (now r) ≤ length (now (s .entry)) ⌝ }
+{
+    let len = number(s);
+    let sheet = rest(s, 4);
+    let room = rest(sheet, len);
+    read_sheet_into(front(sheet, len), number(room));
+    rest(room, 4)
+}
+
 // Runs the case of a kind, and hands back what follows it. Any other kind ends the input.
 fn case_of_kind(kind: u8, s: &[u8]) -> &[u8]
     ensures { λ r. ⌜ length (now r) ≤ length (now (s .entry)) ⌝ }
@@ -262,6 +308,7 @@ fn case_of_kind(kind: u8, s: &[u8]) -> &[u8]
         1 => card_case(s),
         2 => catalogue_case(s),
         3 => text_case(s),
+        4 => sheet_case(s),
         _ => rest(s, s.len()),
     }
 }

@@ -4,9 +4,10 @@ use mathlib.Core.List.{List}
 use Prim.Native.Nat.{ℕ}
 use lib.ListN.{length}
 use Rattle.ground.specs.Cases.{Said}
+use Rattle.ground.specs.Lists.{tableAfter}
 use Rattle.ground.specs.Words.{words}
 use Rattle.card.specs.Card.{blocksOf, gather, octets}
-use Rattle.card.specs.Load.{loadSaid, tableAfter}
+use Rattle.card.specs.Load.{loadSaid}
 use Rattle.mcs.specs.declared.Told.{Told}
 use Rattle.mcs.specs.Calls.{toldOf, toldAfter}
 use Rattle.mcs.proofs.Short.{load-words, told-as-said}

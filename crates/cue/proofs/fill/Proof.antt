@@ -1,0 +1,97 @@
+-- `cue::fill`: the loop's state is `Filling`.
+use mathlib.Core.Path.{_≡_, refl, sym, ap, _∙_}
+use mathlib.Core.List.{List, [], _∷_, _++_, map}
+use Prim.Native.Nat.{ℕ, _≤_, _+_, _-_}
+use native.Mathlib.Omega.{arith}
+use lib.ListN.{length}
+use lib.Seq.{take-length}
+use Rattle.ground.specs.Lists.{part}
+use Rattle.ground.proofs.Filling.{Filling, filling-starts, filling-ends, filling-room, filling-goes}
+use Rattle.cue.specs.Sheet.{lineOf, sheetLines, startsOf}
+use Rattle.cue.specs.Scan.{linesFrom}
+use Rattle.cue.proofs.Lines.{from-zero, from-beyond}
+use Rattle.cue.proofs.Meaning.{starts-split}
+use borrow.Author.Needs.{needs}
+use Rattle.cue.proofs.fill.Statement.{statement}
+use Rattle.cue.proofs.fill.Tie as tie
+
+abbrev Inv-loop : tie.InvT-loop
+Inv-loop sheet starts₀ at₀ n₀ starts at n = (at ≤ length sheet + 1) × Filling (startsOf (sheetLines sheet)) (startsOf (map lineOf (linesFrom sheet at))) starts₀ starts n
+
+abbrev μ-loop : tie.MeasureT-loop
+μ-loop sheet starts₀ at₀ n₀ starts at n = length sheet + 1 - at
+
+-- the starts of the line in hand, and those that are left behind it
+abbrev own : tie.After-line-at Inv-loop μ-loop → List ℕ
+own c =
+    let l = c .before .before in
+    startsOf (lineOf (part (l .before .before .before .args .sheet .now) (l .loop .at) (c .line-at .result .end)) ∷ [])
+
+abbrev behind : tie.After-line-at Inv-loop μ-loop → List ℕ
+behind c = startsOf (map lineOf (linesFrom (c .before .before .before .before .before .args .sheet .now) (c .line-at .result .next)))
+
+next : (c : tie.After-line-at Inv-loop μ-loop)
+    → let l = c .before .before in
+    startsOf (map lineOf (linesFrom (l .before .before .before .args .sheet .now) (l .loop .at))) ≡ own c ++ behind c
+next c = ap (λ (ls : List (List ℕ)). startsOf (map lineOf ls)) (c .line-at .ensures .cut) ∙ starts-split _ _
+
+fits : (c : tie.After-line-at Inv-loop μ-loop) → c .before .before .loop .n + length (own c) ≤ length (c .before .before .loop .starts)
+fits c =
+    let l = c .before .before in
+    let a = l .before .before .before .args in
+    filling-room (startsOf (sheetLines (a .sheet .now))) (a .starts .now) _ (l .loop .starts) (l .loop .n) (l .loop .inv .1) (own c) (behind c) (next c) _ refl (l .before .before .before .pre)
+
+loop-holds : tie.Need-loop-holds Inv-loop μ-loop
+loop-holds c = let s = c .before .before .args .sheet .now in (search needs, filling-starts (startsOf (sheetLines s)) _ (ap (λ (ls : List (List ℕ)). startsOf (map lineOf ls)) (from-zero s)))
+
+line-at-requires : tie.Need-line-at-requires Inv-loop μ-loop
+line-at-requires c κs = search needs
+
+sub-put : tie.Need-sub-put Inv-loop μ-loop
+sub-put c = c .before .line-at .ensures .low
+
+part-put-start : tie.Need-part-put-start Inv-loop μ-loop
+part-put-start c = search needs
+
+part-put-end : tie.Need-part-put-end Inv-loop μ-loop
+part-put-end c = search needs
+
+put-requires : tie.Need-put-requires Inv-loop μ-loop
+put-requires c κs = fits (c .before .before)
+
+loop-less : tie.Need-loop-less Inv-loop μ-loop
+loop-less c = omega (arith, c .before .before .before .before .before .line-at .ensures .onward)
+
+loop-again : tie.Need-loop-again Inv-loop μ-loop
+loop-again c =
+    let f = c .before .before .before .before .before in
+    let l = f .before .before in
+    let a = l .before .before .before .args in
+    let done = c .before .before .put .ensures in (
+      f .line-at .ensures .bound,
+      rw (done .0) (filling-goes (startsOf (sheetLines (a .sheet .now))) (a .starts .now) _ (l .loop .starts) (l .loop .n) (l .loop .inv .1) (own f) (behind f) (next f) _ refl _ (own f) (take-length (own f)) (fits f) (done .1)),
+    )
+
+same-length : tie.Need-same-length Inv-loop μ-loop
+same-length c = c .before .loop .inv .1 .same
+
+returns : tie.Need-returns Inv-loop μ-loop
+unfolding startsOf
+returns c = let l = c .before in let a = l .before .before .before .args in filling-ends (startsOf (sheetLines (a .sheet .now))) (a .starts .now) (startsOf (map lineOf (linesFrom (a .sheet .now) (l .loop .at)))) (l .loop .starts) (l .loop .n) (ap (λ (ls : List (List ℕ)). startsOf (map lineOf ls)) (from-beyond (a .sheet .now) (l .loop .at) (c .loop-test .left))) (l .loop .inv .1)
+
+pub fill-spec : {M : Type 1} → statement M
+fill-spec =
+    tie.close
+    (tie.spec
+    Inv-loop
+    μ-loop
+    loop-holds
+    line-at-requires
+    sub-put
+    part-put-start
+    part-put-end
+    put-requires
+    loop-less
+    loop-again
+    same-length
+    returns)

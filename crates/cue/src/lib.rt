@@ -1,0 +1,384 @@
+// Cue sheets: the segment starts of one track, out of a sheet's octets (document 02, W-212). A sheet is gone through twice, so that a refusal has written nothing.
+ghost use mathlib.Core.Path.{_≡_};
+ghost use mathlib.Core.List.{[], _∷_};
+ghost use Prim.Native.Nat.{_+_, _-_, _<_, _≤_};
+ghost use lib.ListN.{length, drop};
+ghost use lib.Seq.{paste};
+ghost use Rattle.ground.specs.Lists.{filled, tableAfter};
+ghost use Rattle.cue.specs.Sheet.{begins, isDigit, digitsAt, numberAt, hundredths, isStart, startOf, isOtherIndex, isPassed, lineOf, sheetLines, startsOf, cueSaid, saidOf};
+ghost use Rattle.cue.specs.Scan.{leading, allPass, isSpace, isNoLf, CutAt, rises, weighedOf};
+
+// What a line gives.
+pub enum Line {
+    Start(u32),
+    Passed,
+    NotUnderstood,
+}
+
+pub enum Cued {
+    // How many starts there are.
+    Done(usize),
+    // 225: over 65,536 octets.
+    TooLong,
+    // 226: this line, counted from 1, is not understood.
+    BadLine(usize),
+    // 227: the start of this line, counted from 1, is the first and not 0, or not above the one before.
+    NotRising(usize),
+    // 228: more starts than room.
+    NoRoom,
+}
+
+// Where the octets of a line end, and where the next line starts.
+struct Cut {
+    end: usize,
+    next: usize,
+}
+
+// What a line is behind others: its fault, and how many starts there are then, and the last of them.
+struct Weighed {
+    fault: u8,
+    count: usize,
+    last: u32,
+}
+
+pub const MOST_SHEET: usize = 65536;
+
+const LF: u8 = 10;
+
+const CR: u8 = 13;
+
+const SPACE: u8 = b' ';
+
+const COLON: u8 = b':';
+
+// Whether no octet is an LF. With no early exit the loop is vector code.
+fn no_lf(s: &[u8]) -> bool
+    ensures { λ r. ⌜ r ≡ allPass isNoLf (now (s .entry)) ⌝ }
+{
+    let mut good = true;
+    let mut i: usize = 0;
+    while i < s.len() {
+        good = good & (s[i] != LF);
+        i += 1;
+    }
+    good
+}
+
+// A place before which, from a place on, no LF stands: sixteen octets at a time.
+fn past_no_lf(sheet: &[u8], at: usize) -> usize
+    requires { ⌜ at ≤ length (now sheet) ⌝ }
+    ensures { λ r. ⌜ (r + leading isNoLf (drop r (now (sheet .entry))) ≡ at + leading isNoLf (drop at (now (sheet .entry)))) × (at ≤ r) × (r ≤ length (now (sheet .entry))) ⌝ }
+{
+    let mut i = at;
+    while 16 <= sheet.len() - i {
+        let e = i + 16;
+        if !no_lf(&sheet[i..e]) {
+            return i;
+        }
+        i = e;
+    }
+    i
+}
+
+// The place of the first LF from a place on, or the end of the sheet.
+fn lf_from(sheet: &[u8], at: usize) -> usize
+    requires { ⌜ at ≤ length (now sheet) ⌝ }
+    ensures { λ r. ⌜ (r ≡ at + leading isNoLf (drop at (now (sheet .entry)))) × (r ≤ length (now (sheet .entry))) ⌝ }
+{
+    let mut i = past_no_lf(sheet, at);
+    while i < sheet.len() {
+        if sheet[i] == LF {
+            return i;
+        }
+        i += 1;
+    }
+    i
+}
+
+// The line that starts at a place. A CR directly before its LF is none of its octets.
+fn line_at(sheet: &[u8], at: usize) -> Cut
+    requires { ⌜ at ≤ length (now sheet) ⌝ }
+    ensures { λ r. ⌜ CutAt (now (sheet .entry)) at (r .end) (r .next) ⌝ }
+{
+    let lf = lf_from(sheet, at);
+    if lf < sheet.len() {
+        if at < lf {
+            if sheet[lf - 1] == CR {
+                return Cut {
+                    end: lf - 1,
+                    next: lf + 1,
+                };
+            }
+        }
+    }
+    Cut {
+        end: lf,
+        next: lf + 1,
+    }
+}
+
+// How many spaces lead a line.
+fn spaces(line: &[u8]) -> usize
+    ensures { λ r. ⌜ (r ≡ leading isSpace (now (line .entry))) × (r ≤ length (now (line .entry))) ⌝ }
+{
+    let mut i: usize = 0;
+    while i < line.len() {
+        if line[i] != SPACE {
+            return i;
+        }
+        i += 1;
+    }
+    i
+}
+
+fn begins_with(line: &[u8], word: &[u8]) -> bool
+    ensures { λ r. ⌜ r ≡ begins (now (word .entry)) (now (line .entry)) ⌝ }
+{
+    if line.len() < word.len() {
+        return false;
+    }
+    let mut i: usize = 0;
+    while i < word.len() {
+        if line[i] != word[i] {
+            return false;
+        }
+        i += 1;
+    }
+    true
+}
+
+fn is_digit(x: u8) -> bool
+    ensures { λ r. ⌜ r ≡ isDigit x ⌝ }
+{
+    (48 <= x) & (x <= 57)
+}
+
+// What a digit says; any other octet is given a number too, which nobody looks at.
+fn digit(x: u8) -> u32
+    ensures { λ r. ⌜ (r ≡ x - 48) × (r < 208) ⌝ }
+{
+    if x < 48 {
+        return 0;
+    }
+    (x - 48) as u32
+}
+
+fn digits_at(line: &[u8], at: usize) -> bool
+    requires { ⌜ at < 17 ⌝ }
+    ensures { λ r. ⌜ r ≡ digitsAt (now (line .entry)) at ⌝ }
+{
+    let first = ground::octet_or_zero(line, at);
+    let second = ground::octet_or_zero(line, at + 1);
+    is_digit(first) & is_digit(second)
+}
+
+fn number_at(line: &[u8], at: usize) -> u32
+    requires { ⌜ at < 17 ⌝ }
+    ensures { λ r. ⌜ (r ≡ numberAt (now (line .entry)) at) × (r < 2288) ⌝ }
+{
+    let first = ground::octet_or_zero(line, at);
+    let second = ground::octet_or_zero(line, at + 1);
+    digit(first) * 10 + digit(second)
+}
+
+// Whether a line is `INDEX 01 mm:ss:ff`.
+fn is_start(line: &[u8]) -> bool
+    ensures { λ r. ⌜ r ≡ isStart (now (line .entry)) ⌝ }
+{
+    if line.len() != 17 {
+        return false;
+    }
+    if !begins_with(line, b"INDEX 01 ") {
+        return false;
+    }
+    let mm = digits_at(line, 9);
+    let ss = digits_at(line, 12);
+    let ff = digits_at(line, 15);
+    let seconds = number_at(line, 12);
+    let frames = number_at(line, 15);
+    mm & (line[11] == COLON) & ss & (line[14] == COLON) & ff & (seconds <= 59) & (frames <= 74)
+}
+
+fn hundredths_of(mm: u32, ss: u32, ff: u32) -> u32
+    requires { ⌜ (mm < 2288) × (ss < 2288) × (ff < 2288) ⌝ }
+    ensures { λ r. ⌜ r ≡ hundredths mm ss ff ⌝ }
+{
+    (60 * mm + ss) * 100 + 4 * ff / 3
+}
+
+// The start that such a line gives.
+fn start_of(line: &[u8]) -> u32
+    ensures { λ r. ⌜ r ≡ startOf (now (line .entry)) ⌝ }
+{
+    let mm = number_at(line, 9);
+    let ss = number_at(line, 12);
+    let ff = number_at(line, 15);
+    hundredths_of(mm, ss, ff)
+}
+
+// Whether a line begins with INDEX, one space and two digits other than 01.
+fn is_other_index(line: &[u8]) -> bool
+    ensures { λ r. ⌜ r ≡ isOtherIndex (now (line .entry)) ⌝ }
+{
+    let index = begins_with(line, b"INDEX ");
+    let digits = digits_at(line, 6);
+    let number = number_at(line, 6);
+    index & digits & (number != 1)
+}
+
+// Whether a line is passed over. The first octet leaves two words at most.
+fn is_passed(line: &[u8]) -> bool
+    ensures { λ r. ⌜ r ≡ isPassed (now (line .entry)) ⌝ }
+{
+    let first = ground::octet_or_zero(line, 0);
+    match first {
+        b'I' => is_other_index(line),
+        b'R' => begins_with(line, b"REM"),
+        b'T' => begins_with(line, b"TITLE") | begins_with(line, b"TRACK"),
+        b'P' => begins_with(line, b"PERFORMER"),
+        b'F' => begins_with(line, b"FILE"),
+        _ => line.len() == 0,
+    }
+}
+
+// What a line gives.
+fn line_of(line: &[u8]) -> Line
+    ensures { λ r. ⌜ r ≡ lineOf (now (line .entry)) ⌝ }
+{
+    let from = spaces(line);
+    let unspaced = &line[from..];
+    if is_start(unspaced) {
+        return Line::Start(start_of(unspaced));
+    }
+    if is_passed(unspaced) {
+        return Line::Passed;
+    }
+    Line::NotUnderstood
+}
+
+// Whether a start may follow the others.
+fn may_follow(count: usize, last: u32, start: u32) -> bool
+    ensures { λ r. ⌜ r ≡ rises count last start ⌝ }
+{
+    if count == 0 {
+        return start == 0;
+    }
+    last < start
+}
+
+fn weigh(line: Line, count: usize, last: u32) -> Weighed
+    requires { ⌜ count ≤ 65536 ⌝ }
+    ensures { λ r. ⌜ r ≡ weighedOf line count last ⌝ }
+{
+    match line {
+        Line::Passed => {
+            Weighed {
+                fault: 0,
+                count: count,
+                last: last,
+            }
+        }
+        Line::NotUnderstood => {
+            Weighed {
+                fault: 1,
+                count: count,
+                last: last,
+            }
+        }
+        Line::Start(start) => {
+            if may_follow(count, last, start) {
+                return Weighed {
+                    fault: 0,
+                    count: count + 1,
+                    last: start,
+                };
+            }
+            Weighed {
+                fault: 2,
+                count: count + 1,
+                last: start,
+            }
+        }
+    }
+}
+
+// What reading a sheet into a table of so many words answers. It writes nothing.
+fn survey(sheet: &[u8], room: usize) -> Cued
+    ensures { λ r. ⌜ saidOf r ≡ cueSaid (now (sheet .entry)) room ⌝ }
+{
+    if MOST_SHEET < sheet.len() {
+        return Cued::TooLong;
+    }
+    let mut at: usize = 0;
+    let mut number: usize = 0;
+    let mut count: usize = 0;
+    let mut last: u32 = 0;
+    while at <= sheet.len() {
+        let cut = line_at(sheet, at);
+        let end = cut.end;
+        let line = line_of(&sheet[at..end]);
+        let w = weigh(line, count, last);
+        number += 1;
+        if w.fault == 1 {
+            return Cued::BadLine(number);
+        }
+        if w.fault == 2 {
+            return Cued::NotRising(number);
+        }
+        count = w.count;
+        last = w.last;
+        at = cut.next;
+    }
+    if room < count {
+        return Cued::NoRoom;
+    }
+    Cued::Done(count)
+}
+
+// Writes the start that a line gives, if it gives one, over the place n; and says which place is then the next.
+fn put(starts: &mut [u32], n: usize, line: &[u8]) -> usize
+    requires { ⌜ n + length (startsOf (lineOf (now line) ∷ [])) ≤ length (now starts) ⌝ }
+    ensures { λ r. ⌜ r ≡ n + length (startsOf (lineOf (now (line .entry)) ∷ [])) ⌝ }
+    ensures { λ _. ⌜ now (starts .exit) ≡ paste (now (starts .entry)) n (startsOf (lineOf (now (line .entry)) ∷ [])) (length (startsOf (lineOf (now (line .entry)) ∷ []))) ⌝ }
+{
+    let from = spaces(line);
+    let unspaced = &line[from..];
+    if is_start(unspaced) {
+        starts[n] = start_of(unspaced);
+        return n + 1;
+    }
+    n
+}
+
+// Fills the front of the table with a sheet's starts.
+fn fill(sheet: &[u8], starts: &mut [u32])
+    requires { ⌜ length (startsOf (sheetLines (now sheet))) ≤ length (now starts) ⌝ }
+    ensures { λ _. ⌜ now (starts .exit) ≡ filled (startsOf (sheetLines (now (sheet .entry)))) (now (starts .entry)) ⌝ }
+{
+    let mut at: usize = 0;
+    let mut n: usize = 0;
+    while at <= sheet.len() {
+        let cut = line_at(sheet, at);
+        let end = cut.end;
+        n = put(starts, n, &sheet[at..end]);
+        at = cut.next;
+    }
+}
+
+// Reads a cue sheet: fills the front of the table with its starts and answers their number, or refuses and leaves the table as it was.
+pub fn read(sheet: &[u8], starts: &mut [u32]) -> Cued
+    ensures { λ r. ⌜ saidOf r ≡ cueSaid (now (sheet .entry)) (length (now (starts .entry))) ⌝ }
+    ensures { λ r. ⌜ now (starts .exit) ≡ tableAfter (saidOf r) (startsOf (sheetLines (now (sheet .entry)))) (now (starts .entry)) ⌝ }
+{
+    let answer = survey(sheet, starts.len());
+    match answer {
+        Cued::Done(count) => {
+            fill(sheet, starts);
+            Cued::Done(count)
+        }
+        Cued::TooLong => Cued::TooLong,
+        Cued::BadLine(line) => Cued::BadLine(line),
+        Cued::NotRising(line) => Cued::NotRising(line),
+        Cued::NoRoom => Cued::NoRoom,
+    }
+}
