@@ -44,18 +44,18 @@ pub record Judging (sheet : List ℕ) (behind : Said) (at number count last : �
   pub before : List ℕ
   pub many : length before ≡ count
   pub latest : getD before 0 0 ≡ last
-  pub left : judged (suc number) before (map lineOf (linesFrom sheet at)) behind ≡ judged 1 [] (sheetLines sheet) behind
+  pub left : judged number before (map lineOf (linesFrom sheet at)) behind ≡ judged 1 [] (sheetLines sheet) behind
   pub total : count + length (startsOf (map lineOf (linesFrom sheet at))) ≡ length (startsOf (sheetLines sheet))
 
 -- what a line that was weighed tells
 pub record Turned (sheet : List ℕ) (behind : Said) (number count next : ℕ) (w : Weighed) : Type 0 where
-  pub bad : w .fault ≡ 1 → refusedWith 226 ((number + 1) ∷ []) ≡ judged 1 [] (sheetLines sheet) behind
-  pub fallen : w .fault ≡ 2 → refusedWith 227 ((number + 1) ∷ []) ≡ judged 1 [] (sheetLines sheet) behind
+  pub bad : w .fault ≡ 1 → refusedWith 226 (number ∷ []) ≡ judged 1 [] (sheetLines sheet) behind
+  pub fallen : w .fault ≡ 2 → refusedWith 227 (number ∷ []) ≡ judged 1 [] (sheetLines sheet) behind
   pub goes : (w .fault ≡ 1 → ⊥) → (w .fault ≡ 2 → ⊥) → Judging sheet behind next (number + 1) (w .count) (w .last)
   pub counts : w .count ≤ count + 1
 
 module _ (sheet : List ℕ) (behind : Said) where
-  pub judging-starts : Judging sheet behind 0 0 0 0
+  pub judging-starts : Judging sheet behind 0 1 0 0
   judging-starts =
       record {
         before = [];
@@ -69,7 +69,7 @@ module _ (sheet : List ℕ) (behind : Said) where
   module _ (at number count last : ℕ) (J : Judging sheet behind at number count last) (h : length sheet < at) where
     pub judging-ends : judged 1 [] (sheetLines sheet) behind ≡ behind
     unfolding judged
-    judging-ends = sym (J .left) ∙ ap (λ (ls : List (List ℕ)). judged (suc number) (J .before) (map lineOf ls) behind) (from-beyond sheet at h)
+    judging-ends = sym (J .left) ∙ ap (λ (ls : List (List ℕ)). judged number (J .before) (map lineOf ls) behind) (from-beyond sheet at h)
 
     pub all-counted : count ≡ length (startsOf (sheetLines sheet))
     unfolding startsOf
@@ -84,28 +84,28 @@ module _ (sheet : List ℕ) (behind : Said) where
     unfolding rest
     split = ap (map lineOf) cut ∙ (λ i. sym m i ∷ map lineOf (linesFrom sheet next))
 
-    judged-here : judged (suc number) (J .before) (line ∷ rest) behind ≡ judged 1 [] (sheetLines sheet) behind
-    judged-here = sym (ap (λ (ls : List Line). judged (suc number) (J .before) ls behind) split) ∙ J .left
+    judged-here : judged number (J .before) (line ∷ rest) behind ≡ judged 1 [] (sheetLines sheet) behind
+    judged-here = sym (ap (λ (ls : List Line). judged number (J .before) ls behind) split) ∙ J .left
 
     counted-here : count + length (startsOf (line ∷ rest)) ≡ length (startsOf (sheetLines sheet))
     counted-here = sym (ap (λ (ls : List Line). count + length (startsOf ls)) split) ∙ J .total
 
     -- what is said of this line
     abbrev said : ℕ → Said
-    said n = refusedWith n ((number + 1) ∷ [])
+    said n = refusedWith n (number ∷ [])
 
     module _ (whole : Said) where
-      bad : (ln : Line) → judged (suc number) (J .before) (ln ∷ rest) behind ≡ whole → weighedOf ln count last .fault ≡ 1 → said 226 ≡ whole
+      bad : (ln : Line) → judged number (J .before) (ln ∷ rest) behind ≡ whole → weighedOf ln count last .fault ≡ 1 → said 226 ≡ whole
       unfolding judged
       bad Passed j f = absurd (omega arith)
-      bad NotUnderstood j f = rw add-one j
+      bad NotUnderstood j f = j
       bad (Start n) j f = by (rises count last n) f
         where
           by : (t : Bool) → pick {A = ℕ} t 0 2 ≡ 1 → said 226 ≡ whole
           by true e = absurd (omega arith)
           by false e = absurd (omega arith)
 
-      fallen : (ln : Line) → judged (suc number) (J .before) (ln ∷ rest) behind ≡ whole → weighedOf ln count last .fault ≡ 2 → said 227 ≡ whole
+      fallen : (ln : Line) → judged number (J .before) (ln ∷ rest) behind ≡ whole → weighedOf ln count last .fault ≡ 2 → said 227 ≡ whole
       unfolding judged
       fallen Passed j f = absurd (omega arith)
       fallen NotUnderstood j f = absurd (omega arith)
@@ -113,9 +113,9 @@ module _ (sheet : List ℕ) (behind : Said) where
         where
           by : (t : Bool) → t ≡ mayFollow (J .before) n → pick {A = ℕ} t 0 2 ≡ 2 → said 227 ≡ whole
           by true e g = absurd (omega arith)
-          by false e g = rw add-one (rw (sym e) at j)
+          by false e g = rw (sym e) at j
 
-    goes-on : (ln : Line) → judged (suc number) (J .before) (ln ∷ rest) behind ≡ judged 1 [] (sheetLines sheet) behind
+    goes-on : (ln : Line) → judged number (J .before) (ln ∷ rest) behind ≡ judged 1 [] (sheetLines sheet) behind
         → count + length (startsOf (ln ∷ rest)) ≡ length (startsOf (sheetLines sheet))
         → (weighedOf ln count last .fault ≡ 1 → ⊥) → (weighedOf ln count last .fault ≡ 2 → ⊥)
         → Judging sheet behind next (number + 1) (weighedOf ln count last .count) (weighedOf ln count last .last)

@@ -1,7 +1,8 @@
 -- The laws that belong to no one function.
-pub mod Leading
+pub mod Ahead
 pub mod Lines
 pub mod Words
+pub mod Form
 pub mod Meaning
 pub mod Judging
 pub mod Accepted

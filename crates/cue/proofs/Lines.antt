@@ -14,8 +14,8 @@ use Rattle.ground.specs.Cases.{pick}
 use Rattle.ground.specs.Lists.{part}
 use Rattle.ground.proofs.Cases.{and-fails, clash, past, here}
 use Rattle.cue.specs.Sheet.{lf, cr, onto, lines}
-use Rattle.cue.specs.Scan.{leading, isNoLf, linesFrom, CutAt}
-use Rattle.cue.proofs.Leading.{lead-le}
+use Rattle.cue.specs.Scan.{ahead, isLf, linesFrom, CutAt}
+use Rattle.cue.proofs.Ahead.{ahead-le}
 
 -- no octet is an LF
 abbrev NoLf : List ℕ → Type 0
@@ -68,22 +68,22 @@ cr-kept (x ∷ y ∷ s) zero h e = absurd (omega arith)
 cr-kept (x ∷ y ∷ s) (suc n) h e = ap (λ (l : List ℕ). x ∷ l) (cr-kept (y ∷ s) n (omega arith) e)
 
 -- the octets before the first LF, and the LF
-no-lf-before : (s : List ℕ) → NoLf (take (leading isNoLf s) s)
-unfolding leading
+no-lf-before : (s : List ℕ) → NoLf (take (ahead isLf s) s)
+unfolding ahead
 no-lf-before [] = tt
 no-lf-before (x ∷ s) = by (eqb x lf) refl (no-lf-before s)
   where
-    by : (t : Bool) → eqb x lf ≡ t → NoLf (take (leading isNoLf s) s) → NoLf (take (pick (not t) (suc (leading isNoLf s)) zero) (x ∷ s))
+    by : (t : Bool) → eqb x lf ≡ t → NoLf (take (ahead isLf s) s) → NoLf (take (pick t zero (suc (ahead isLf s))) (x ∷ s))
     by true e k = tt
     by false e k = (e, k)
 
-lf-behind : (s : List ℕ) → leading isNoLf s < length s → getD s (leading isNoLf s) 0 ≡ lf
-unfolding leading
+lf-behind : (s : List ℕ) → ahead isLf s < length s → getD s (ahead isLf s) 0 ≡ lf
+unfolding ahead
 lf-behind [] h = omega arith
 lf-behind (x ∷ s) h = by (eqb x lf) refl (lf-behind s) h
   where
-    by : (t : Bool) → eqb x lf ≡ t → (leading isNoLf s < length s → getD s (leading isNoLf s) 0 ≡ lf)
-        → pick (not t) (suc (leading isNoLf s)) zero < suc (length s) → getD (x ∷ s) (pick (not t) (suc (leading isNoLf s)) zero) 0 ≡ lf
+    by : (t : Bool) → eqb x lf ≡ t → (ahead isLf s < length s → getD s (ahead isLf s) 0 ≡ lf)
+        → pick t zero (suc (ahead isLf s)) < suc (length s) → getD (x ∷ s) (pick t zero (suc (ahead isLf s))) 0 ≡ lf
     by true e f k = eqb-true x lf e
     by false e f k = f (omega arith)
 
@@ -97,29 +97,29 @@ unfolding linesFrom
 from-beyond sheet at h = rw (lt-leb at (length sheet) h)
 
 -- the two ways in which a line ends
-last-of : (s : List ℕ) → length s ≤ leading isNoLf s → lines s ≡ s ∷ []
+last-of : (s : List ℕ) → length s ≤ ahead isLf s → lines s ≡ s ∷ []
 last-of s h =
-    let e : leading isNoLf s ≡ length s = omega (arith, lead-le isNoLf s) in
+    let e : ahead isLf s ≡ length s = omega (arith, ahead-le isLf s) in
     last-line s (rw (e, take-length) at (no-lf-before s))
 
-first-of : (s : List ℕ) → leading isNoLf s < length s → lines s ≡ withoutCr (take (leading isNoLf s) s) ∷ lines (drop (leading isNoLf s + 1) s)
+first-of : (s : List ℕ) → ahead isLf s < length s → lines s ≡ withoutCr (take (ahead isLf s) s) ∷ lines (drop (ahead isLf s + 1) s)
 first-of s h =
-    let n = leading isNoLf s in
+    let n = ahead isLf s in
     let e : drop n s ≡ lf ∷ drop (n + 1) s = rw (add-one, drop-cons s n 0, lf-behind s h) in
     ap lines (sym (take-append-drop n s) ∙ ap (λ (l : List ℕ). take n s ++ l) e) ∙ line-and-lf (take n s) (drop (n + 1) s) (no-lf-before s)
 
-module _ (sheet : List ℕ) (at : ℕ) (h : at ≤ length sheet) (n : ℕ) (e : n ≡ at + leading isNoLf (drop at sheet)) where
+module _ (sheet : List ℕ) (at : ℕ) (h : at ≤ length sheet) (n : ℕ) (e : n ≡ at + ahead isLf (drop at sheet)) where
   from : linesFrom sheet at ≡ lines (drop at sheet)
   unfolding linesFrom
   from = rw (le-leb _ _ h)
 
-  span : leading isNoLf (drop at sheet) ≡ n - at
+  span : ahead isLf (drop at sheet) ≡ n - at
   span = omega arith
 
   -- at the text's end
   pub cut-last : length sheet ≤ n → CutAt sheet at n (n + 1)
   cut-last k =
-      let m : n ≡ length sheet = omega (arith, lead-le isNoLf (drop at sheet), length-drop at sheet) in
+      let m : n ≡ length sheet = omega (arith, ahead-le isLf (drop at sheet), length-drop at sheet) in
       let all : n - at ≡ length (drop at sheet) = omega (arith, length-drop at sheet) in
       let whole : part sheet at n ≡ drop at sheet = rw (all, take-length) in
       let none : linesFrom sheet (n + 1) ≡ [] = from-beyond sheet (n + 1) (omega arith) in
@@ -138,9 +138,9 @@ module _ (sheet : List ℕ) (at : ℕ) (h : at ≤ length sheet) (n : ℕ) (e : 
 
     up-to-lf : linesFrom sheet at ≡ withoutCr (part sheet at n) ∷ linesFrom sheet (n + 1)
     up-to-lf =
-        let j : leading isNoLf (drop at sheet) < length (drop at sheet) = omega (arith, length-drop at sheet) in
-        let place : at + (leading isNoLf (drop at sheet) + 1) ≡ n + 1 = omega arith in
-        let on : drop (leading isNoLf (drop at sheet) + 1) (drop at sheet) ≡ drop (n + 1) sheet = drop-drop _ at sheet ∙ ap (λ (x : ℕ). drop x sheet) place in
+        let j : ahead isLf (drop at sheet) < length (drop at sheet) = omega (arith, length-drop at sheet) in
+        let place : at + (ahead isLf (drop at sheet) + 1) ≡ n + 1 = omega arith in
+        let on : drop (ahead isLf (drop at sheet) + 1) (drop at sheet) ≡ drop (n + 1) sheet = drop-drop _ at sheet ∙ ap (λ (x : ℕ). drop x sheet) place in
         from ∙ first-of (drop at sheet) j ∙ (λ i. withoutCr (take (span i) (drop at sheet)) ∷ (ap lines on ∙ sym behind) i)
 
     long : length (part sheet at n) ≡ n - at

@@ -1,32 +1,43 @@
 -- What the functions that go along a sheet find. Laws (`proofs/`) say what it has to do with the sheet's lines.
 -- Assumes nothing.
 use mathlib.Core.Path.{_≡_}
-use mathlib.Core.Bool.{Bool, not}
+use mathlib.Core.Bool.{Bool, true, false, not}
 use mathlib.Core.List.{List, [], _∷_}
 use Prim.Native.Nat.{ℕ, zero, suc, _+_, _<_, _≤_}
 use lib.Dec.{eqb, leb}
-use lib.ListN.{length, getD, drop}
+use lib.ListN.{length, drop}
 use Rattle.ground.specs.Cases.{pick}
-use Rattle.ground.specs.Lists.{part, allBelow}
+use Rattle.ground.specs.Lists.{part}
 use Rattle.cue.specs.declared.Line.{Line}
 use Rattle.cue.specs.declared.Line.the-variants.{Start, Passed, NotUnderstood}
 use Rattle.cue.specs.declared.Weighed.{Weighed}
 use Rattle.cue.specs.Sheet.{lf, space, lines, mayFollow}
 
--- how many octets in front pass the test
-unfoldable pub leading : (ℕ → Bool) → List ℕ → ℕ
-leading test [] = zero
-leading test (x ∷ s) = pick (test x) (suc (leading test s)) zero
+-- how many octets stand ahead of the first that passes the test
+unfoldable pub ahead : (ℕ → Bool) → List ℕ → ℕ
+ahead test [] = zero
+ahead test (x ∷ s) = pick (test x) zero (suc (ahead test s))
 
--- all of them do
-abbrev pub allPass : (ℕ → Bool) → List ℕ → Bool
-allPass test s = allBelow (length s) (λ i. test (getD s i 0))
+-- the octet x, or any other
+abbrev pub isIt : ℕ → Bool → ℕ → Bool
+isIt x true y = eqb y x
+isIt x false y = not (eqb y x)
 
-abbrev pub isSpace : ℕ → Bool
-isSpace x = eqb x space
+abbrev pub isLf : ℕ → Bool
+isLf = isIt lf true
 
-abbrev pub isNoLf : ℕ → Bool
-isNoLf x = not (eqb x lf)
+abbrev pub isNoSpace : ℕ → Bool
+isNoSpace = isIt space false
+
+-- where they end, as a place of the whole
+abbrev pub aheadEnd : (ℕ → Bool) → List ℕ → ℕ → ℕ
+aheadEnd test s at = at + ahead test (drop at s)
+
+-- a search that went from one place on to another, and passed none
+pub record Passes (test : ℕ → Bool) (s : List ℕ) (at to : ℕ) : Type 0 where
+  pub low : at ≤ to
+  pub high : to ≤ length s
+  pub same : aheadEnd test s to ≡ aheadEnd test s at
 
 -- the lines from a place on: none behind the end of the text
 unfoldable pub linesFrom : List ℕ → ℕ → List (List ℕ)

@@ -1,12 +1,13 @@
 // Cue sheets: the segment starts of one track, out of a sheet's octets (document 02, W-212). A sheet is gone through twice, so that a refusal has written nothing.
 ghost use mathlib.Core.Path.{_≡_};
+ghost use mathlib.Core.Bool.{true, not};
 ghost use mathlib.Core.List.{[], _∷_};
 ghost use Prim.Native.Nat.{_+_, _-_, _<_, _≤_};
-ghost use lib.ListN.{length, drop};
+ghost use lib.ListN.{length, getD};
 ghost use lib.Seq.{paste};
-ghost use Rattle.ground.specs.Lists.{filled, tableAfter};
+ghost use Rattle.ground.specs.Lists.{filled, tableAfter, allBelow};
 ghost use Rattle.cue.specs.Sheet.{begins, isDigit, digitsAt, numberAt, hundredths, isStart, startOf, isOtherIndex, isPassed, lineOf, sheetLines, startsOf, cueSaid, saidOf};
-ghost use Rattle.cue.specs.Scan.{leading, allPass, isSpace, isNoLf, CutAt, rises, weighedOf};
+ghost use Rattle.cue.specs.Scan.{isIt, isLf, isNoSpace, aheadEnd, Passes, CutAt, rises, weighedOf};
 
 // What a line gives.
 pub enum Line {
@@ -51,9 +52,61 @@ const SPACE: u8 = b' ';
 
 const COLON: u8 = b':';
 
+// Whether an octet is x, or is any other.
+fn is_it(y: u8, x: u8, equal: bool) -> bool
+    ensures { λ r. ⌜ r ≡ isIt x equal y ⌝ }
+{
+    if equal {
+        return y == x;
+    }
+    y != x
+}
+
+// Goes on, four octets a turn, until an octet is x, or is any other, or until fewer than four are left.
+fn by_fours(s: &[u8], at: usize, x: u8, equal: bool) -> usize
+    requires { ⌜ at ≤ length (now s) ⌝ }
+    ensures { λ r. ⌜ Passes (isIt x equal) (now (s .entry)) at r ⌝ }
+{
+    let mut i = at;
+    while 4 <= s.len() - i {
+        if is_it(s[i], x, equal) {
+            return i;
+        }
+        i += 1;
+        if is_it(s[i], x, equal) {
+            return i;
+        }
+        i += 1;
+        if is_it(s[i], x, equal) {
+            return i;
+        }
+        i += 1;
+        if is_it(s[i], x, equal) {
+            return i;
+        }
+        i += 1;
+    }
+    i
+}
+
+// The first place from a place on whose octet is x, or is any other; or the end.
+fn first_from(s: &[u8], at: usize, x: u8, equal: bool) -> usize
+    requires { ⌜ at ≤ length (now s) ⌝ }
+    ensures { λ r. ⌜ (r ≡ aheadEnd (isIt x equal) (now (s .entry)) at) × (r ≤ length (now (s .entry))) ⌝ }
+{
+    let mut i = by_fours(s, at, x, equal);
+    while i < s.len() {
+        if is_it(s[i], x, equal) {
+            return i;
+        }
+        i += 1;
+    }
+    i
+}
+
 // Whether no octet is an LF. With no early exit the loop is vector code.
 fn no_lf(s: &[u8]) -> bool
-    ensures { λ r. ⌜ r ≡ allPass isNoLf (now (s .entry)) ⌝ }
+    ensures { λ r. ⌜ r ≡ allBelow (length (now (s .entry))) (λ i. not (isLf (getD (now (s .entry)) i 0))) ⌝ }
 {
     let mut good = true;
     let mut i: usize = 0;
@@ -64,14 +117,15 @@ fn no_lf(s: &[u8]) -> bool
     good
 }
 
-// A place before which, from a place on, no LF stands: sixteen octets at a time.
-fn past_no_lf(sheet: &[u8], at: usize) -> usize
+// Goes on, so many octets a turn, while no LF is among them.
+fn past_no_lf(sheet: &[u8], at: usize, width: usize) -> usize
     requires { ⌜ at ≤ length (now sheet) ⌝ }
-    ensures { λ r. ⌜ (r + leading isNoLf (drop r (now (sheet .entry))) ≡ at + leading isNoLf (drop at (now (sheet .entry)))) × (at ≤ r) × (r ≤ length (now (sheet .entry))) ⌝ }
+    requires { ⌜ 0 < width ⌝ }
+    ensures { λ r. ⌜ Passes isLf (now (sheet .entry)) at r ⌝ }
 {
     let mut i = at;
-    while 16 <= sheet.len() - i {
-        let e = i + 16;
+    while width <= sheet.len() - i {
+        let e = i + width;
         if !no_lf(&sheet[i..e]) {
             return i;
         }
@@ -80,19 +134,14 @@ fn past_no_lf(sheet: &[u8], at: usize) -> usize
     i
 }
 
-// The place of the first LF from a place on, or the end of the sheet.
+// The place of the first LF from a place on, or the end of the sheet: by long pieces, by short ones, and then one by one.
 fn lf_from(sheet: &[u8], at: usize) -> usize
     requires { ⌜ at ≤ length (now sheet) ⌝ }
-    ensures { λ r. ⌜ (r ≡ at + leading isNoLf (drop at (now (sheet .entry)))) × (r ≤ length (now (sheet .entry))) ⌝ }
+    ensures { λ r. ⌜ (r ≡ aheadEnd isLf (now (sheet .entry)) at) × (r ≤ length (now (sheet .entry))) ⌝ }
 {
-    let mut i = past_no_lf(sheet, at);
-    while i < sheet.len() {
-        if sheet[i] == LF {
-            return i;
-        }
-        i += 1;
-    }
-    i
+    let far = past_no_lf(sheet, at, 64);
+    let near = past_no_lf(sheet, far, 8);
+    first_from(sheet, near, LF, true)
 }
 
 // The line that starts at a place. A CR directly before its LF is none of its octets.
@@ -119,16 +168,9 @@ fn line_at(sheet: &[u8], at: usize) -> Cut
 
 // How many spaces lead a line.
 fn spaces(line: &[u8]) -> usize
-    ensures { λ r. ⌜ (r ≡ leading isSpace (now (line .entry))) × (r ≤ length (now (line .entry))) ⌝ }
+    ensures { λ r. ⌜ (r ≡ aheadEnd isNoSpace (now (line .entry)) 0) × (r ≤ length (now (line .entry))) ⌝ }
 {
-    let mut i: usize = 0;
-    while i < line.len() {
-        if line[i] != SPACE {
-            return i;
-        }
-        i += 1;
-    }
-    i
+    first_from(line, 0, SPACE, false)
 }
 
 fn begins_with(line: &[u8], word: &[u8]) -> bool
@@ -153,32 +195,27 @@ fn is_digit(x: u8) -> bool
     (48 <= x) & (x <= 57)
 }
 
-// What a digit says; any other octet is given a number too, which nobody looks at.
+// What a digit says.
 fn digit(x: u8) -> u32
-    ensures { λ r. ⌜ (r ≡ x - 48) × (r < 208) ⌝ }
+    requires { ⌜ isDigit x ≡ true ⌝ }
+    ensures { λ r. ⌜ (r ≡ x - 48) × (r < 10) ⌝ }
 {
-    if x < 48 {
-        return 0;
-    }
     (x - 48) as u32
 }
 
 fn digits_at(line: &[u8], at: usize) -> bool
-    requires { ⌜ at < 17 ⌝ }
+    requires { ⌜ at + 2 ≤ length (now line) ⌝ }
     ensures { λ r. ⌜ r ≡ digitsAt (now (line .entry)) at ⌝ }
 {
-    let first = ground::octet_or_zero(line, at);
-    let second = ground::octet_or_zero(line, at + 1);
-    is_digit(first) & is_digit(second)
+    is_digit(line[at]) & is_digit(line[at + 1])
 }
 
 fn number_at(line: &[u8], at: usize) -> u32
-    requires { ⌜ at < 17 ⌝ }
-    ensures { λ r. ⌜ (r ≡ numberAt (now (line .entry)) at) × (r < 2288) ⌝ }
+    requires { ⌜ at + 2 ≤ length (now line) ⌝ }
+    requires { ⌜ digitsAt (now line) at ≡ true ⌝ }
+    ensures { λ r. ⌜ (r ≡ numberAt (now (line .entry)) at) × (r < 100) ⌝ }
 {
-    let first = ground::octet_or_zero(line, at);
-    let second = ground::octet_or_zero(line, at + 1);
-    digit(first) * 10 + digit(second)
+    digit(line[at]) * 10 + digit(line[at + 1])
 }
 
 // Whether a line is `INDEX 01 mm:ss:ff`.
@@ -194,13 +231,16 @@ fn is_start(line: &[u8]) -> bool
     let mm = digits_at(line, 9);
     let ss = digits_at(line, 12);
     let ff = digits_at(line, 15);
+    if !(mm & (line[11] == COLON) & ss & (line[14] == COLON) & ff) {
+        return false;
+    }
     let seconds = number_at(line, 12);
     let frames = number_at(line, 15);
-    mm & (line[11] == COLON) & ss & (line[14] == COLON) & ff & (seconds <= 59) & (frames <= 74)
+    (seconds <= 59) & (frames <= 74)
 }
 
 fn hundredths_of(mm: u32, ss: u32, ff: u32) -> u32
-    requires { ⌜ (mm < 2288) × (ss < 2288) × (ff < 2288) ⌝ }
+    requires { ⌜ (mm < 100) × (ss < 100) × (ff < 100) ⌝ }
     ensures { λ r. ⌜ r ≡ hundredths mm ss ff ⌝ }
 {
     (60 * mm + ss) * 100 + 4 * ff / 3
@@ -208,6 +248,7 @@ fn hundredths_of(mm: u32, ss: u32, ff: u32) -> u32
 
 // The start that such a line gives.
 fn start_of(line: &[u8]) -> u32
+    requires { ⌜ isStart (now line) ≡ true ⌝ }
     ensures { λ r. ⌜ r ≡ startOf (now (line .entry)) ⌝ }
 {
     let mm = number_at(line, 9);
@@ -220,10 +261,16 @@ fn start_of(line: &[u8]) -> u32
 fn is_other_index(line: &[u8]) -> bool
     ensures { λ r. ⌜ r ≡ isOtherIndex (now (line .entry)) ⌝ }
 {
+    if line.len() < 8 {
+        return false;
+    }
     let index = begins_with(line, b"INDEX ");
     let digits = digits_at(line, 6);
+    if !(index & digits) {
+        return false;
+    }
     let number = number_at(line, 6);
-    index & digits & (number != 1)
+    number != 1
 }
 
 // Whether a line is passed over. The first octet leaves two words at most.
@@ -310,7 +357,7 @@ fn survey(sheet: &[u8], room: usize) -> Cued
         return Cued::TooLong;
     }
     let mut at: usize = 0;
-    let mut number: usize = 0;
+    let mut number: usize = 1;
     let mut count: usize = 0;
     let mut last: u32 = 0;
     while at <= sheet.len() {
@@ -318,7 +365,6 @@ fn survey(sheet: &[u8], room: usize) -> Cued
         let end = cut.end;
         let line = line_of(&sheet[at..end]);
         let w = weigh(line, count, last);
-        number += 1;
         if w.fault == 1 {
             return Cued::BadLine(number);
         }
@@ -328,6 +374,7 @@ fn survey(sheet: &[u8], room: usize) -> Cued
         count = w.count;
         last = w.last;
         at = cut.next;
+        number += 1;
     }
     if room < count {
         return Cued::NoRoom;
@@ -350,14 +397,15 @@ fn put(starts: &mut [u32], n: usize, line: &[u8]) -> usize
     n
 }
 
-// Fills the front of the table with a sheet's starts.
-fn fill(sheet: &[u8], starts: &mut [u32])
-    requires { ⌜ length (startsOf (sheetLines (now sheet))) ≤ length (now starts) ⌝ }
+// Fills the front of the table with a sheet's starts, and goes no further than the last of them.
+fn fill(sheet: &[u8], starts: &mut [u32], count: usize)
+    requires { ⌜ count ≡ length (startsOf (sheetLines (now sheet))) ⌝ }
+    requires { ⌜ count ≤ length (now starts) ⌝ }
     ensures { λ _. ⌜ now (starts .exit) ≡ filled (startsOf (sheetLines (now (sheet .entry)))) (now (starts .entry)) ⌝ }
 {
     let mut at: usize = 0;
     let mut n: usize = 0;
-    while at <= sheet.len() {
+    while n < count {
         let cut = line_at(sheet, at);
         let end = cut.end;
         n = put(starts, n, &sheet[at..end]);
@@ -373,7 +421,7 @@ pub fn read(sheet: &[u8], starts: &mut [u32]) -> Cued
     let answer = survey(sheet, starts.len());
     match answer {
         Cued::Done(count) => {
-            fill(sheet, starts);
+            fill(sheet, starts, count);
             Cued::Done(count)
         }
         Cued::TooLong => Cued::TooLong,

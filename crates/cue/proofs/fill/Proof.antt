@@ -3,8 +3,10 @@ use mathlib.Core.Path.{_≡_, refl, sym, ap, _∙_}
 use mathlib.Core.List.{List, [], _∷_, _++_, map}
 use Prim.Native.Nat.{ℕ, _≤_, _+_, _-_}
 use native.Mathlib.Omega.{arith}
-use lib.ListN.{length}
-use lib.Seq.{take-length}
+use mathlib.Core.Logic.{⊎-elim}
+use lib.ListN.{length, take, length-append}
+use lib.Seq.{take-length, length-take-le}
+use Rattle.ground.proofs.Cases.{le-or}
 use Rattle.ground.specs.Lists.{part}
 use Rattle.ground.proofs.Filling.{Filling, filling-starts, filling-ends, filling-room, filling-goes}
 use Rattle.cue.specs.Sheet.{lineOf, sheetLines, startsOf}
@@ -16,10 +18,33 @@ use Rattle.cue.proofs.fill.Statement.{statement}
 use Rattle.cue.proofs.fill.Tie as tie
 
 abbrev Inv-loop : tie.InvT-loop
-Inv-loop sheet starts₀ at₀ n₀ starts at n = (at ≤ length sheet + 1) × Filling (startsOf (sheetLines sheet)) (startsOf (map lineOf (linesFrom sheet at))) starts₀ starts n
+Inv-loop sheet starts₀ count at₀ n₀ starts at n = (at ≤ length sheet + 1) × Filling (startsOf (sheetLines sheet)) (startsOf (map lineOf (linesFrom sheet at))) starts₀ starts n
 
 abbrev μ-loop : tie.MeasureT-loop
-μ-loop sheet starts₀ at₀ n₀ starts at n = length sheet + 1 - at
+μ-loop sheet starts₀ count at₀ n₀ starts at n = length sheet + 1 - at
+
+-- what is written and what is left are as many as there are
+as-many : (all left old dst : List ℕ) (n : ℕ) → Filling all left old dst n → n + length left ≡ length all
+as-many all left old dst n F = omega (arith, ap length (F .front), length-append (take n dst) left, length-take-le n dst (F .within))
+
+none-left : (left : List ℕ) → length left ≡ 0 → left ≡ []
+none-left [] e = refl
+none-left (x ∷ left) e = absurd (omega arith)
+
+-- where a start is still to come, so is a line
+within : (c : tie.In-loop Inv-loop μ-loop) → c .before .loop .at ≤ length (c .before .before .before .before .args .sheet .now)
+unfolding startsOf
+within c =
+    let l = c .before in
+    let s = l .before .before .before in
+    let sheet = s .args .sheet .now in
+    let many = as-many (startsOf (sheetLines sheet)) (startsOf (map lineOf (linesFrom sheet (l .loop .at)))) (s .args .starts .now) (l .loop .starts) (l .loop .n) (l .loop .inv .1) in
+    ⊎-elim
+    (λ h. h)
+    (λ h.
+    let none : length (startsOf (map lineOf (linesFrom sheet (l .loop .at)))) ≡ 0 = ap (λ (ls : List (List ℕ)). length (startsOf (map lineOf ls))) (from-beyond sheet (l .loop .at) h) in
+    absurd (omega (arith, many, none, s .pre .0)))
+    (le-or (l .loop .at) (length sheet))
 
 -- the starts of the line in hand, and those that are left behind it
 abbrev own : tie.After-line-at Inv-loop μ-loop → List ℕ
@@ -39,13 +64,13 @@ fits : (c : tie.After-line-at Inv-loop μ-loop) → c .before .before .loop .n +
 fits c =
     let l = c .before .before in
     let a = l .before .before .before .args in
-    filling-room (startsOf (sheetLines (a .sheet .now))) (a .starts .now) _ (l .loop .starts) (l .loop .n) (l .loop .inv .1) (own c) (behind c) (next c) _ refl (l .before .before .before .pre)
+    filling-room (startsOf (sheetLines (a .sheet .now))) (a .starts .now) _ (l .loop .starts) (l .loop .n) (l .loop .inv .1) (own c) (behind c) (next c) _ refl (omega (arith, l .before .before .before .pre .0, l .before .before .before .pre .1))
 
 loop-holds : tie.Need-loop-holds Inv-loop μ-loop
 loop-holds c = let s = c .before .before .args .sheet .now in (search needs, filling-starts (startsOf (sheetLines s)) _ (ap (λ (ls : List (List ℕ)). startsOf (map lineOf ls)) (from-zero s)))
 
 line-at-requires : tie.Need-line-at-requires Inv-loop μ-loop
-line-at-requires c κs = search needs
+line-at-requires c κs = within c
 
 sub-put : tie.Need-sub-put Inv-loop μ-loop
 sub-put c = c .before .line-at .ensures .low
@@ -60,7 +85,7 @@ put-requires : tie.Need-put-requires Inv-loop μ-loop
 put-requires c κs = fits (c .before .before)
 
 loop-less : tie.Need-loop-less Inv-loop μ-loop
-loop-less c = omega (arith, c .before .before .before .before .before .line-at .ensures .onward)
+loop-less c = omega (arith, within (c .before .before .before .before .before .before), c .before .before .before .before .before .line-at .ensures .onward)
 
 loop-again : tie.Need-loop-again Inv-loop μ-loop
 loop-again c =
@@ -76,8 +101,14 @@ same-length : tie.Need-same-length Inv-loop μ-loop
 same-length c = c .before .loop .inv .1 .same
 
 returns : tie.Need-returns Inv-loop μ-loop
-unfolding startsOf
-returns c = let l = c .before in let a = l .before .before .before .args in filling-ends (startsOf (sheetLines (a .sheet .now))) (a .starts .now) (startsOf (map lineOf (linesFrom (a .sheet .now) (l .loop .at)))) (l .loop .starts) (l .loop .n) (ap (λ (ls : List (List ℕ)). startsOf (map lineOf ls)) (from-beyond (a .sheet .now) (l .loop .at) (c .loop-test .left))) (l .loop .inv .1)
+returns c =
+    let l = c .before in
+    let s = l .before .before .before in
+    let sheet = s .args .sheet .now in
+    let all = startsOf (sheetLines sheet) in
+    let left = startsOf (map lineOf (linesFrom sheet (l .loop .at))) in
+    let many = as-many all left (s .args .starts .now) (l .loop .starts) (l .loop .n) (l .loop .inv .1) in
+    filling-ends all (s .args .starts .now) left (l .loop .starts) (l .loop .n) (none-left left (omega (arith, many, s .pre .0))) (l .loop .inv .1)
 
 pub fill-spec : {M : Type 1} → statement M
 fill-spec =

@@ -1,7 +1,7 @@
 -- `cue::line_of`: the tests of the definition, on the line without its leading spaces.
 use Rattle.cue.proofs.Meaning.{gives-start, gives-nothing, gives-fault}
 use mathlib.Core.Path.{_≡_, refl, sym, ap, _∙_}
-use Rattle.cue.proofs.Leading.{unspaced-part}
+use Rattle.cue.proofs.Ahead.{unspaced-part}
 use borrow.Author.Needs.{needs}
 use Rattle.cue.proofs.line_of.Statement.{statement}
 use Rattle.cue.proofs.line_of.Tie as tie
@@ -22,7 +22,7 @@ is-start-requires : tie.Need-is-start-requires
 is-start-requires c κs = search needs
 
 start-of-requires : tie.Need-start-of-requires
-start-of-requires c κs = search needs
+start-of-requires c κs = sym (c .before .is-start .ensures) ∙ c .if1 .taken
 
 returns : tie.Need-returns
 returns c =

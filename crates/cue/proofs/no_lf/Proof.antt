@@ -1,16 +1,17 @@
--- `cue::no_lf`: all octets so far are none.
+-- `cue::no_lf`: none of the octets so far is one.
 use mathlib.Core.Path.{_≡_, refl}
+use mathlib.Core.Bool.{not}
 use Prim.Native.Nat.{ℕ, _≤_, _-_}
 use lib.ListN.{length, getD}
 use Rattle.ground.specs.Lists.{allBelow}
 use Rattle.ground.proofs.Bounded.{all-turn, all-end}
-use Rattle.cue.specs.Scan.{isNoLf}
+use Rattle.cue.specs.Scan.{isLf}
 use borrow.Author.Needs.{needs}
 use Rattle.cue.proofs.no_lf.Statement.{statement}
 use Rattle.cue.proofs.no_lf.Tie as tie
 
 abbrev Inv-loop : tie.InvT-loop
-Inv-loop s good₀ i₀ good i = (i ≤ length s) × (good ≡ allBelow i (λ j. isNoLf (getD s j 0)))
+Inv-loop s good₀ i₀ good i = (i ≤ length s) × (good ≡ allBelow i (λ j. not (isLf (getD s j 0))))
 
 abbrev μ-loop : tie.MeasureT-loop
 μ-loop s good₀ i₀ good i = length s - i

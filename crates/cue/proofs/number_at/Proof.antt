@@ -1,46 +1,48 @@
 -- `cue::number_at`: tens and ones.
-use Prim.Native.Nat.{ℕ, _-_}
-use mathlib.Core.Path.{_≡_, ap, _∙_}
 use native.Mathlib.Omega.{arith}
+use lib.ListN.{getD}
+use Rattle.ground.proofs.Cases.{and-left, and-right}
+use Rattle.cue.specs.Sheet.{isDigit, digitsAt, numberAt}
 use borrow.Author.Needs.{needs}
-use Rattle.cue.specs.Sheet.{numberAt}
 use Rattle.cue.proofs.number_at.Statement.{statement}
 use Rattle.cue.proofs.number_at.Tie as tie
 
-octet-or-zero-requires : tie.Need-octet-or-zero-requires
-octet-or-zero-requires c κs = search needs
-
-add-octet-or-zero : tie.Need-add-octet-or-zero
-add-octet-or-zero c = search needs
-
-octet-or-zero-requires-2 : tie.Need-octet-or-zero-requires-2
-octet-or-zero-requires-2 c κs = search needs
+shared-slice-read-digit : tie.Need-shared-slice-read-digit
+shared-slice-read-digit c = search needs
 
 digit-requires : tie.Need-digit-requires
-digit-requires c κs = search needs
+unfolding digitsAt
+digit-requires c κs = let a = c .before .before .args in and-left (isDigit (getD (a .line .now) (a .at) 0)) _ (c .before .before .pre .1)
 
 mul-result : tie.Need-mul-result
 mul-result c = search needs
 
+add-digit : tie.Need-add-digit
+add-digit c = search needs
+
+shared-slice-read-digit-2 : tie.Need-shared-slice-read-digit-2
+shared-slice-read-digit-2 c = search needs
+
 digit-requires-2 : tie.Need-digit-requires-2
-digit-requires-2 c κs = search needs
+unfolding digitsAt
+digit-requires-2 c κs = let a = c .before .before .before .before .args in and-right (isDigit (getD (a .line .now) (a .at) 0)) _ (c .before .before .before .before .pre .1)
 
 add-result : tie.Need-add-result
 add-result c = search needs
 
 returns : tie.Need-returns
 unfolding numberAt
-returns c = (omega (arith, c .before .before .before .octet-or-zero .ensures, c .before .before .octet-or-zero2 .ensures), omega arith)
+returns c = (omega (arith, c .before .before .digit .ensures .0, c .digit2 .ensures .0), omega (arith, c .before .before .digit .ensures .1, c .digit2 .ensures .1))
 
 pub number-at-spec : {M : Type 1} → statement M
 number-at-spec =
     tie.close
     (tie.spec
-    octet-or-zero-requires
-    add-octet-or-zero
-    octet-or-zero-requires-2
+    shared-slice-read-digit
     digit-requires
     mul-result
+    add-digit
+    shared-slice-read-digit-2
     digit-requires-2
     add-result
     returns)

@@ -9,7 +9,7 @@ use native.Mathlib.Numerals.{add-one}
 use lib.ListN.{length, set}
 use lib.Seq.{paste, paste-zero, set-split}
 use Rattle.cue.specs.Sheet.{lineOf, startOf, startsOf}
-use Rattle.cue.proofs.Leading.{unspaced-part}
+use Rattle.cue.proofs.Ahead.{unspaced-part}
 use Rattle.cue.proofs.Meaning.{one-start, no-start}
 use borrow.Author.Needs.{needs}
 use Rattle.cue.proofs.put.Statement.{statement}
@@ -51,7 +51,7 @@ is-start-requires : tie.Need-is-start-requires
 is-start-requires c κs = search needs
 
 start-of-requires : tie.Need-start-of-requires
-start-of-requires c κs = search needs
+start-of-requires c κs = sym (c .before .is-start .ensures) ∙ c .if1 .taken
 
 mul-starts : tie.Need-mul-starts
 mul-starts c = search needs

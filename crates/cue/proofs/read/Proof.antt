@@ -1,5 +1,6 @@
 -- `cue::read`: a refusal comes before anything is written, and after `Done` the table is filled.
-use lib.ListN.{length}
+use native.Mathlib.Omega.{arith}
+use lib.ListN.{length, getD}
 use mathlib.Core.Path.{_≡_, refl, sym, ap, _∙_}
 use Rattle.ground.specs.Cases.{Said}
 use Rattle.cue.specs.declared.Cued.{Cued}
@@ -23,7 +24,10 @@ fill-requires : tie.Need-fill-requires
 fill-requires c κs =
     let f = c .before .before .before .before in
     let a = f .before .before .before .args in
-    accepted (a .sheet .now) (length (a .starts .now)) (sym (ap (λ (s : Said). s .number) (answered (f .survey .ensures) (c .before .before .answer .given .1)))) .fits
+    let said = answered (f .survey .ensures) (c .before .before .answer .given .1) in
+    let granted = accepted (a .sheet .now) (length (a .starts .now)) (sym (ap (λ (s : Said). s .number) said)) in
+    let count = ap (λ (s : Said). getD (s .values) 0 0) (said ∙ granted .said) in
+    (count, omega (arith, count, granted .fits))
 
 enum-told : tie.Need-enum-told
 enum-told c = search needs

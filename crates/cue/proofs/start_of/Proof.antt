@@ -1,19 +1,20 @@
 -- `cue::start_of`: minutes, seconds and frames.
-use Rattle.cue.specs.Sheet.{hundredths, startOf}
 use mathlib.Core.Path.{_∙_}
+use native.Mathlib.Omega.{arith}
+use Rattle.cue.specs.Sheet.{hundredths, startOf}
+use Rattle.cue.proofs.Form.{start-form, digits-9, digits-12, digits-15}
 use borrow.Author.Needs.{needs}
-use Rattle.cue.specs.Sheet.{startOf}
 use Rattle.cue.proofs.start_of.Statement.{statement}
 use Rattle.cue.proofs.start_of.Tie as tie
 
 number-at-requires : tie.Need-number-at-requires
-number-at-requires c κs = search needs
+number-at-requires c κs = let f = start-form _ (c .before .pre) in (omega (arith, f .long), digits-9 _ (f .time))
 
 number-at-requires-2 : tie.Need-number-at-requires-2
-number-at-requires-2 c κs = search needs
+number-at-requires-2 c κs = let f = start-form _ (c .before .before .pre) in (omega (arith, f .long), digits-12 _ (f .time))
 
 number-at-requires-3 : tie.Need-number-at-requires-3
-number-at-requires-3 c κs = search needs
+number-at-requires-3 c κs = let f = start-form _ (c .before .before .before .pre) in (omega (arith, f .long), digits-15 _ (f .time))
 
 hundredths-of-requires : tie.Need-hundredths-of-requires
 hundredths-of-requires c κs = search needs

@@ -22,7 +22,7 @@ behindOf sheet room =
     refuseIf (ltb room (length (startsOf (sheetLines sheet)))) 228 (granted (length (startsOf (sheetLines sheet)) ∷ []))
 
 abbrev Inv-loop : tie.InvT-loop
-Inv-loop sheet room at₀ number₀ count₀ last₀ at number count last = (at ≤ length sheet + 1) × (number ≤ at) × (count ≤ number) × Judging sheet (behindOf sheet room) at number count last
+Inv-loop sheet room at₀ number₀ count₀ last₀ at number count last = (at ≤ length sheet + 1) × (number ≤ at + 1) × (count + 1 ≤ number) × Judging sheet (behindOf sheet room) at number count last
 
 abbrev μ-loop : tie.MeasureT-loop
 μ-loop sheet room at₀ number₀ count₀ last₀ at number count last = length sheet + 1 - at
@@ -84,9 +84,6 @@ line-of-requires c κs = search needs
 weigh-requires : tie.Need-weigh-requires Inv-loop μ-loop
 weigh-requires c κs = search needs
 
-add-number : tie.Need-add-number Inv-loop μ-loop
-add-number c = search needs
-
 returns-2 : tie.Need-returns-2 Inv-loop μ-loop
 unfolding cueSaid
 returns-2 c = past _ (small (c .before .before .before .before .before .before .before .before)) (turn (c .before .before) .bad (c .if2 .taken))
@@ -94,6 +91,9 @@ returns-2 c = past _ (small (c .before .before .before .before .before .before .
 returns-3 : tie.Need-returns-3 Inv-loop μ-loop
 unfolding cueSaid
 returns-3 c = past _ (small (c .before .before .before .before .before .before .before .before .before .before)) (turn (c .before .before .before .before) .fallen (c .if3 .taken))
+
+add-number : tie.Need-add-number Inv-loop μ-loop
+add-number c = search needs
 
 loop-less : tie.Need-loop-less Inv-loop μ-loop
 loop-less c = omega (arith, c .before .before .before .before .before .before .before .line-at .ensures .onward)
@@ -133,9 +133,9 @@ survey-spec =
     part-line-of-end
     line-of-requires
     weigh-requires
-    add-number
     returns-2
     returns-3
+    add-number
     loop-less
     loop-again
     returns-4

@@ -1,0 +1,77 @@
+-- `ahead`, how many octets stand ahead of the first that passes a test, as loops find it. Assumes nothing.
+use mathlib.Core.Path.{_≡_, refl, sym, ap, _∙_}
+use mathlib.Core.Bool.{Bool, true, false, not}
+use mathlib.Core.List.{List, [], _∷_}
+use Prim.Native.Nat.{ℕ, zero, suc, _+_, _-_, _<_, _≤_, zero-le, suc-le-suc}
+use native.Mathlib.Nat.{zero-add}
+use native.Mathlib.Numerals.{add-one}
+use native.Mathlib.Omega.{arith}
+use borrow.Author.Tests.{not-false}
+use lib.Dec.{eqb}
+use lib.ListN.{length, getD, drop, drop-of-length-le, length-drop}
+use lib.Seq.{drop-cons, take-length}
+use Rattle.ground.specs.Cases.{pick}
+use Rattle.ground.specs.Lists.{part}
+use Rattle.cue.specs.Sheet.{space, unspaced}
+use Rattle.cue.specs.Scan.{ahead, aheadEnd, isNoSpace, Passes}
+
+module _ (test : ℕ → Bool) where
+  pub ahead-le : (s : List ℕ) → ahead test s ≤ length s
+  unfolding ahead
+  ahead-le [] = zero-le
+  ahead-le (x ∷ s) = by (test x) (ahead-le s)
+    where
+      by : (t : Bool) {n m : ℕ} → n ≤ m → pick t zero (suc n) ≤ suc m
+      by true h = zero-le
+      by false h = suc-le-suc h
+
+  module _ (s : List ℕ) (i : ℕ) where
+    step : i < length s → ahead test (drop i s) ≡ pick (test (getD s i 0)) zero (suc (ahead test (drop (i + 1) s)))
+    unfolding ahead
+    step h = rw (add-one, drop-cons s i 0)
+
+    -- an octet that passes
+    pub ahead-stops : i < length s → test (getD s i 0) ≡ true → i ≡ aheadEnd test s i
+    ahead-stops h e = omega (arith, rw e at (step h))
+
+    -- one that does not
+    pub ahead-goes : i < length s → test (getD s i 0) ≡ false → aheadEnd test s (i + 1) ≡ aheadEnd test s i
+    ahead-goes h e = omega (arith, rw e at (step h))
+
+    -- the end
+    pub ahead-ends : length s ≤ i → i ≡ aheadEnd test s i
+    unfolding ahead
+    ahead-ends h = rw (drop-of-length-le s h) (omega arith)
+
+  -- many that do not
+  pub ahead-past : (n : ℕ) (s : List ℕ) (i : ℕ) → i + n ≤ length s → ((j : ℕ) → j < n → test (getD s (i + j) 0) ≡ false) → aheadEnd test s (i + n) ≡ aheadEnd test s i
+  ahead-past zero s i h g = let e : i + 0 ≡ i = omega arith in rw e
+  ahead-past (suc n) s i h g =
+      let e : i + suc n ≡ i + n + 1 = omega arith in
+      rw e (ahead-goes s (i + n) (omega arith) (g n (omega arith)) ∙ ahead-past n s i (omega arith) (λ j k. g j (omega arith)))
+
+  -- a search from a place on: at first, one octet on, and as much further as another one went
+  module _ (s : List ℕ) (at : ℕ) where
+    pub passes-none : at ≤ length s → Passes test s at at
+    passes-none h = record { low = omega arith; high = h; same = refl }
+
+    pub passes-one : (i : ℕ) → i < length s → test (getD s i 0) ≡ false → Passes test s at i → Passes test s at (i + 1)
+    passes-one i h e p = record { low = omega (arith, p .low); high = omega arith; same = ahead-goes s i h e ∙ p .same }
+
+    pub passes-more : (i to : ℕ) → Passes test s at i → Passes test s i to → Passes test s at to
+    passes-more i to p q = record { low = omega (arith, p .low, q .low); high = q .high; same = q .same ∙ p .same }
+
+-- without its leading spaces
+unspaced-is : (s : List ℕ) → drop (ahead isNoSpace s) s ≡ unspaced s
+unfolding ahead unspaced
+unspaced-is [] = refl
+unspaced-is (x ∷ s) = by (eqb x space) (unspaced-is s)
+  where
+    by : (t : Bool) → drop (ahead isNoSpace s) s ≡ unspaced s → drop (pick (not t) zero (suc (ahead isNoSpace s))) (x ∷ s) ≡ pick t (unspaced s) (x ∷ s)
+    by true h = h
+    by false h = refl
+
+pub unspaced-part : (s : List ℕ) (n : ℕ) → n ≡ aheadEnd isNoSpace s 0 → part s n (length s) ≡ unspaced s
+unspaced-part s n e =
+    let rest : length s - n ≡ length (drop n s) = sym (length-drop n s) in
+    rw (rest, take-length) (rw (e, zero-add) (unspaced-is s))
