@@ -11,11 +11,21 @@ use Rattle.ground.specs.Cases.{pick, Said, granted, refused, refusedWith, refus
 use Rattle.cue.specs.declared.Line.{Line}
 use Rattle.cue.specs.declared.Line.the-variants.{Start, Passed, NotUnderstood}
 use Rattle.cue.specs.Sheet.{mostSheet, sheetLines, startsOf, mayFollow, judged, cueSaid}
+use Rattle.cue.specs.Scan.{AllUnderstood}
 
 -- each start may follow those before it, of which the last stands first
 abbrev Follow : List ℕ → List ℕ → Type 0
 Follow before [] = Unit
 Follow before (n ∷ starts) = (mayFollow before n ≡ true) × Follow (n ∷ before) starts
+
+-- told apart by a number
+understood : Line → ℕ
+understood (Start n) = 0
+understood Passed = 0
+understood NotUnderstood = 1
+
+no : _≡_ {A = ℕ} 0 1 → ⊥
+no e = omega arith
 
 -- a sheet whose lines are granted
 judged-granted : (number : ℕ) (before : List ℕ) (ls : List Line) (behind : Said) → judged number before ls behind .number ≡ 0
@@ -31,6 +41,19 @@ judged-granted number before (Start n ∷ ls) behind e = by (mayFollow before n)
         → (pick t (judged (suc number) (n ∷ before) ls behind) (refusedWith 227 (number ∷ [])) ≡ behind) × ((mayFollow before n ≡ true) × Follow (n ∷ before) (startsOf ls))
     by true m g k = (k g .0, (m, k g .1))
     by false m g k = absurd (omega arith)
+
+-- and its lines are understood
+judged-understood : (number : ℕ) (before : List ℕ) (ls : List Line) (behind : Said) → judged number before ls behind .number ≡ 0 → AllUnderstood ls
+unfolding judged understood
+judged-understood number before [] behind e = tt
+judged-understood number before (Passed ∷ ls) behind e = ((λ q. no (λ i. understood (q i))), judged-understood (suc number) before ls behind e)
+judged-understood number before (NotUnderstood ∷ ls) behind e = absurd (omega arith)
+judged-understood number before (Start n ∷ ls) behind e = ((λ q. no (λ i. understood (q i))), by (mayFollow before n) e (judged-understood (suc number) (n ∷ before) ls behind))
+  where
+    by : (t : Bool) → pick t (judged (suc number) (n ∷ before) ls behind) (refusedWith 227 (number ∷ [])) .number ≡ 0
+        → (judged (suc number) (n ∷ before) ls behind .number ≡ 0 → AllUnderstood ls) → AllUnderstood ls
+    by true g k = k g
+    by false g k = absurd (omega arith)
 
 -- the first is 0, and each other lies above the one before
 pub record Rises (starts : List ℕ) : Type 0 where
@@ -53,6 +76,7 @@ pub record Accepted (sheet : List ℕ) (room : ℕ) : Type 0 where
   pub fits : length (startsOf (sheetLines sheet)) ≤ room
   pub said : cueSaid sheet room ≡ granted (length (startsOf (sheetLines sheet)) ∷ [])
   pub rises : Rises (startsOf (sheetLines sheet))
+  pub understood : AllUnderstood (sheetLines sheet)
 
 pub accepted : (sheet : List ℕ) (room : ℕ) → cueSaid sheet room .number ≡ 0 → Accepted sheet room
 unfolding cueSaid
@@ -73,4 +97,4 @@ accepted sheet room e = by (ltb mostSheet (length sheet)) refl e
     by false m g =
         let j = judged-granted 1 [] (sheetLines sheet) behind g in
         let k = last (ltb room (length starts)) refl (sym (ap (λ (s : Said). s .number) (j .0)) ∙ g) in
-        record { short = ltb-false _ _ m; fits = k .0; said = rw m (j .0 ∙ k .1); rises = rising starts (j .1) }
+        record { short = ltb-false _ _ m; fits = k .0; said = rw m (j .0 ∙ k .1); rises = rising starts (j .1); understood = judged-understood 1 [] (sheetLines sheet) behind g }

@@ -6,7 +6,7 @@ use Prim.Native.Nat.{ℕ, zero, suc, _+_, _-_, _<_, _≤_, zero-le, suc-le-suc}
 use native.Mathlib.Nat.{zero-add}
 use native.Mathlib.Numerals.{add-one}
 use native.Mathlib.Omega.{arith}
-use borrow.Author.Tests.{not-false}
+use borrow.Author.Tests.{ne-eqb, not-false}
 use lib.Dec.{eqb}
 use lib.ListN.{length, getD, drop, drop-of-length-le, length-drop}
 use lib.Seq.{drop-cons, take-length}
@@ -61,6 +61,28 @@ module _ (test : ℕ → Bool) where
     pub passes-more : (i to : ℕ) → Passes test s at i → Passes test s i to → Passes test s at to
     passes-more i to p q = record { low = omega (arith, p .low, q .low); high = q .high; same = q .same ∙ p .same }
 
+  -- what stands ahead does not pass
+  pub ahead-none : (s : List ℕ) (j : ℕ) → j < ahead test s → test (getD s j 0) ≡ false
+  unfolding ahead
+  ahead-none [] j h = absurd (omega arith)
+  ahead-none (x ∷ s) j h = by (test x) refl (ahead-none s) j h
+    where
+      by : (t : Bool) → test x ≡ t → ((k : ℕ) → k < ahead test s → test (getD s k 0) ≡ false) → (k : ℕ) → k < pick t zero (suc (ahead test s)) → test (getD (x ∷ s) k 0) ≡ false
+      by true e f k h = absurd (omega arith)
+      by false e f zero h = e
+      by false e f (suc k) h = f k (omega arith)
+
+  -- and what stands behind them does
+  pub ahead-found : (s : List ℕ) → ahead test s < length s → test (getD s (ahead test s) 0) ≡ true
+  unfolding ahead
+  ahead-found [] h = absurd (omega arith)
+  ahead-found (x ∷ s) h = by (test x) refl (ahead-found s) h
+    where
+      by : (t : Bool) → test x ≡ t → (ahead test s < length s → test (getD s (ahead test s) 0) ≡ true)
+          → pick t zero (suc (ahead test s)) < suc (length s) → test (getD (x ∷ s) (pick t zero (suc (ahead test s))) 0) ≡ true
+      by true e f k = e
+      by false e f k = f (omega arith)
+
 -- without its leading spaces
 unspaced-is : (s : List ℕ) → drop (ahead isNoSpace s) s ≡ unspaced s
 unfolding ahead unspaced
@@ -75,3 +97,9 @@ pub unspaced-part : (s : List ℕ) (n : ℕ) → n ≡ aheadEnd isNoSpace s 0 �
 unspaced-part s n e =
     let rest : length s - n ≡ length (drop n s) = sym (length-drop n s) in
     rw (rest, take-length) (rw (e, zero-add) (unspaced-is s))
+
+-- a line that begins with none
+pub unspaced-same : (s : List ℕ) → (getD s 0 0 ≡ space → ⊥) → unspaced s ≡ s
+unfolding unspaced
+unspaced-same [] h = refl
+unspaced-same (x ∷ s) h = rw (ne-eqb _ _ h)

@@ -4,10 +4,12 @@ use mathlib.Core.Bool.{Bool, true, false, _&&_}
 use mathlib.Core.List.{List, [], _∷_}
 use Prim.Native.Nat.{ℕ, zero, suc, _+_, _<_, _≤_}
 use native.Mathlib.Omega.{arith}
-use borrow.Author.Tests.{eqb-true, leb-true, eq-eqb}
+use borrow.Author.Tests.{eqb-true, leb-true, eq-eqb, le-leb}
 use lib.Dec.{eqb, leb}
 use lib.ListN.{length, getD}
-use Rattle.ground.proofs.Cases.{and-left, and-right, and-both, and-fails}
+use Rattle.ground.proofs.Cases.{and-left, and-right, and-both, and-fails, clash}
+use Rattle.ground.specs.Lists.{allBelow}
+use Rattle.ground.proofs.Bounded.{all-at, all-intro}
 use Rattle.cue.specs.Sheet.{octets, begins, isDigit, digitsAt, numberAt, colonAt, isStart, isOtherIndex}
 
 -- the five tests of the time's form
@@ -34,6 +36,12 @@ module _ (line : List ℕ) (e : timeForm line ≡ true) where
 
   pub digits-9 : digitsAt line 9 ≡ true
   digits-9 = and-left _ (colonAt line 11) (and-left _ (digitsAt line 12) three)
+
+  pub colon-14 : colonAt line 14 ≡ true
+  colon-14 = and-right (digitsAt line 9 && colonAt line 11 && digitsAt line 12) _ four
+
+  pub colon-11 : colonAt line 11 ≡ true
+  colon-11 = and-right (digitsAt line 9) _ (and-left _ (digitsAt line 12) three)
 
 -- a line of this form
 pub record StartForm (line : List ℕ) : Type 0 where
@@ -84,3 +92,47 @@ unfolding isOtherIndex digitsAt
 short-index line h =
     let digits : (isDigit (getD line 6 0) && isDigit (getD line 7 0)) ≡ false = and-fails (isDigit (getD line 6 0)) (ap isDigit (beyond line 7 (omega arith))) in
     rw (and-fails (begins (octets "INDEX ") line) digits)
+
+-- what a word at the front tells of each of its places
+pub begins-at : (word line : List ℕ) → begins word line ≡ true → (j : ℕ) → j < length word → getD line j 0 ≡ getD word j 0
+unfolding begins
+begins-at [] line e j h = absurd (omega arith)
+begins-at (w ∷ word) [] e j h = clash e
+begins-at (w ∷ word) (x ∷ line) e zero h = eqb-true x w (and-left (eqb x w) (begins word line) e)
+begins-at (w ∷ word) (x ∷ line) e (suc j) h = begins-at word line (and-right (eqb x w) (begins word line) e) j (omega arith)
+
+-- no octet of such a line lies below the space, so none is an LF or a CR
+module _ (line : List ℕ) (f : StartForm line) where
+  letter : (j : ℕ) → j < 9 → leb 32 (getD line j 0) ≡ true
+  unfolding allBelow
+  letter j h = rw (begins-at (octets "INDEX 01 ") line (f .word) j h) (all-at (λ k. leb 32 (getD (octets "INDEX 01 ") k 0)) 9 refl j h)
+
+  figure : (at : ℕ) → digitsAt line at ≡ true → (leb 32 (getD line at 0) ≡ true) × (leb 32 (getD line (at + 1) 0) ≡ true)
+  unfolding digitsAt
+  figure at e = (visible (getD line at 0) (and-left (isDigit (getD line at 0)) (isDigit (getD line (at + 1) 0)) e), visible (getD line (at + 1) 0) (and-right (isDigit (getD line at 0)) (isDigit (getD line (at + 1) 0)) e))
+    where
+      visible : (x : ℕ) → isDigit x ≡ true → leb 32 x ≡ true
+      visible x d = le-leb 32 x (omega (arith, leb-true 48 x (and-left (leb 48 x) (leb x 57) d)))
+
+  colon : (at : ℕ) → colonAt line at ≡ true → leb 32 (getD line at 0) ≡ true
+  colon at e = le-leb 32 (getD line at 0) (omega (arith, eqb-true (getD line at 0) 0x3A e))
+
+  pub start-octets : (j : ℕ) → j < 17 → 32 ≤ getD line j 0
+  unfolding allBelow
+  start-octets j h = leb-true 32 _ (all-at (λ k. leb 32 (getD line k 0)) 17 every j h)
+    where
+      a : (leb 32 (getD line 9 0) ≡ true) × (leb 32 (getD line 10 0) ≡ true)
+      a = figure 9 (digits-9 line (f .time))
+
+      b : (leb 32 (getD line 12 0) ≡ true) × (leb 32 (getD line 13 0) ≡ true)
+      b = figure 12 (digits-12 line (f .time))
+
+      c : (leb 32 (getD line 15 0) ≡ true) × (leb 32 (getD line 16 0) ≡ true)
+      c = figure 15 (digits-15 line (f .time))
+
+      nine : allBelow 9 (λ k. leb 32 (getD line k 0)) ≡ true
+      nine = all-intro _ 9 letter
+
+      every : allBelow 17 (λ k. leb 32 (getD line k 0)) ≡ true
+      every =
+          and-both (and-both (and-both (and-both (and-both (and-both (and-both (and-both nine (a .0)) (a .1)) (colon 11 (colon-11 line (f .time)))) (b .0)) (b .1)) (colon 14 (colon-14 line (f .time)))) (c .0)) (c .1)

@@ -76,13 +76,13 @@ module _ (sheet : List ℕ) (behind : Said) where
     all-counted = sym (add-zero count) ∙ sym (ap (λ (ls : List (List ℕ)). count + length (startsOf (map lineOf ls))) (from-beyond sheet at h)) ∙ J .total
 
   -- one line
-  module _ (at number count last : ℕ) (J : Judging sheet behind at number count last) (l : List ℕ) (next : ℕ) (cut : linesFrom sheet at ≡ l ∷ linesFrom sheet next) (line : Line) (m : line ≡ lineOf l) where
+  module _ (at number count last : ℕ) (J : Judging sheet behind at number count last) (line : Line) (next : ℕ) (gives : map lineOf (linesFrom sheet at) ≡ line ∷ map lineOf (linesFrom sheet next)) where
     rest : List Line
     rest = map lineOf (linesFrom sheet next)
 
     split : map lineOf (linesFrom sheet at) ≡ line ∷ rest
     unfolding rest
-    split = ap (map lineOf) cut ∙ (λ i. sym m i ∷ map lineOf (linesFrom sheet next))
+    split = gives
 
     judged-here : judged number (J .before) (line ∷ rest) behind ≡ judged 1 [] (sheetLines sheet) behind
     judged-here = sym (ap (λ (ls : List Line). judged number (J .before) ls behind) split) ∙ J .left

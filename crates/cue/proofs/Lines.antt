@@ -2,7 +2,7 @@
 -- Assumes nothing.
 use mathlib.Core.Path.{_≡_, refl, sym, ap, _∙_}
 use mathlib.Core.Bool.{Bool, true, false, not, _&&_}
-use mathlib.Core.List.{List, [], _∷_, _++_}
+use mathlib.Core.List.{List, [], _∷_, _++_, map}
 use Prim.Native.Nat.{ℕ, zero, suc, _+_, _-_, _<_, _≤_, zero-le}
 use native.Mathlib.Numerals.{add-one}
 use native.Mathlib.Omega.{arith}
@@ -13,9 +13,9 @@ use lib.Seq.{drop-cons, drop-drop, getD-drop, getD-take, take-length, take-take}
 use Rattle.ground.specs.Cases.{pick}
 use Rattle.ground.specs.Lists.{part}
 use Rattle.ground.proofs.Cases.{and-fails, clash, past, here}
-use Rattle.cue.specs.Sheet.{lf, cr, onto, lines}
+use Rattle.cue.specs.Sheet.{lf, cr, space, onto, lines, unspaced, lineOf}
 use Rattle.cue.specs.Scan.{ahead, isLf, linesFrom, CutAt}
-use Rattle.cue.proofs.Ahead.{ahead-le}
+use Rattle.cue.proofs.Ahead.{ahead-le, ahead-found}
 
 -- no octet is an LF
 abbrev NoLf : List ℕ → Type 0
@@ -78,14 +78,7 @@ no-lf-before (x ∷ s) = by (eqb x lf) refl (no-lf-before s)
     by false e k = (e, k)
 
 lf-behind : (s : List ℕ) → ahead isLf s < length s → getD s (ahead isLf s) 0 ≡ lf
-unfolding ahead
-lf-behind [] h = omega arith
-lf-behind (x ∷ s) h = by (eqb x lf) refl (lf-behind s) h
-  where
-    by : (t : Bool) → eqb x lf ≡ t → (ahead isLf s < length s → getD s (ahead isLf s) 0 ≡ lf)
-        → pick t zero (suc (ahead isLf s)) < suc (length s) → getD (x ∷ s) (pick t zero (suc (ahead isLf s))) 0 ≡ lf
-    by true e f k = eqb-true x lf e
-    by false e f k = f (omega arith)
+lf-behind s h = eqb-true _ _ (ahead-found isLf s h)
 
 -- the lines from the front, and from behind the end
 pub from-zero : (sheet : List ℕ) → linesFrom sheet 0 ≡ lines sheet
@@ -186,3 +179,45 @@ part-length sheet a e h = simp (length-take, length-drop) (omega arith)
 
 pub part-at : (sheet : List ℕ) (a e j : ℕ) → j < e - a → getD (part sheet a e) j 0 ≡ getD sheet (a + j) 0
 part-at sheet a e j h = getD-take (e - a) (drop a sheet) j 0 h ∙ getD-drop a sheet j 0
+
+-- there is always a line
+some-line : (s : List ℕ) → 0 < length (lines s)
+unfolding lines
+some-line [] = omega arith
+some-line (x ∷ s) = by (eqb x lf) (eqb x cr && eqb (getD s 0 0) lf) (some-line s)
+  where
+    long : (ls : List (List ℕ)) → 0 < length (onto x ls)
+    long [] = omega arith
+    long (l ∷ ls) = omega arith
+
+    by : (a b : Bool) → 0 < length (lines s) → 0 < length (pick a ([] ∷ lines s) (pick b (lines s) (onto x (lines s))))
+    by true b h = omega arith
+    by false true h = h
+    by false false h = long (lines s)
+
+-- a space at the front of a line changes nothing of what the line gives
+space-gives : (s : List ℕ) → map lineOf (lines (space ∷ s)) ≡ map lineOf (lines s)
+unfolding lineOf unspaced
+space-gives s = ap (map lineOf) (more space s refl refl) ∙ by (lines s) (some-line s)
+  where
+    by : (ls : List (List ℕ)) → 0 < length ls → map lineOf (onto space ls) ≡ map lineOf ls
+    by [] h = absurd (omega arith)
+    by (l ∷ ls) h = refl
+
+-- nor do many
+one-space : (sheet : List ℕ) (i : ℕ) → i < length sheet → getD sheet i 0 ≡ space → map lineOf (linesFrom sheet i) ≡ map lineOf (linesFrom sheet (i + 1))
+unfolding linesFrom
+one-space sheet i k q =
+    let e : drop i sheet ≡ space ∷ drop (i + 1) sheet = rw (add-one, drop-cons sheet i 0, q) in
+    rw (le-leb i (length sheet) (omega arith), le-leb (i + 1) (length sheet) (omega arith)) (ap (λ (l : List ℕ). map lineOf (lines l)) e ∙ space-gives (drop (i + 1) sheet))
+
+pub spaces-give : (n : ℕ) (sheet : List ℕ) (at : ℕ) → at + n ≤ length sheet → ((j : ℕ) → j < n → getD sheet (at + j) 0 ≡ space)
+    → map lineOf (linesFrom sheet at) ≡ map lineOf (linesFrom sheet (at + n))
+spaces-give zero sheet at h g = let e : at + 0 ≡ at = omega arith in rw e
+spaces-give (suc n) sheet at h g =
+    let e : at + suc n ≡ at + n + 1 = omega arith in
+    rw e (spaces-give n sheet at (omega arith) (λ j k. g j (omega arith)) ∙ one-space sheet (at + n) (omega arith) (g n (omega arith)))
+
+-- the LF that a search from a place on finds
+pub lf-place : (sheet : List ℕ) (at : ℕ) → at + ahead isLf (drop at sheet) < length sheet → getD sheet (at + ahead isLf (drop at sheet)) 0 ≡ lf
+lf-place sheet at h = sym (getD-drop at sheet (ahead isLf (drop at sheet)) 0) ∙ lf-behind (drop at sheet) (omega (arith, length-drop at sheet))

@@ -1,17 +1,17 @@
 -- What the functions that go along a sheet find. Laws (`proofs/`) say what it has to do with the sheet's lines.
 -- Assumes nothing.
 use mathlib.Core.Path.{_≡_}
-use mathlib.Core.Bool.{Bool, true, false, not}
-use mathlib.Core.List.{List, [], _∷_}
-use Prim.Native.Nat.{ℕ, zero, suc, _+_, _<_, _≤_}
+use mathlib.Core.Bool.{Bool, true, false, not, _&&_}
+use mathlib.Core.List.{List, [], _∷_, map}
+use Prim.Native.Nat.{ℕ, zero, suc, _+_, _-_, _<_, _≤_}
 use lib.Dec.{eqb, leb}
-use lib.ListN.{length, drop}
+use lib.ListN.{length, getD, drop}
 use Rattle.ground.specs.Cases.{pick}
 use Rattle.ground.specs.Lists.{part}
 use Rattle.cue.specs.declared.Line.{Line}
 use Rattle.cue.specs.declared.Line.the-variants.{Start, Passed, NotUnderstood}
 use Rattle.cue.specs.declared.Weighed.{Weighed}
-use Rattle.cue.specs.Sheet.{lf, space, lines, mayFollow}
+use Rattle.cue.specs.Sheet.{lf, space, lines, isStart, lineOf, mayFollow}
 
 -- how many octets stand ahead of the first that passes the test
 unfoldable pub ahead : (ℕ → Bool) → List ℕ → ℕ
@@ -50,6 +50,27 @@ pub record CutAt (sheet : List ℕ) (at end next : ℕ) : Type 0 where
   pub onward : at < next
   pub bound : next ≤ length sheet + 1
   pub cut : linesFrom sheet at ≡ part sheet at end ∷ linesFrom sheet next
+
+-- the line that starts at a place is `INDEX 01 mm:ss:ff` and nothing else, and the line behind it starts at `next`
+pub record StartLine (sheet : List ℕ) (at next : ℕ) : Type 0 where
+  pub fits : at + 17 ≤ length sheet
+  pub form : isStart (part sheet at (at + 17)) ≡ true
+  pub cut : CutAt sheet at (at + 17) next
+
+-- what the line that starts at a place gives, and where the line behind it starts
+pub record ReadAt (sheet : List ℕ) (at : ℕ) (line : Line) (next : ℕ) : Type 0 where
+  pub onward : at < next
+  pub bound : next ≤ length sheet + 1
+  pub gives : map lineOf (linesFrom sheet at) ≡ line ∷ map lineOf (linesFrom sheet next)
+
+-- lines that are understood; and three octets that tell of such a line, where 17 are left, whether it is a start
+abbrev pub AllUnderstood : List Line → Type 0
+AllUnderstood [] = Unit
+AllUnderstood (line ∷ more) = (line ≡ NotUnderstood → ⊥) × AllUnderstood more
+
+unfoldable pub looksStart : List ℕ → ℕ → Bool
+looksStart sheet at =
+    leb 17 (length sheet - at) && eqb (getD sheet at 0) 0x49 && eqb (getD sheet (at + 6) 0) 0x30 && eqb (getD sheet (at + 7) 0) 0x31
 
 -- whether a start may follow `count` others, of which the last is `last`
 abbrev pub rises : ℕ → ℕ → ℕ → Bool

@@ -1,13 +1,13 @@
 // Cue sheets: the segment starts of one track, out of a sheet's octets (document 02, W-212). A sheet is gone through twice, so that a refusal has written nothing.
 ghost use mathlib.Core.Path.{_≡_};
 ghost use mathlib.Core.Bool.{true, not};
-ghost use mathlib.Core.List.{[], _∷_};
+ghost use mathlib.Core.List.{[], _∷_, map};
 ghost use Prim.Native.Nat.{_+_, _-_, _<_, _≤_};
 ghost use lib.ListN.{length, getD};
 ghost use lib.Seq.{paste};
 ghost use Rattle.ground.specs.Lists.{filled, tableAfter, allBelow};
 ghost use Rattle.cue.specs.Sheet.{begins, isDigit, digitsAt, numberAt, hundredths, isStart, startOf, isOtherIndex, isPassed, lineOf, sheetLines, startsOf, cueSaid, saidOf};
-ghost use Rattle.cue.specs.Scan.{isIt, isLf, isNoSpace, aheadEnd, Passes, CutAt, rises, weighedOf};
+ghost use Rattle.cue.specs.Scan.{isIt, isLf, isNoSpace, aheadEnd, Passes, CutAt, StartLine, linesFrom, ReadAt, looksStart, AllUnderstood, rises, weighedOf};
 
 // What a line gives.
 pub enum Line {
@@ -32,6 +32,12 @@ pub enum Cued {
 // Where the octets of a line end, and where the next line starts.
 struct Cut {
     end: usize,
+    next: usize,
+}
+
+// What the line at a place gives, and where the next line starts.
+struct LineRead {
+    line: Line,
     next: usize,
 }
 
@@ -303,6 +309,94 @@ fn line_of(line: &[u8]) -> Line
     Line::NotUnderstood
 }
 
+// Where the next line starts, if the line at a place is `INDEX 01 mm:ss:ff` with nothing before it; else 0. No LF is searched for.
+fn start_line(sheet: &[u8], at: usize) -> usize
+    requires { ⌜ at ≤ length (now sheet) ⌝ }
+    ensures { λ r. ⌜ (0 < r → StartLine (now (sheet .entry)) at r) ⌝ }
+{
+    if sheet.len() - at < 17 {
+        return 0;
+    }
+    let end = at + 17;
+    if !is_start(&sheet[at..end]) {
+        return 0;
+    }
+    if end == sheet.len() {
+        return end + 1;
+    }
+    if sheet[end] == LF {
+        return end + 1;
+    }
+    if sheet[end] != CR {
+        return 0;
+    }
+    if sheet.len() - end < 2 {
+        return 0;
+    }
+    if sheet[end + 1] == LF {
+        return end + 2;
+    }
+    0
+}
+
+// The line at a place.
+fn read_line(sheet: &[u8], at: usize) -> LineRead
+    requires { ⌜ at ≤ length (now sheet) ⌝ }
+    ensures { λ r. ⌜ ReadAt (now (sheet .entry)) at (r .line) (r .next) ⌝ }
+{
+    let from = first_from(sheet, at, SPACE, false);
+    let next = start_line(sheet, from);
+    if next != 0 {
+        let end = from + 17;
+        let line = Line::Start(start_of(&sheet[from..end]));
+        return LineRead {
+            line: line,
+            next: next,
+        };
+    }
+    let cut = line_at(sheet, from);
+    let end = cut.end;
+    let line = line_of(&sheet[from..end]);
+    LineRead {
+        line: line,
+        next: cut.next,
+    }
+}
+
+// Whether a line that is understood and begins at a place is a start: three octets tell.
+fn looks_start(sheet: &[u8], at: usize) -> bool
+    requires { ⌜ at ≤ length (now sheet) ⌝ }
+    ensures { λ r. ⌜ r ≡ looksStart (now (sheet .entry)) at ⌝ }
+{
+    if sheet.len() - at < 17 {
+        return false;
+    }
+    (sheet[at] == b'I') & (sheet[at + 6] == b'0') & (sheet[at + 7] == b'1')
+}
+
+// The line at a place of a sheet whose lines are understood.
+fn skim_line(sheet: &[u8], at: usize) -> LineRead
+    requires { ⌜ at ≤ length (now sheet) ⌝ }
+    requires { ⌜ AllUnderstood (map lineOf (linesFrom (now sheet) at)) ⌝ }
+    ensures { λ r. ⌜ ReadAt (now (sheet .entry)) at (r .line) (r .next) ⌝ }
+{
+    let from = first_from(sheet, at, SPACE, false);
+    if looks_start(sheet, from) {
+        let end = from + 17;
+        let line = Line::Start(start_of(&sheet[from..end]));
+        let lf = first_from(sheet, end, LF, true);
+        return LineRead {
+            line: line,
+            next: lf + 1,
+        };
+    }
+    let lf = lf_from(sheet, from);
+    LineRead {
+        line: Line::Passed,
+        next: lf + 1,
+    }
+}
+
 // Whether a start may follow the others.
 fn may_follow(count: usize, last: u32, start: u32) -> bool
     ensures { λ r. ⌜ r ≡ rises count last start ⌝ }
@@ -361,9 +455,8 @@ fn survey(sheet: &[u8], room: usize) -> Cued
     let mut count: usize = 0;
     let mut last: u32 = 0;
     while at <= sheet.len() {
-        let cut = line_at(sheet, at);
-        let end = cut.end;
-        let line = line_of(&sheet[at..end]);
+        let read = read_line(sheet, at);
+        let line = read.line;
         let w = weigh(line, count, last);
         if w.fault == 1 {
             return Cued::BadLine(number);
@@ -373,7 +466,7 @@ fn survey(sheet: &[u8], room: usize) -> Cued
         }
         count = w.count;
         last = w.last;
-        at = cut.next;
+        at = read.next;
         number += 1;
     }
     if room < count {
@@ -383,33 +476,35 @@ fn survey(sheet: &[u8], room: usize) -> Cued
 }
 
 // Writes the start that a line gives, if it gives one, over the place n; and says which place is then the next.
-fn put(starts: &mut [u32], n: usize, line: &[u8]) -> usize
-    requires { ⌜ n + length (startsOf (lineOf (now line) ∷ [])) ≤ length (now starts) ⌝ }
-    ensures { λ r. ⌜ r ≡ n + length (startsOf (lineOf (now (line .entry)) ∷ [])) ⌝ }
-    ensures { λ _. ⌜ now (starts .exit) ≡ paste (now (starts .entry)) n (startsOf (lineOf (now (line .entry)) ∷ [])) (length (startsOf (lineOf (now (line .entry)) ∷ []))) ⌝ }
+fn put(starts: &mut [u32], n: usize, line: Line) -> usize
+    requires { ⌜ n + length (startsOf (line ∷ [])) ≤ length (now starts) ⌝ }
+    ensures { λ r. ⌜ r ≡ n + length (startsOf (line ∷ [])) ⌝ }
+    ensures { λ _. ⌜ now (starts .exit) ≡ paste (now (starts .entry)) n (startsOf (line ∷ [])) (length (startsOf (line ∷ []))) ⌝ }
 {
-    let from = spaces(line);
-    let unspaced = &line[from..];
-    if is_start(unspaced) {
-        starts[n] = start_of(unspaced);
-        return n + 1;
+    match line {
+        Line::Start(start) => {
+            starts[n] = start;
+            n + 1
+        }
+        Line::Passed => n,
+        Line::NotUnderstood => n,
     }
-    n
 }
 
 // Fills the front of the table with a sheet's starts, and goes no further than the last of them.
 fn fill(sheet: &[u8], starts: &mut [u32], count: usize)
     requires { ⌜ count ≡ length (startsOf (sheetLines (now sheet))) ⌝ }
     requires { ⌜ count ≤ length (now starts) ⌝ }
+    requires { ⌜ AllUnderstood (sheetLines (now sheet)) ⌝ }
     ensures { λ _. ⌜ now (starts .exit) ≡ filled (startsOf (sheetLines (now (sheet .entry)))) (now (starts .entry)) ⌝ }
 {
     let mut at: usize = 0;
     let mut n: usize = 0;
     while n < count {
-        let cut = line_at(sheet, at);
-        let end = cut.end;
-        n = put(starts, n, &sheet[at..end]);
-        at = cut.next;
+        let read = skim_line(sheet, at);
+        let line = read.line;
+        n = put(starts, n, line);
+        at = read.next;
     }
 }
 

@@ -7,10 +7,9 @@ use mathlib.Core.Logic.{⊎-elim}
 use lib.ListN.{length, take, length-append}
 use lib.Seq.{take-length, length-take-le}
 use Rattle.ground.proofs.Cases.{le-or}
-use Rattle.ground.specs.Lists.{part}
 use Rattle.ground.proofs.Filling.{Filling, filling-starts, filling-ends, filling-room, filling-goes}
 use Rattle.cue.specs.Sheet.{lineOf, sheetLines, startsOf}
-use Rattle.cue.specs.Scan.{linesFrom}
+use Rattle.cue.specs.Scan.{linesFrom, AllUnderstood}
 use Rattle.cue.proofs.Lines.{from-zero, from-beyond}
 use Rattle.cue.proofs.Meaning.{starts-split}
 use borrow.Author.Needs.{needs}
@@ -18,7 +17,8 @@ use Rattle.cue.proofs.fill.Statement.{statement}
 use Rattle.cue.proofs.fill.Tie as tie
 
 abbrev Inv-loop : tie.InvT-loop
-Inv-loop sheet starts₀ count at₀ n₀ starts at n = (at ≤ length sheet + 1) × Filling (startsOf (sheetLines sheet)) (startsOf (map lineOf (linesFrom sheet at))) starts₀ starts n
+Inv-loop sheet starts₀ count at₀ n₀ starts at n =
+    (at ≤ length sheet + 1) × Filling (startsOf (sheetLines sheet)) (startsOf (map lineOf (linesFrom sheet at))) starts₀ starts n × AllUnderstood (map lineOf (linesFrom sheet at))
 
 abbrev μ-loop : tie.MeasureT-loop
 μ-loop sheet starts₀ count at₀ n₀ starts at n = length sheet + 1 - at
@@ -47,54 +47,48 @@ within c =
     (le-or (l .loop .at) (length sheet))
 
 -- the starts of the line in hand, and those that are left behind it
-abbrev own : tie.After-line-at Inv-loop μ-loop → List ℕ
-own c =
-    let l = c .before .before in
-    startsOf (lineOf (part (l .before .before .before .args .sheet .now) (l .loop .at) (c .line-at .result .end)) ∷ [])
+abbrev own : tie.After-skim-line Inv-loop μ-loop → List ℕ
+own c = startsOf (c .skim-line .result .line ∷ [])
 
-abbrev behind : tie.After-line-at Inv-loop μ-loop → List ℕ
-behind c = startsOf (map lineOf (linesFrom (c .before .before .before .before .before .args .sheet .now) (c .line-at .result .next)))
+abbrev behind : tie.After-skim-line Inv-loop μ-loop → List ℕ
+behind c = startsOf (map lineOf (linesFrom (c .before .before .before .before .before .args .sheet .now) (c .skim-line .result .next)))
 
-next : (c : tie.After-line-at Inv-loop μ-loop)
+next : (c : tie.After-skim-line Inv-loop μ-loop)
     → let l = c .before .before in
     startsOf (map lineOf (linesFrom (l .before .before .before .args .sheet .now) (l .loop .at))) ≡ own c ++ behind c
-next c = ap (λ (ls : List (List ℕ)). startsOf (map lineOf ls)) (c .line-at .ensures .cut) ∙ starts-split _ _
+next c = ap startsOf (c .skim-line .ensures .gives) ∙ starts-split _ _
 
-fits : (c : tie.After-line-at Inv-loop μ-loop) → c .before .before .loop .n + length (own c) ≤ length (c .before .before .loop .starts)
+fits : (c : tie.After-skim-line Inv-loop μ-loop) → c .before .before .loop .n + length (own c) ≤ length (c .before .before .loop .starts)
 fits c =
     let l = c .before .before in
-    let a = l .before .before .before .args in
-    filling-room (startsOf (sheetLines (a .sheet .now))) (a .starts .now) _ (l .loop .starts) (l .loop .n) (l .loop .inv .1) (own c) (behind c) (next c) _ refl (omega (arith, l .before .before .before .pre .0, l .before .before .before .pre .1))
+    let s = l .before .before .before in
+    filling-room (startsOf (sheetLines (s .args .sheet .now))) (s .args .starts .now) _ (l .loop .starts) (l .loop .n) (l .loop .inv .1) (own c) (behind c) (next c) _ refl (omega (arith, s .pre .0, s .pre .1 .0))
 
 loop-holds : tie.Need-loop-holds Inv-loop μ-loop
-loop-holds c = let s = c .before .before .args .sheet .now in (search needs, filling-starts (startsOf (sheetLines s)) _ (ap (λ (ls : List (List ℕ)). startsOf (map lineOf ls)) (from-zero s)))
+loop-holds c =
+    let b = c .before .before in
+    let s = b .args .sheet .now in
+    let whole : map lineOf (linesFrom s 0) ≡ sheetLines s = ap (map lineOf) (from-zero s) in
+    (search needs, filling-starts (startsOf (sheetLines s)) _ (ap startsOf whole), rw whole (b .pre .1 .1))
 
-line-at-requires : tie.Need-line-at-requires Inv-loop μ-loop
-line-at-requires c κs = within c
-
-sub-put : tie.Need-sub-put Inv-loop μ-loop
-sub-put c = c .before .line-at .ensures .low
-
-part-put-start : tie.Need-part-put-start Inv-loop μ-loop
-part-put-start c = search needs
-
-part-put-end : tie.Need-part-put-end Inv-loop μ-loop
-part-put-end c = search needs
+skim-line-requires : tie.Need-skim-line-requires Inv-loop μ-loop
+skim-line-requires c κs = (within c, c .before .loop .inv .2)
 
 put-requires : tie.Need-put-requires Inv-loop μ-loop
-put-requires c κs = fits (c .before .before)
+put-requires c κs = fits (c .before)
 
 loop-less : tie.Need-loop-less Inv-loop μ-loop
-loop-less c = omega (arith, within (c .before .before .before .before .before .before), c .before .before .before .before .before .line-at .ensures .onward)
+loop-less c = omega (arith, within (c .before .before .before .before .before), c .before .before .before .before .skim-line .ensures .onward)
 
 loop-again : tie.Need-loop-again Inv-loop μ-loop
 loop-again c =
-    let f = c .before .before .before .before .before in
+    let f = c .before .before .before .before in
     let l = f .before .before in
     let a = l .before .before .before .args in
     let done = c .before .before .put .ensures in (
-      f .line-at .ensures .bound,
+      f .skim-line .ensures .bound,
       rw (done .0) (filling-goes (startsOf (sheetLines (a .sheet .now))) (a .starts .now) _ (l .loop .starts) (l .loop .n) (l .loop .inv .1) (own f) (behind f) (next f) _ refl _ (own f) (take-length (own f)) (fits f) (done .1)),
+      (rw (f .skim-line .ensures .gives) at (l .loop .inv .2)) .1,
     )
 
 same-length : tie.Need-same-length Inv-loop μ-loop
@@ -117,10 +111,7 @@ fill-spec =
     Inv-loop
     μ-loop
     loop-holds
-    line-at-requires
-    sub-put
-    part-put-start
-    part-put-end
+    skim-line-requires
     put-requires
     loop-less
     loop-again

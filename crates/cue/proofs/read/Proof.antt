@@ -27,7 +27,7 @@ fill-requires c κs =
     let said = answered (f .survey .ensures) (c .before .before .answer .given .1) in
     let granted = accepted (a .sheet .now) (length (a .starts .now)) (sym (ap (λ (s : Said). s .number) said)) in
     let count = ap (λ (s : Said). getD (s .values) 0 0) (said ∙ granted .said) in
-    (count, omega (arith, count, granted .fits))
+    (count, (omega (arith, count, granted .fits), granted .understood))
 
 enum-told : tie.Need-enum-told
 enum-told c = search needs

@@ -8,7 +8,6 @@ use borrow.Author.Tests.{lt-ltb, le-ltb}
 use lib.Dec.{ltb}
 use lib.ListN.{length}
 use Rattle.ground.specs.Cases.{Said, granted, refuseIf}
-use Rattle.ground.specs.Lists.{part}
 use Rattle.ground.proofs.Cases.{past, here}
 use Rattle.cue.specs.Sheet.{sheetLines, startsOf, judged, cueSaid}
 use Rattle.cue.proofs.Judging.{Judging, Turned, judging-starts, judging-ends, all-counted, turned}
@@ -47,17 +46,16 @@ end c =
 
 -- a line of the sheet
 turn : (w : tie.After-weigh Inv-loop μ-loop)
-    → let f = w .before .before .before in
+    → let f = w .before in
     let l = f .before .before in
     let a = l .before .before .before .args in
-    Turned (a .sheet .now) (behindOf (a .sheet .now) (a .room)) (l .loop .number) (l .loop .count) (f .line-at .result .next) (w .weigh .result)
+    Turned (a .sheet .now) (behindOf (a .sheet .now) (a .room)) (l .loop .number) (l .loop .count) (f .read-line .result .next) (w .weigh .result)
 turn w =
-    let f = w .before .before .before in
+    let f = w .before in
     let l = f .before .before in
     let a = l .before .before .before .args in
     turned (a .sheet .now) (behindOf (a .sheet .now) (a .room)) (l .loop .at) (l .loop .number) (l .loop .count) (l .loop .last) (l .loop .inv .3)
-    (part (a .sheet .now) (l .loop .at) (f .line-at .result .end)) (f .line-at .result .next) (f .line-at .ensures .cut)
-    (w .before .line-of .result) (w .before .line-of .ensures) (w .weigh .result) (w .weigh .ensures)
+    (f .read-line .result .line) (f .read-line .result .next) (f .read-line .ensures .gives) (w .weigh .result) (w .weigh .ensures)
 
 returns : tie.Need-returns Inv-loop μ-loop
 unfolding cueSaid
@@ -66,44 +64,32 @@ returns c = here _ (lt-ltb _ _ (c .if1 .taken)) refl
 loop-holds : tie.Need-loop-holds Inv-loop μ-loop
 loop-holds c = (search needs, search needs, search needs, judging-starts _ _)
 
-line-at-requires : tie.Need-line-at-requires Inv-loop μ-loop
-line-at-requires c κs = search needs
-
-sub-line-of : tie.Need-sub-line-of Inv-loop μ-loop
-sub-line-of c = c .line-at .ensures .low
-
-part-line-of-start : tie.Need-part-line-of-start Inv-loop μ-loop
-part-line-of-start c = search needs
-
-part-line-of-end : tie.Need-part-line-of-end Inv-loop μ-loop
-part-line-of-end c = search needs
-
-line-of-requires : tie.Need-line-of-requires Inv-loop μ-loop
-line-of-requires c κs = search needs
+read-line-requires : tie.Need-read-line-requires Inv-loop μ-loop
+read-line-requires c κs = search needs
 
 weigh-requires : tie.Need-weigh-requires Inv-loop μ-loop
 weigh-requires c κs = search needs
 
 returns-2 : tie.Need-returns-2 Inv-loop μ-loop
 unfolding cueSaid
-returns-2 c = past _ (small (c .before .before .before .before .before .before .before .before)) (turn (c .before .before) .bad (c .if2 .taken))
+returns-2 c = past _ (small (c .before .before .before .before .before .before)) (turn (c .before .before) .bad (c .if2 .taken))
 
 returns-3 : tie.Need-returns-3 Inv-loop μ-loop
 unfolding cueSaid
-returns-3 c = past _ (small (c .before .before .before .before .before .before .before .before .before .before)) (turn (c .before .before .before .before) .fallen (c .if3 .taken))
+returns-3 c = past _ (small (c .before .before .before .before .before .before .before .before)) (turn (c .before .before .before .before) .fallen (c .if3 .taken))
 
 add-number : tie.Need-add-number Inv-loop μ-loop
 add-number c = search needs
 
 loop-less : tie.Need-loop-less Inv-loop μ-loop
-loop-less c = omega (arith, c .before .before .before .before .before .before .before .line-at .ensures .onward)
+loop-less c = omega (arith, c .before .before .before .before .before .read-line .ensures .onward)
 
 loop-again : tie.Need-loop-again Inv-loop μ-loop
 loop-again c =
     let w = c .before .before .before .before in
     let t = turn w in
-    let cut = w .before .before .before .line-at .ensures in
-    (cut .bound, omega (arith, cut .onward), omega (arith, t .counts), t .goes (c .before .before .if2 .left) (c .if3 .left))
+    let r = w .before .read-line .ensures in
+    (r .bound, omega (arith, r .onward), omega (arith, t .counts), t .goes (c .before .before .if2 .left) (c .if3 .left))
 
 returns-4 : tie.Need-returns-4 Inv-loop μ-loop
 unfolding cueSaid
@@ -127,11 +113,7 @@ survey-spec =
     μ-loop
     returns
     loop-holds
-    line-at-requires
-    sub-line-of
-    part-line-of-start
-    part-line-of-end
-    line-of-requires
+    read-line-requires
     weigh-requires
     returns-2
     returns-3
