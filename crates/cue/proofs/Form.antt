@@ -101,6 +101,24 @@ begins-at (w ∷ word) [] e j h = clash e
 begins-at (w ∷ word) (x ∷ line) e zero h = eqb-true x w (and-left (eqb x w) (begins word line) e)
 begins-at (w ∷ word) (x ∷ line) e (suc j) h = begins-at word line (and-right (eqb x w) (begins word line) e) j (omega arith)
 
+begins-all : (word line : List ℕ) → length word ≤ length line → ((j : ℕ) → j < length word → getD line j 0 ≡ getD word j 0) → begins word line ≡ true
+unfolding begins
+begins-all [] line h g = refl
+begins-all (w ∷ word) [] h g = absurd (omega arith)
+begins-all (w ∷ word) (x ∷ line) h g = and-both (eq-eqb x w (g 0 (omega arith))) (begins-all word line (omega arith) (λ j k. g (suc j) (omega arith)))
+
+-- a word at the front, place by place
+pub begins-by-places : (word line : List ℕ) → length word ≤ length line → allBelow (length word) (λ j. eqb (getD line j 0) (getD word j 0)) ≡ begins word line
+begins-by-places word line h =
+    same _ _
+    (λ a. begins-all word line h (λ j k. eqb-true _ _ (all-at (λ i. eqb (getD line i 0) (getD word i 0)) (length word) a j k)))
+    (λ b. all-intro _ (length word) (λ j k. eq-eqb _ _ (begins-at word line b j k)))
+  where
+    same : (a b : Bool) → (a ≡ true → b ≡ true) → (b ≡ true → a ≡ true) → a ≡ b
+    same true b f g = sym (f refl)
+    same false true f g = g refl
+    same false false f g = refl
+
 -- no octet of such a line lies below the space, so none is an LF or a CR
 module _ (line : List ℕ) (f : StartForm line) where
   letter : (j : ℕ) → j < 9 → leb 32 (getD line j 0) ≡ true

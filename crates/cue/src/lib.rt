@@ -6,7 +6,7 @@ ghost use Prim.Native.Nat.{_+_, _-_, _<_, _≤_};
 ghost use lib.ListN.{length, getD};
 ghost use lib.Seq.{paste};
 ghost use Rattle.ground.specs.Lists.{filled, tableAfter, allBelow};
-ghost use Rattle.cue.specs.Sheet.{begins, isDigit, digitsAt, numberAt, hundredths, isStart, startOf, isOtherIndex, isPassed, lineOf, sheetLines, startsOf, cueSaid, saidOf};
+ghost use Rattle.cue.specs.Sheet.{octets, begins, isDigit, digitsAt, numberAt, hundredths, isStart, startOf, isOtherIndex, isPassed, lineOf, sheetLines, startsOf, cueSaid, saidOf};
 ghost use Rattle.cue.specs.Scan.{isIt, isLf, isNoSpace, aheadEnd, Passes, CutAt, StartLine, linesFrom, ReadAt, looksStart, AllUnderstood, rises, weighedOf};
 
 // What a line gives.
@@ -224,6 +224,19 @@ fn number_at(line: &[u8], at: usize) -> u32
     digit(line[at]) * 10 + digit(line[at + 1])
 }
 
+// Whether a line begins with `INDEX 01 `. Tests that are joined and not left early are one comparison of eight octets.
+fn is_index_01(line: &[u8]) -> bool
+    requires { ⌜ 17 ≤ length (now line) ⌝ }
+    ensures { λ r. ⌜ r ≡ begins (octets "INDEX 01 ") (now (line .entry)) ⌝ }
+{
+    let index = (line[0] == b'I')
+        & (line[1] == b'N')
+        & (line[2] == b'D')
+        & (line[3] == b'E')
+        & (line[4] == b'X');
+    index & (line[5] == b' ') & (line[6] == b'0') & (line[7] == b'1') & (line[8] == b' ')
+}
+
 // Whether a line is `INDEX 01 mm:ss:ff`.
 fn is_start(line: &[u8]) -> bool
     ensures { λ r. ⌜ r ≡ isStart (now (line .entry)) ⌝ }
@@ -231,7 +244,7 @@ fn is_start(line: &[u8]) -> bool
     if line.len() != 17 {
         return false;
     }
-    if !begins_with(line, b"INDEX 01 ") {
+    if !is_index_01(line) {
         return false;
     }
     let mm = digits_at(line, 9);

@@ -14,12 +14,12 @@ use Rattle.cue.proofs.is_start.Tie as tie
 
 -- length and word are right
 abbrev lineOf : tie.After-shared-slice-known3 → List ℕ
-lineOf c = c .before .before .before .before .before .before .before .before .before .before .args .line .now
+lineOf c = c .before .before .before .before .before .before .before .before .before .args .line .now
 
 by-form : (c : tie.After-shared-slice-known3) → isStart (lineOf c) ≡ (timeForm (lineOf c) && leb (numberAt (lineOf c) 12) 59 && leb (numberAt (lineOf c) 15) 74)
 by-form c =
     let b = c .before .before .before .before .before in
-    start-by (lineOf c) (b .before .before .before .if1 .left) (sym (b .before .begins-with .ensures) ∙ not-false _ (b .if2 .left))
+    start-by (lineOf c) (b .before .before .if1 .left) (sym (b .before .is-index-01 .ensures) ∙ not-false _ (b .if2 .left))
 
 -- the time's form, as the code asks it
 form : (c : tie.After-shared-slice-known3)
@@ -35,15 +35,12 @@ returns : tie.Need-returns
 unfolding isStart
 returns c = rw (ne-eqb _ _ (c .if1 .taken))
 
-slice-aggregate-begins-with : tie.Need-slice-aggregate-begins-with
-slice-aggregate-begins-with c = search needs
-
-begins-with-requires : tie.Need-begins-with-requires
-begins-with-requires c κs = search needs
+is-index-01-requires : tie.Need-is-index-01-requires
+is-index-01-requires c κs = search needs
 
 returns-2 : tie.Need-returns-2
 unfolding isStart
-returns-2 c = rw (eq-eqb _ _ (c .before .before .before .if1 .left), sym (c .before .begins-with .ensures) ∙ not-true _ (c .if2 .taken))
+returns-2 c = rw (eq-eqb _ _ (c .before .before .if1 .left), sym (c .before .is-index-01 .ensures) ∙ not-true _ (c .if2 .taken))
 
 digits-at-requires : tie.Need-digits-at-requires
 digits-at-requires c κs = search needs
@@ -79,8 +76,7 @@ is-start-spec =
     tie.close
     (tie.spec
     returns
-    slice-aggregate-begins-with
-    begins-with-requires
+    is-index-01-requires
     returns-2
     digits-at-requires
     digits-at-requires-2
