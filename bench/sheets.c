@@ -3,7 +3,7 @@
 #include <stdio.h>
 #include <string.h>
 
-const char *const SHEET_NAME[SHEETS] = {"728 tracks with titles", "3,640 lines INDEX 01", "REM lines of 200 octets",
+const char *const SHEET_NAME[SHEETS] = {"727 tracks with titles", "3,640 lines INDEX 01", "REM lines of 200 octets",
                                         "refused for its first line (226)"};
 
 /* mm:ss:ff of so many seconds and frames. */

@@ -5,9 +5,9 @@ use mathlib.Core.List.{List, [], _∷_}
 use Prim.Native.Nat.{ℕ, zero, suc, _+_, _<_, _≤_}
 use native.Mathlib.Omega.{arith}
 use borrow.Author.Tests.{ltb-true, ltb-false, eqb-true}
-use lib.Dec.{eqb, ltb}
+use lib.Dec.{ltb}
 use lib.ListN.{length, getD}
-use Rattle.ground.specs.Cases.{pick, Said, granted, refused, refusedWith, refuseIf}
+use Rattle.ground.specs.Cases.{pick, Said, granted, refusedWith, refuseIf}
 use Rattle.cue.specs.declared.Line.{Line}
 use Rattle.cue.specs.declared.Line.the-variants.{Start, Passed, NotUnderstood}
 use Rattle.cue.specs.Sheet.{mostSheet, sheetLines, startsOf, mayFollow, judged, cueSaid}

@@ -1,19 +1,16 @@
 -- `ahead`, how many octets stand ahead of the first that passes a test, as loops find it. Assumes nothing.
-use mathlib.Core.Path.{_≡_, refl, sym, ap, _∙_}
-use mathlib.Core.Bool.{Bool, true, false, not}
+use mathlib.Core.Path.{_≡_, refl, _∙_}
+use mathlib.Core.Bool.{Bool, true, false}
 use mathlib.Core.List.{List, [], _∷_}
 use Prim.Native.Nat.{ℕ, zero, suc, _+_, _-_, _<_, _≤_, zero-le, suc-le-suc}
-use native.Mathlib.Nat.{zero-add}
 use native.Mathlib.Numerals.{add-one}
 use native.Mathlib.Omega.{arith}
-use borrow.Author.Tests.{ne-eqb, not-false}
-use lib.Dec.{eqb}
-use lib.ListN.{length, getD, drop, drop-of-length-le, length-drop}
-use lib.Seq.{drop-cons, take-length}
+use borrow.Author.Tests.{ne-eqb}
+use lib.ListN.{length, getD, drop, drop-of-length-le}
+use lib.Seq.{drop-cons}
 use Rattle.ground.specs.Cases.{pick}
-use Rattle.ground.specs.Lists.{part}
 use Rattle.cue.specs.Sheet.{space, unspaced}
-use Rattle.cue.specs.Scan.{ahead, aheadEnd, isNoSpace, Passes}
+use Rattle.cue.specs.Scan.{ahead, aheadEnd, Passes}
 
 module _ (test : ℕ → Bool) where
   pub ahead-le : (s : List ℕ) → ahead test s ≤ length s
@@ -82,21 +79,6 @@ module _ (test : ℕ → Bool) where
           → pick t zero (suc (ahead test s)) < suc (length s) → test (getD (x ∷ s) (pick t zero (suc (ahead test s))) 0) ≡ true
       by true e f k = e
       by false e f k = f (omega arith)
-
--- without its leading spaces
-unspaced-is : (s : List ℕ) → drop (ahead isNoSpace s) s ≡ unspaced s
-unfolding ahead unspaced
-unspaced-is [] = refl
-unspaced-is (x ∷ s) = by (eqb x space) (unspaced-is s)
-  where
-    by : (t : Bool) → drop (ahead isNoSpace s) s ≡ unspaced s → drop (pick (not t) zero (suc (ahead isNoSpace s))) (x ∷ s) ≡ pick t (unspaced s) (x ∷ s)
-    by true h = h
-    by false h = refl
-
-pub unspaced-part : (s : List ℕ) (n : ℕ) → n ≡ aheadEnd isNoSpace s 0 → part s n (length s) ≡ unspaced s
-unspaced-part s n e =
-    let rest : length s - n ≡ length (drop n s) = sym (length-drop n s) in
-    rw (rest, take-length) (rw (e, zero-add) (unspaced-is s))
 
 -- a line that begins with none
 pub unspaced-same : (s : List ℕ) → (getD s 0 0 ≡ space → ⊥) → unspaced s ≡ s

@@ -1,5 +1,5 @@
 -- The form `INDEX 01 mm:ss:ff`, test by test; and that a line of fewer than eight octets has no two digits behind `INDEX `. Assumes nothing.
-use mathlib.Core.Path.{_≡_, refl, sym, ap, _∙_}
+use mathlib.Core.Path.{_≡_, refl, sym, ap}
 use mathlib.Core.Bool.{Bool, true, false, _&&_}
 use mathlib.Core.List.{List, [], _∷_}
 use Prim.Native.Nat.{ℕ, zero, suc, _+_, _<_, _≤_}
@@ -82,7 +82,7 @@ start-form line e =
     }
 
 -- behind the end stands 0
-beyond : (s : List ℕ) (i : ℕ) → length s ≤ i → getD s i 0 ≡ 0
+pub beyond : (s : List ℕ) (i : ℕ) → length s ≤ i → getD s i 0 ≡ 0
 beyond [] i h = refl
 beyond (x ∷ s) zero h = absurd (omega arith)
 beyond (x ∷ s) (suc i) h = beyond s i (omega arith)

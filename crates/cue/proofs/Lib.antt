@@ -11,4 +11,5 @@ pub mod Judging
 pub mod Accepted
 pub mod Small
 pub mod Settled
+pub mod Written
 pub mod Theorems

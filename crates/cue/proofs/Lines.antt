@@ -1,18 +1,19 @@
 -- The lines of a sheet, one after the other: the octets up to the first LF, without a CR directly before it, and then what is behind it.
 -- Assumes nothing.
 use mathlib.Core.Path.{_≡_, refl, sym, ap, _∙_}
-use mathlib.Core.Bool.{Bool, true, false, not, _&&_}
+use mathlib.Core.Bool.{Bool, true, false, _&&_}
 use mathlib.Core.List.{List, [], _∷_, _++_, map}
+use mathlib.Core.Logic.{inl, inr}
 use Prim.Native.Nat.{ℕ, zero, suc, _+_, _-_, _<_, _≤_, zero-le}
 use native.Mathlib.Numerals.{add-one}
 use native.Mathlib.Omega.{arith}
-use borrow.Author.Tests.{eqb-true, eq-eqb, ne-eqb, le-leb, lt-leb, not-true, not-false}
-use lib.Dec.{eqb, leb}
+use borrow.Author.Tests.{eqb-true, eq-eqb, ne-eqb, le-leb, lt-leb}
+use lib.Dec.{eqb}
 use lib.ListN.{length, getD, take, drop, length-drop, length-take, take-append-drop}
 use lib.Seq.{drop-cons, drop-drop, getD-drop, getD-take, take-length, take-take}
 use Rattle.ground.specs.Cases.{pick}
 use Rattle.ground.specs.Lists.{part}
-use Rattle.ground.proofs.Cases.{and-fails, clash, past, here}
+use Rattle.ground.proofs.Cases.{and-fails}
 use Rattle.cue.specs.Sheet.{lf, cr, space, onto, lines, unspaced, lineOf}
 use Rattle.cue.specs.Scan.{ahead, isLf, linesFrom, CutAt}
 use Rattle.cue.proofs.Ahead.{ahead-le, ahead-found}
@@ -101,6 +102,10 @@ first-of s h =
     let e : drop n s ≡ lf ∷ drop (n + 1) s = rw (add-one, drop-cons s n 0, lf-behind s h) in
     ap lines (sym (take-append-drop n s) ∙ ap (λ (l : List ℕ). take n s ++ l) e) ∙ line-and-lf (take n s) (drop (n + 1) s) (no-lf-before s)
 
+-- the LF that a search from a place on finds
+pub lf-place : (sheet : List ℕ) (at : ℕ) → at + ahead isLf (drop at sheet) < length sheet → getD sheet (at + ahead isLf (drop at sheet)) 0 ≡ lf
+lf-place sheet at h = sym (getD-drop at sheet (ahead isLf (drop at sheet)) 0) ∙ lf-behind (drop at sheet) (omega (arith, length-drop at sheet))
+
 module _ (sheet : List ℕ) (at : ℕ) (h : at ≤ length sheet) (n : ℕ) (e : n ≡ at + ahead isLf (drop at sheet)) where
   from : linesFrom sheet at ≡ lines (drop at sheet)
   unfolding linesFrom
@@ -121,6 +126,7 @@ module _ (sheet : List ℕ) (at : ℕ) (h : at ≤ length sheet) (n : ℕ) (e : 
         high = omega arith;
         onward = omega arith;
         bound = omega arith;
+        stop = λ q. absurd (omega arith);
         cut = from ∙ last-of (drop at sheet) (omega (arith, length-drop at sheet)) ∙ (λ i. sym whole i ∷ sym none i);
       }
 
@@ -139,13 +145,16 @@ module _ (sheet : List ℕ) (at : ℕ) (h : at ≤ length sheet) (n : ℕ) (e : 
     long : length (part sheet at n) ≡ n - at
     long = simp (length-take, length-drop) (omega arith)
 
+    found : getD sheet n 0 ≡ lf
+    found = ap (λ (i : ℕ). getD sheet i 0) e ∙ lf-place sheet at (omega arith)
+
     -- an LF alone, and one behind a line
     pub cut-empty : n ≤ at → CutAt sheet at n (n + 1)
     unfolding withoutCr
     cut-empty j =
         let z : n - at ≡ 0 = omega arith in
         let none : withoutCr (part sheet at n) ≡ part sheet at n = rw z in
-        record { low = omega arith; high = omega arith; onward = omega arith; bound = omega arith; cut = up-to-lf ∙ (λ i. none i ∷ linesFrom sheet (n + 1)) }
+        record { low = omega arith; high = omega arith; onward = omega arith; bound = omega arith; stop = λ q. inl found; cut = up-to-lf ∙ (λ i. none i ∷ linesFrom sheet (n + 1)) }
 
     module _ (j : at < n) where
       -- the octet before the LF
@@ -164,6 +173,7 @@ module _ (sheet : List ℕ) (at : ℕ) (h : at ≤ length sheet) (n : ℕ) (e : 
             high = omega arith;
             onward = omega arith;
             bound = omega arith;
+            stop = λ q. inl found;
             cut = up-to-lf ∙ (λ i. cr-kept (part sheet at n) (n - 1 - at) one-more (λ q. f (sym last-octet ∙ q)) i ∷ linesFrom sheet (n + 1));
           }
 
@@ -171,7 +181,15 @@ module _ (sheet : List ℕ) (at : ℕ) (h : at ≤ length sheet) (n : ℕ) (e : 
       cut-cr f =
           let short : withoutCr (part sheet at n) ≡ part sheet at (n - 1) =
           cr-dropped (part sheet at n) (n - 1 - at) one-more (last-octet ∙ f) ∙ take-take (n - 1 - at) (n - at) (drop at sheet) (omega arith) in
-          record { low = omega arith; high = omega arith; onward = omega arith; bound = omega arith; cut = up-to-lf ∙ (λ i. short i ∷ linesFrom sheet (n + 1)) }
+          let behind-cr : n - 1 + 1 ≡ n = omega arith in
+          record {
+            low = omega arith;
+            high = omega arith;
+            onward = omega arith;
+            bound = omega arith;
+            stop = λ q. inr (f, ap (λ (x : ℕ). getD sheet x 0) behind-cr ∙ found);
+            cut = up-to-lf ∙ (λ i. short i ∷ linesFrom sheet (n + 1));
+          }
 
 -- the octets of a part that lies in the sheet
 pub part-length : (sheet : List ℕ) (a e : ℕ) → e ≤ length sheet → length (part sheet a e) ≡ e - a
@@ -217,7 +235,3 @@ spaces-give zero sheet at h g = let e : at + 0 ≡ at = omega arith in rw e
 spaces-give (suc n) sheet at h g =
     let e : at + suc n ≡ at + n + 1 = omega arith in
     rw e (spaces-give n sheet at (omega arith) (λ j k. g j (omega arith)) ∙ one-space sheet (at + n) (omega arith) (g n (omega arith)))
-
--- the LF that a search from a place on finds
-pub lf-place : (sheet : List ℕ) (at : ℕ) → at + ahead isLf (drop at sheet) < length sheet → getD sheet (at + ahead isLf (drop at sheet)) 0 ≡ lf
-lf-place sheet at h = sym (getD-drop at sheet (ahead isLf (drop at sheet)) 0) ∙ lf-behind (drop at sheet) (omega (arith, length-drop at sheet))

@@ -1,9 +1,8 @@
 -- What a line gives, from the tests on it without its leading spaces. Assumes nothing.
 use mathlib.Core.Path.{_≡_, refl, sym, ap}
-use mathlib.Core.Bool.{Bool, true, false}
+use mathlib.Core.Bool.{true, false}
 use mathlib.Core.List.{List, [], _∷_, _++_}
 use Prim.Native.Nat.{ℕ}
-use Rattle.ground.specs.Cases.{pick}
 use Rattle.ground.proofs.Cases.{past, here}
 use Rattle.cue.specs.declared.Line.{Line}
 use Rattle.cue.specs.declared.Line.the-variants.{Start, Passed, NotUnderstood}
@@ -26,19 +25,6 @@ module _ (line u : List ℕ) (e : u ≡ unspaced line) where
     pub gives-fault : isPassed u ≡ false → NotUnderstood ≡ lineOf line
     unfolding meaning
     gives-fault p = rw (sym is-meaning) (past _ s (past _ p refl))
-
-    -- a line that is no start has none
-    pub no-start : startsOf (lineOf line ∷ []) ≡ []
-    unfolding meaning startsOf
-    no-start = rw (sym is-meaning, s) (by (isPassed u))
-      where
-        by : (t : Bool) → startsOf (pick t Passed NotUnderstood ∷ []) ≡ []
-        by true = refl
-        by false = refl
-
-  pub one-start : isStart u ≡ true → startsOf (lineOf line ∷ []) ≡ startOf u ∷ []
-  unfolding startsOf
-  one-start s = rw (sym (gives-start s refl))
 
 -- the starts of a line, and then those of the lines behind it
 pub starts-split : (line : Line) (more : List Line) → startsOf (line ∷ more) ≡ startsOf (line ∷ []) ++ startsOf more

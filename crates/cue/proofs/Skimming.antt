@@ -1,47 +1,42 @@
 -- A line that is understood, by three of its octets: it is a start, or it is passed over. Assumes nothing.
 use mathlib.Core.Path.{_≡_, refl, sym, ap, _∙_}
-use mathlib.Core.Bool.{Bool, true, false, not, _&&_, or-false, false≢true}
-use mathlib.Core.List.{List, [], _∷_, map}
+use mathlib.Core.Bool.{true, false, not, _&&_, or-false, false≢true}
+use mathlib.Core.List.{List, map}
 use mathlib.Core.Logic.{⊎-elim}
 use Prim.Native.Nat.{ℕ, _+_, _-_, _<_, _≤_}
 use native.Mathlib.Omega.{arith}
-use borrow.Author.Tests.{eqb-true, eqb-false, eq-eqb, leb-true, le-leb, not-true, not-false}
+use borrow.Author.Tests.{eqb-true, eqb-false, eq-eqb, leb-true, le-leb, not-true}
 use lib.Dec.{eqb, leb}
-use lib.ListN.{length, getD, drop, length-drop}
-use lib.Seq.{getD-drop}
+use lib.ListN.{length, getD}
 use Rattle.ground.specs.Lists.{part}
 use Rattle.ground.proofs.Cases.{and-left, and-right, and-both, le-or, true-or}
-use Rattle.cue.specs.declared.Line.{Line}
 use Rattle.cue.specs.declared.Line.the-variants.{Passed, NotUnderstood}
-use Rattle.cue.specs.Sheet.{lf, cr, space, octets, begins, digitsAt, numberAt, unspaced, isStart, isOtherIndex, isPassed, lineOf}
-use Rattle.cue.specs.Scan.{ahead, isLf, isNoSpace, aheadEnd, linesFrom, CutAt, StartLine, ReadAt, AllUnderstood, looksStart}
-use Rattle.cue.proofs.Ahead.{ahead-found, unspaced-same}
+use Rattle.cue.specs.Sheet.{cr, space, octets, begins, digitsAt, numberAt, unspaced, isStart, isOtherIndex, isPassed, lineOf}
+use Rattle.cue.specs.Scan.{isLf, isNoSpace, aheadEnd, linesFrom, CutAt, StartLine, ReadAt, AllUnderstood, looksStart}
 use Rattle.cue.proofs.Words.{passed-by, filled-line}
 use Rattle.cue.proofs.Form.{start-form, begins-at, short-index}
-use Rattle.cue.proofs.Lines.{part-length, part-at, cut-last, cut-empty, cut-plain, cut-cr, lf-place}
+use Rattle.cue.proofs.Lines.{part-length, part-at, cut-last, cut-empty, cut-plain, cut-cr}
 use Rattle.cue.proofs.Starting.{no-lf-within}
 use Rattle.cue.proofs.Meaning.{gives-nothing, gives-fault}
-use Rattle.cue.proofs.Reading.{skipped, line-read}
+use Rattle.cue.proofs.Reading.{unspaced-cut, no-space, skipped, line-read}
 
--- the line that starts at a place, cut, and what stands behind its octets: nothing, or an LF or a CR, both below the space
+-- the line that starts at a place, cut
 pub record SomeCut (sheet : List ℕ) (at : ℕ) : Type 0 where
   pub end : ℕ
   pub cut : CutAt sheet at end (aheadEnd isLf sheet at + 1)
-  pub stop : end < length sheet → getD sheet end 0 < 32
 
 some-cut : (sheet : List ℕ) (at : ℕ) → at ≤ length sheet → SomeCut sheet at
 some-cut sheet at h =
     let n = aheadEnd isLf sheet at in
     ⊎-elim
-    (λ k. record { end = n; cut = cut-last sheet at h n refl k; stop = λ q. absurd (omega arith) })
+    (λ k. record { end = n; cut = cut-last sheet at h n refl k })
     (λ k.
-    let found : getD sheet n 0 ≡ lf = lf-place sheet at k in
     ⊎-elim
-    (λ j. record { end = n; cut = cut-empty sheet at h n refl k j; stop = λ q. omega (arith, found) })
+    (λ j. record { end = n; cut = cut-empty sheet at h n refl k j })
     (λ j.
     ⊎-elim
-    (λ t. let e : getD sheet (n - 1) 0 ≡ cr = eqb-true _ _ t in record { end = n - 1; cut = cut-cr sheet at h n refl k j e; stop = λ q. omega (arith, e) })
-    (λ t. record { end = n; cut = cut-plain sheet at h n refl k j (eqb-false _ _ t); stop = λ q. omega (arith, found) })
+    (λ t. record { end = n - 1; cut = cut-cr sheet at h n refl k j (eqb-true _ _ t) })
+    (λ t. record { end = n; cut = cut-plain sheet at h n refl k j (eqb-false _ _ t) })
     (true-or (eqb (getD sheet (n - 1) 0) cr)))
     (le-or n at))
     (le-or (length sheet) n)
@@ -69,17 +64,6 @@ module _ (sheet : List ℕ) (from : ℕ) (k : from ≤ length sheet) (first : fr
   at-front : 0 < length l → getD l 0 0 ≡ getD sheet from 0
   at-front q = let e : from + 0 ≡ from = omega arith in at-place 0 q ∙ ap (λ (i : ℕ). getD sheet i 0) e
 
-  no-space : getD l 0 0 ≡ space → ⊥
-  no-space q =
-      ⊎-elim
-      (λ z. omega (arith, q, short-zero l z))
-      (λ z. first (omega (arith, long, here .cut .high)) (sym (at-front z) ∙ q))
-      (le-or (length l) 0)
-    where
-      short-zero : (s : List ℕ) → length s ≤ 0 → getD s 0 0 ≡ 0
-      short-zero [] h = refl
-      short-zero (x ∷ s) h = absurd (omega arith)
-
   -- what the three octets tell
   module _ (t : looksStart sheet from ≡ true) where
     four : (17 ≤ length sheet - from) × (getD sheet from 0 ≡ 73) × (getD sheet (from + 6) 0 ≡ 48) × (getD sheet (from + 7) 0 ≡ 49)
@@ -100,7 +84,11 @@ module _ (sheet : List ℕ) (from : ℕ) (k : from ≤ length sheet) (first : fr
         ⊎-elim
         (λ z.
         let e : here .end ≡ from = omega (arith, long, here .cut .low) in
-        absurd (omega (arith, four .0, four .1, here .stop (omega (arith, four .0, e)), ap (λ (i : ℕ). getD sheet i 0) e)))
+        absurd
+        (⊎-elim
+        (λ f. omega (arith, four .1, f, ap (λ (i : ℕ). getD sheet i 0) e))
+        (λ f. omega (arith, four .1, f .0, ap (λ (i : ℕ). getD sheet i 0) e))
+        (here .cut .stop (omega (arith, four .0, e)))))
         (λ z. z)
         (le-or (length l) 0)
 
@@ -136,7 +124,8 @@ module _ (sheet : List ℕ) (from : ℕ) (k : from ≤ length sheet) (first : fr
 
   module _ (u : lineOf l ≡ NotUnderstood → ⊥) where
     same : l ≡ unspaced l
-    same = sym (unspaced-same l no-space)
+    unfolding l
+    same = unspaced-cut sheet from (here .end) first (here .cut .high)
 
     is-start : looksStart sheet from ≡ true → isStart l ≡ true
     is-start t =
@@ -165,21 +154,15 @@ module _ (sheet : List ℕ) (from : ℕ) (k : from ≤ length sheet) (first : fr
 
 -- the line at a place of a sheet whose lines are understood
 module _ (sheet : List ℕ) (at from : ℕ) (h : at ≤ length sheet) (e : from ≡ aheadEnd isNoSpace sheet at) (k : from ≤ length sheet) (understood : AllUnderstood (map lineOf (linesFrom sheet at))) where
-  first : from < length sheet → getD sheet from 0 ≡ space → ⊥
-  first q z =
-      let n = ahead isNoSpace (drop at sheet) in
-      let found : not (eqb (getD (drop at sheet) n 0) space) ≡ true = ahead-found isNoSpace (drop at sheet) (omega (arith, length-drop at sheet)) in
-      eqb-false _ _ (not-true _ found) (getD-drop at sheet n 0 ∙ sym (ap (λ (i : ℕ). getD sheet i 0) e) ∙ z)
-
-  own : lineOf (l sheet from k first) ≡ NotUnderstood → ⊥
+  own : lineOf (l sheet from k (no-space sheet at from h e k)) ≡ NotUnderstood → ⊥
   unfolding l
-  own = rw (skipped sheet at from h e k, here sheet from k first .cut .cut) at understood .0
+  own = rw (skipped sheet at from h e k, here sheet from k (no-space sheet at from h e k) .cut .cut) at understood .0
 
   pub skim-start : looksStart sheet from ≡ true → (n : ℕ) → n ≡ aheadEnd isLf sheet (from + 17) → StartLine sheet from (n + 1)
-  skim-start = skimmed-start sheet from k first own
+  skim-start = skimmed-start sheet from k (no-space sheet at from h e k) own
 
   pub skim-passed : looksStart sheet from ≡ false → (n : ℕ) → n ≡ aheadEnd isLf sheet from → ReadAt sheet at Passed (n + 1)
   unfolding l
   skim-passed t n q =
-      let c = here sheet from k first in
-      line-read sheet at from h e k Passed (c .end) (n + 1) (rw (sym q) at (c .cut)) (is-passed sheet from k first own t)
+      let c = here sheet from k (no-space sheet at from h e k) in
+      line-read sheet at from h e k Passed (c .end) (n + 1) (rw (sym q) at (c .cut)) (is-passed sheet from k (no-space sheet at from h e k) own t)

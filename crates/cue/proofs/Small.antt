@@ -7,7 +7,7 @@ use native.Mathlib.Omega.{arith}
 use borrow.Author.Tests.{ltb-false}
 use lib.Dec.{eqb, ltb}
 use lib.ListN.{length, getD}
-use Rattle.ground.specs.Cases.{pick, Said, granted, refused, refusedWith, refuseIf}
+use Rattle.ground.specs.Cases.{pick, Said, granted, refused, refuseIf}
 use Rattle.cue.specs.declared.Line.{Line}
 use Rattle.cue.specs.declared.Line.the-variants.{Start, Passed, NotUnderstood}
 use Rattle.cue.specs.Sheet.{mostSheet, lf, cr, onto, lines, lineOf, sheetLines, startsOf, mayFollow, judged, cueSaid}

@@ -3,7 +3,7 @@
 use mathlib.Core.Path.{_≡_}
 use mathlib.Core.Bool.{true}
 use mathlib.Core.List.{List}
-use Prim.Native.Nat.{ℕ, zero, suc, _+_, _-_, _*_, _/_, _<_, _≤_}
+use Prim.Native.Nat.{ℕ, zero, suc, _+_, _-_, _*_, _<_}
 use native.Mathlib.Omega.{arith}
 use borrow.Author.Tests.{lt-ltb, eq-eqb}
 use lib.ListN.{length, getD}
@@ -12,13 +12,9 @@ use Rattle.ground.proofs.Cases.{and-both}
 use Rattle.rules.specs.Rules.{beginRule, riseRule, belowRule, startsRight}
 use Rattle.cue.specs.Sheet.{hundredths, sheetLines, startsOf, cueSaid}
 use Rattle.cue.proofs.Accepted.{Rises, accepted}
+use Rattle.cue.proofs.Written.{IsFrame}
 
--- a frame's three numbers within their ranges; the minutes have no more than two digits, which does not matter here
-pub record IsFrame (ss ff : ℕ) : Type 0 where
-  pub seconds : ss ≤ 59
-  pub frames : ff ≤ 74
-
-module _ (mm ss ff mm' ss' ff' : ℕ) (a : IsFrame ss ff) (b : IsFrame ss' ff') where
+module _ (mm ss ff mm' ss' ff' : ℕ) (a : IsFrame mm ss ff) (b : IsFrame mm' ss' ff') where
   -- "Different frames give different starts, to be proved."
   pub frames-apart : hundredths mm ss ff ≡ hundredths mm' ss' ff' → (mm ≡ mm') × (ss ≡ ss') × (ff ≡ ff')
   unfolding hundredths

@@ -3,6 +3,7 @@
 use mathlib.Core.Path.{_≡_}
 use mathlib.Core.Bool.{Bool, true, false, not, _&&_}
 use mathlib.Core.List.{List, [], _∷_, map}
+use mathlib.Core.Logic.{_⊎_}
 use Prim.Native.Nat.{ℕ, zero, suc, _+_, _-_, _<_, _≤_}
 use lib.Dec.{eqb, leb}
 use lib.ListN.{length, getD, drop}
@@ -11,7 +12,7 @@ use Rattle.ground.specs.Lists.{part}
 use Rattle.cue.specs.declared.Line.{Line}
 use Rattle.cue.specs.declared.Line.the-variants.{Start, Passed, NotUnderstood}
 use Rattle.cue.specs.declared.Weighed.{Weighed}
-use Rattle.cue.specs.Sheet.{lf, space, lines, isStart, lineOf, mayFollow}
+use Rattle.cue.specs.Sheet.{lf, cr, space, lines, isStart, lineOf, mayFollow}
 
 -- how many octets stand ahead of the first that passes the test
 unfoldable pub ahead : (ℕ → Bool) → List ℕ → ℕ
@@ -43,12 +44,13 @@ pub record Passes (test : ℕ → Bool) (s : List ℕ) (at to : ℕ) : Type 0 wh
 unfoldable pub linesFrom : List ℕ → ℕ → List (List ℕ)
 linesFrom sheet at = pick (leb at (length sheet)) (lines (drop at sheet)) []
 
--- the line that starts at a place has its octets up to `end`, and the line behind it starts at `next`
+-- the line that starts at a place has its octets up to `end`, where the text ends or an LF or a CR LF stands, and the line behind it starts at `next`
 pub record CutAt (sheet : List ℕ) (at end next : ℕ) : Type 0 where
   pub low : at ≤ end
   pub high : end ≤ length sheet
   pub onward : at < next
   pub bound : next ≤ length sheet + 1
+  pub stop : end < length sheet → (getD sheet end 0 ≡ lf) ⊎ ((getD sheet end 0 ≡ cr) × (getD sheet (end + 1) 0 ≡ lf))
   pub cut : linesFrom sheet at ≡ part sheet at end ∷ linesFrom sheet next
 
 -- the line that starts at a place is `INDEX 01 mm:ss:ff` and nothing else, and the line behind it starts at `next`
@@ -56,6 +58,9 @@ pub record StartLine (sheet : List ℕ) (at next : ℕ) : Type 0 where
   pub fits : at + 17 ≤ length sheet
   pub form : isStart (part sheet at (at + 17)) ≡ true
   pub cut : CutAt sheet at (at + 17) next
+
+abbrev pub NoStartLine : List ℕ → ℕ → Type 0
+NoStartLine sheet at = (end next : ℕ) → CutAt sheet at end next → isStart (part sheet at end) ≡ false
 
 -- what the line that starts at a place gives, and where the line behind it starts
 pub record ReadAt (sheet : List ℕ) (at : ℕ) (line : Line) (next : ℕ) : Type 0 where

@@ -7,7 +7,7 @@ ghost use lib.ListN.{length, getD};
 ghost use lib.Seq.{paste};
 ghost use Rattle.ground.specs.Lists.{filled, tableAfter, allBelow};
 ghost use Rattle.cue.specs.Sheet.{octets, begins, isDigit, digitsAt, numberAt, hundredths, isStart, startOf, isOtherIndex, isPassed, lineOf, sheetLines, startsOf, cueSaid, saidOf};
-ghost use Rattle.cue.specs.Scan.{isIt, isLf, isNoSpace, aheadEnd, Passes, CutAt, StartLine, linesFrom, ReadAt, looksStart, AllUnderstood, rises, weighedOf};
+ghost use Rattle.cue.specs.Scan.{isIt, isLf, aheadEnd, Passes, CutAt, StartLine, NoStartLine, linesFrom, ReadAt, looksStart, AllUnderstood, rises, weighedOf};
 
 // What a line gives.
 pub enum Line {
@@ -48,7 +48,7 @@ struct Weighed {
     last: u32,
 }
 
-pub const MOST_SHEET: usize = 65536;
+const MOST_SHEET: usize = 65536;
 
 const LF: u8 = 10;
 
@@ -57,6 +57,9 @@ const CR: u8 = 13;
 const SPACE: u8 = b' ';
 
 const COLON: u8 = b':';
+
+// The octets of `INDEX 01 mm:ss:ff`.
+const START_OCTETS: usize = 17;
 
 // Whether an octet is x, or is any other.
 fn is_it(y: u8, x: u8, equal: bool) -> bool
@@ -172,13 +175,6 @@ fn line_at(sheet: &[u8], at: usize) -> Cut
     }
 }
 
-// How many spaces lead a line.
-fn spaces(line: &[u8]) -> usize
-    ensures { λ r. ⌜ (r ≡ aheadEnd isNoSpace (now (line .entry)) 0) × (r ≤ length (now (line .entry))) ⌝ }
-{
-    first_from(line, 0, SPACE, false)
-}
-
 fn begins_with(line: &[u8], word: &[u8]) -> bool
     ensures { λ r. ⌜ r ≡ begins (now (word .entry)) (now (line .entry)) ⌝ }
 {
@@ -198,7 +194,7 @@ fn begins_with(line: &[u8], word: &[u8]) -> bool
 fn is_digit(x: u8) -> bool
     ensures { λ r. ⌜ r ≡ isDigit x ⌝ }
 {
-    (48 <= x) & (x <= 57)
+    (b'0' <= x) & (x <= b'9')
 }
 
 // What a digit says.
@@ -206,7 +202,7 @@ fn digit(x: u8) -> u32
     requires { ⌜ isDigit x ≡ true ⌝ }
     ensures { λ r. ⌜ (r ≡ x - 48) × (r < 10) ⌝ }
 {
-    (x - 48) as u32
+    (x - b'0') as u32
 }
 
 fn digits_at(line: &[u8], at: usize) -> bool
@@ -241,7 +237,7 @@ fn is_index_01(line: &[u8]) -> bool
 fn is_start(line: &[u8]) -> bool
     ensures { λ r. ⌜ r ≡ isStart (now (line .entry)) ⌝ }
 {
-    if line.len() != 17 {
+    if line.len() != START_OCTETS {
         return false;
     }
     if !is_index_01(line) {
@@ -307,30 +303,15 @@ fn is_passed(line: &[u8]) -> bool
     }
 }
 
-// What a line gives.
-fn line_of(line: &[u8]) -> Line
-    ensures { λ r. ⌜ r ≡ lineOf (now (line .entry)) ⌝ }
-{
-    let from = spaces(line);
-    let unspaced = &line[from..];
-    if is_start(unspaced) {
-        return Line::Start(start_of(unspaced));
-    }
-    if is_passed(unspaced) {
-        return Line::Passed;
-    }
-    Line::NotUnderstood
-}
-
 // Where the next line starts, if the line at a place is `INDEX 01 mm:ss:ff` with nothing before it; else 0. No LF is searched for.
 fn start_line(sheet: &[u8], at: usize) -> usize
     requires { ⌜ at ≤ length (now sheet) ⌝ }
-    ensures { λ r. ⌜ (0 < r → StartLine (now (sheet .entry)) at r) ⌝ }
+    ensures { λ r. ⌜ (0 < r → StartLine (now (sheet .entry)) at r) × (r ≡ 0 → NoStartLine (now (sheet .entry)) at) ⌝ }
 {
-    if sheet.len() - at < 17 {
+    if sheet.len() - at < START_OCTETS {
         return 0;
     }
-    let end = at + 17;
+    let end = at + START_OCTETS;
     if !is_start(&sheet[at..end]) {
         return 0;
     }
@@ -360,7 +341,7 @@ fn read_line(sheet: &[u8], at: usize) -> LineRead
     let from = first_from(sheet, at, SPACE, false);
     let next = start_line(sheet, from);
     if next != 0 {
-        let end = from + 17;
+        let end = from + START_OCTETS;
         let line = Line::Start(start_of(&sheet[from..end]));
         return LineRead {
             line: line,
@@ -369,9 +350,14 @@ fn read_line(sheet: &[u8], at: usize) -> LineRead
     }
     let cut = line_at(sheet, from);
     let end = cut.end;
-    let line = line_of(&sheet[from..end]);
+    if is_passed(&sheet[from..end]) {
+        return LineRead {
+            line: Line::Passed,
+            next: cut.next,
+        };
+    }
     LineRead {
-        line: line,
+        line: Line::NotUnderstood,
         next: cut.next,
     }
 }
@@ -381,7 +367,7 @@ fn looks_start(sheet: &[u8], at: usize) -> bool
     requires { ⌜ at ≤ length (now sheet) ⌝ }
     ensures { λ r. ⌜ r ≡ looksStart (now (sheet .entry)) at ⌝ }
 {
-    if sheet.len() - at < 17 {
+    if sheet.len() - at < START_OCTETS {
         return false;
     }
     (sheet[at] == b'I') & (sheet[at + 6] == b'0') & (sheet[at + 7] == b'1')
@@ -395,7 +381,7 @@ fn skim_line(sheet: &[u8], at: usize) -> LineRead
 {
     let from = first_from(sheet, at, SPACE, false);
     if looks_start(sheet, from) {
-        let end = from + 17;
+        let end = from + START_OCTETS;
         let line = Line::Start(start_of(&sheet[from..end]));
         let lf = first_from(sheet, end, LF, true);
         return LineRead {
@@ -420,8 +406,9 @@ fn may_follow(count: usize, last: u32, start: u32) -> bool
     last < start
 }
 
+// What a line is behind `count` starts, of which the last is `last`.
 fn weigh(line: Line, count: usize, last: u32) -> Weighed
-    requires { ⌜ count ≤ 65536 ⌝ }
+    requires { ⌜ count ≤ 65537 ⌝ }
     ensures { λ r. ⌜ r ≡ weighedOf line count last ⌝ }
 {
     match line {

@@ -1,12 +1,11 @@
 -- The word that a refusal of a cue sheet has for its line: 226 and 227 carry one, and nothing else is written there. Assumes nothing.
-use mathlib.Core.Path.{_≡_, refl, sym, ap, _∙_}
+use mathlib.Core.Path.{_≡_, refl, sym}
 use mathlib.Core.Bool.{true, false, _||_}
-use mathlib.Core.List.{List, [], _∷_}
-use Prim.Native.Nat.{ℕ, _+_, _<_, _≤_}
+use mathlib.Core.List.{List, _∷_}
+use Prim.Native.Nat.{ℕ, _<_}
 use native.Mathlib.Omega.{arith}
 use lib.Dec.{eqb}
 use lib.ListN.{length, take, drop, getD, drop-of-length-le}
-use Rattle.ground.specs.Cases.{Said}
 use Rattle.ground.proofs.Cases.{clash}
 use Rattle.cue.specs.declared.Cued.{Cued}
 use Rattle.cue.specs.declared.Cued.the-variants.{Done, TooLong, BadLine, NotRising, NoRoom}

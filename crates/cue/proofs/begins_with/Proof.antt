@@ -2,7 +2,6 @@
 use mathlib.Core.Path.{_≡_, refl, sym, _∙_}
 use Prim.Native.Nat.{_≤_, _-_}
 use lib.ListN.{length, drop}
-use borrow.Author.Tests.{eq-eqb, ne-eqb}
 use Rattle.cue.specs.Sheet.{begins}
 use Rattle.cue.proofs.Words.{begins-short, begins-goes, begins-stops, begins-ends}
 use borrow.Author.Needs.{needs}

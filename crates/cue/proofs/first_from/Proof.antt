@@ -1,5 +1,5 @@
 -- `cue::first_from`: each octet is one step.
-use mathlib.Core.Path.{_≡_, sym, _∙_}
+use mathlib.Core.Path.{sym, _∙_}
 use Prim.Native.Nat.{_-_}
 use lib.ListN.{length}
 use Rattle.cue.specs.Scan.{isIt, Passes}

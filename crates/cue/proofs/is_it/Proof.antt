@@ -1,6 +1,4 @@
 -- `cue::is_it`: either way.
-use mathlib.Core.Path.{refl}
-use borrow.Author.Needs.{needs}
 use Rattle.cue.proofs.is_it.Statement.{statement}
 use Rattle.cue.proofs.is_it.Tie as tie
 

@@ -1,10 +1,8 @@
 -- `cue::is_passed`: for each first octet, the words that are left.
-use mathlib.Core.Path.{_≡_, sym, ap, _∙_}
+use mathlib.Core.Path.{sym, _∙_}
 use mathlib.Core.Bool.{_||_, or-false}
 use native.Mathlib.Omega.{arith}
 use borrow.Author.Tests.{ne-eqb}
-use Prim.Native.Nat.{ℕ}
-use lib.ListN.{getD}
 use Rattle.cue.proofs.Words.{passed-by, filled-line}
 use borrow.Author.Needs.{needs}
 use Rattle.cue.proofs.is_passed.Statement.{statement}

@@ -1,7 +1,7 @@
 -- `cue::is_start`: the tests of the definition.
 use borrow.Author.Tests.{ne-eqb, eq-eqb, not-true, not-false}
 use mathlib.Core.Path.{_≡_, sym, ap, _∙_}
-use mathlib.Core.Bool.{Bool, true, false, _&&_}
+use mathlib.Core.Bool.{Bool, true, _&&_}
 use mathlib.Core.List.{List}
 use Prim.Native.Nat.{ℕ}
 use native.Mathlib.Omega.{arith}

@@ -1,6 +1,5 @@
 -- `cue::line_at`: the ways in which a line ends.
 use mathlib.Core.Logic.{⊎-elim}
-use native.Mathlib.Omega.{arith}
 use Rattle.cue.proofs.Lines.{cut-last, cut-empty, cut-plain, cut-cr}
 use borrow.Author.Needs.{needs}
 use Rattle.cue.proofs.line_at.Statement.{statement}

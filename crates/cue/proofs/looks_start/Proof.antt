@@ -1,5 +1,4 @@
 -- `cue::looks_start`: the room, and three octets.
-use mathlib.Core.Path.{refl}
 use borrow.Author.Tests.{lt-leb, le-leb}
 use Rattle.cue.specs.Scan.{looksStart}
 use borrow.Author.Needs.{needs}

@@ -1,8 +1,5 @@
 -- `cue::may_follow`: none before, or one.
-use mathlib.Core.Path.{_≡_, refl}
 use Rattle.cue.proofs.Judging.{rises-first, rises-next}
-use mathlib.Core.Path.{refl}
-use borrow.Author.Needs.{needs}
 use Rattle.cue.proofs.may_follow.Statement.{statement}
 use Rattle.cue.proofs.may_follow.Tie as tie
 

@@ -1,7 +1,7 @@
 -- `cue::no_lf`: none of the octets so far is one.
 use mathlib.Core.Path.{_≡_, refl}
 use mathlib.Core.Bool.{not}
-use Prim.Native.Nat.{ℕ, _≤_, _-_}
+use Prim.Native.Nat.{_≤_, _-_}
 use lib.ListN.{length, getD}
 use Rattle.ground.specs.Lists.{allBelow}
 use Rattle.ground.proofs.Bounded.{all-turn, all-end}

@@ -1,13 +1,7 @@
--- `cue::read_line`: behind the spaces, a start or any line.
-use mathlib.Core.Path.{_≡_, sym, ap, _∙_}
-use mathlib.Core.List.{List, _∷_, map}
-use Prim.Native.Nat.{ℕ, _+_, _-_, _<_, _≤_}
+-- `cue::read_line`: behind the spaces, a start or another line.
+use mathlib.Core.Path.{sym, _∙_}
 use native.Mathlib.Omega.{arith}
-use Rattle.ground.specs.Lists.{part}
-use Rattle.cue.specs.declared.Line.{Line}
-use Rattle.cue.specs.Sheet.{lineOf}
-use Rattle.cue.specs.Scan.{linesFrom, CutAt, ReadAt}
-use Rattle.cue.proofs.Reading.{skipped, start-read, line-read}
+use Rattle.cue.proofs.Reading.{start-read, passed-read, fault-read}
 use borrow.Author.Needs.{needs}
 use Rattle.cue.proofs.read_line.Statement.{statement}
 use Rattle.cue.proofs.read_line.Tie as tie
@@ -28,39 +22,50 @@ part-start-of-start : tie.Need-part-start-of-start
 part-start-of-start c = search needs
 
 part-start-of-end : tie.Need-part-start-of-end
-part-start-of-end c = omega (arith, c .before .start-line .ensures (omega arith) .fits)
+part-start-of-end c = omega (arith, c .before .start-line .ensures .0 (omega arith) .fits)
 
 start-of-requires : tie.Need-start-of-requires
-start-of-requires c κs = c .before .before .start-line .ensures (omega arith) .form
+start-of-requires c κs = c .before .before .start-line .ensures .0 (omega arith) .form
 
 returns : tie.Need-returns
 returns c =
     let l = c .before .before .before in
     let f = l .before in
     let s = f .before .before in
-    start-read (s .args .sheet .now) (s .args .at) (f .first-from .result) (s .pre) (f .first-from .ensures .0) (f .first-from .ensures .1) _ (l .start-line .result) (l .start-line .ensures (omega arith)) (c .start-of .ensures)
+    start-read (s .args .sheet .now) (s .args .at) (f .first-from .result) (s .pre) (f .first-from .ensures .0) (f .first-from .ensures .1) _ (l .start-line .result) (l .start-line .ensures .0 (omega arith)) (c .start-of .ensures)
 
 line-at-requires : tie.Need-line-at-requires
 line-at-requires c κs = search needs
 
-sub-line-of : tie.Need-sub-line-of
-sub-line-of c = c .line-at .ensures .low
+sub-is-passed : tie.Need-sub-is-passed
+sub-is-passed c = c .line-at .ensures .low
 
-part-line-of-start : tie.Need-part-line-of-start
-part-line-of-start c = search needs
+part-is-passed-start : tie.Need-part-is-passed-start
+part-is-passed-start c = search needs
 
-part-line-of-end : tie.Need-part-line-of-end
-part-line-of-end c = search needs
+part-is-passed-end : tie.Need-part-is-passed-end
+part-is-passed-end c = search needs
 
-line-of-requires : tie.Need-line-of-requires
-line-of-requires c κs = search needs
+is-passed-requires : tie.Need-is-passed-requires
+is-passed-requires c κs = search needs
 
 returns-2 : tie.Need-returns-2
 returns-2 c =
-    let q = c .before .before in
-    let f = q .before .before .before in
+    let q = c .before .before .before in
+    let l = q .before .before in
+    let f = l .before in
     let s = f .before .before in
-    line-read (s .args .sheet .now) (s .args .at) (f .first-from .result) (s .pre) (f .first-from .ensures .0) (f .first-from .ensures .1) (c .line-of .result) (q .line-at .result .end) (q .line-at .result .next) (q .line-at .ensures) (c .line-of .ensures)
+    passed-read (s .args .sheet .now) (s .args .at) (f .first-from .result) (s .pre) (f .first-from .ensures .0) (f .first-from .ensures .1) (l .start-line .ensures .1 (q .before .if1 .left))
+    (q .line-at .result .end) (q .line-at .result .next) (q .line-at .ensures) (sym (c .before .is-passed .ensures) ∙ c .if2 .taken)
+
+returns-3 : tie.Need-returns-3
+returns-3 c =
+    let q = c .before .before .before in
+    let l = q .before .before in
+    let f = l .before in
+    let s = f .before .before in
+    fault-read (s .args .sheet .now) (s .args .at) (f .first-from .result) (s .pre) (f .first-from .ensures .0) (f .first-from .ensures .1) (l .start-line .ensures .1 (q .before .if1 .left))
+    (q .line-at .result .end) (q .line-at .result .next) (q .line-at .ensures) (sym (c .before .is-passed .ensures) ∙ c .if2 .left)
 
 pub read-line-spec : {M : Type 1} → statement M
 read-line-spec =
@@ -75,8 +80,9 @@ read-line-spec =
     start-of-requires
     returns
     line-at-requires
-    sub-line-of
-    part-line-of-start
-    part-line-of-end
-    line-of-requires
-    returns-2)
+    sub-is-passed
+    part-is-passed-start
+    part-is-passed-end
+    is-passed-requires
+    returns-2
+    returns-3)

@@ -1,9 +1,8 @@
 -- `cue::skim_line`: behind the spaces, a start or a line that is passed over.
 use mathlib.Core.Path.{_≡_, refl, sym, _∙_}
-use mathlib.Core.Bool.{true}
 use Prim.Native.Nat.{ℕ, _+_}
 use native.Mathlib.Omega.{arith}
-use Rattle.cue.specs.Scan.{isLf, aheadEnd, looksStart, StartLine}
+use Rattle.cue.specs.Scan.{isLf, aheadEnd, StartLine}
 use Rattle.cue.proofs.Reading.{start-read}
 use Rattle.cue.proofs.Skimming.{skim-start, skim-passed}
 use borrow.Author.Needs.{needs}

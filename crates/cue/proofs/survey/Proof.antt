@@ -21,7 +21,7 @@ behindOf sheet room =
     refuseIf (ltb room (length (startsOf (sheetLines sheet)))) 228 (granted (length (startsOf (sheetLines sheet)) ∷ []))
 
 abbrev Inv-loop : tie.InvT-loop
-Inv-loop sheet room at₀ number₀ count₀ last₀ at number count last = (at ≤ length sheet + 1) × (number ≤ at + 1) × (count + 1 ≤ number) × Judging sheet (behindOf sheet room) at number count last
+Inv-loop sheet room at₀ number₀ count₀ last₀ at number count last = (at ≤ length sheet + 1) × (number ≤ at + 1) × (count ≤ number) × Judging sheet (behindOf sheet room) at number count last
 
 abbrev μ-loop : tie.MeasureT-loop
 μ-loop sheet room at₀ number₀ count₀ last₀ at number count last = length sheet + 1 - at

@@ -1,9 +1,7 @@
 -- `cue::weigh`: what a line is, and whether its start may follow.
-use Rattle.cue.specs.declared.Line.the-variants.{Start}
 use Rattle.cue.specs.declared.Line.{Line}
-use mathlib.Core.Path.{_≡_, refl, sym, ap, _∙_}
-use Rattle.ground.specs.Cases.{pick}
-use Rattle.cue.specs.Scan.{rises, weighedOf}
+use mathlib.Core.Path.{sym, ap, _∙_}
+use Rattle.cue.specs.Scan.{weighedOf}
 use Rattle.cue.proofs.Judging.{weighed-risen, weighed-fallen}
 use borrow.Author.Needs.{needs}
 use Rattle.cue.proofs.weigh.Statement.{statement}
