@@ -9,8 +9,9 @@
     crates/inspect/stdin    the card of the sample catalogue
 
 Each vector has its answer beside it, worked out by hand from document 01, and that of a sheet from W-212 of document 02.
-Only the check numbers of the tables are computed, from the tables that the vector was made of. A comment in quotation marks
-is a sentence of document 01, and of document 02 where it stands over sheets.
+Only two things are computed: the check numbers of the tables, from the tables that the vector was made of, and the starts of
+the two sheets that have 1,024 and 3,640 of them, by the request's formula. Many sheets are variants that a loop makes, with
+one answer set by hand for all of them. A comment in quotation marks is a sentence of document 01, and of document 02 where it stands over sheets.
 """
 import struct
 import sys
