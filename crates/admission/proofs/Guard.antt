@@ -5,9 +5,9 @@ use Prim.Native.Nat.{ℕ}
 use native.Mathlib.Omega.{arith}
 use Rattle.ground.specs.Cases.{pick, refused}
 use Rattle.ground.proofs.Cases.{past, here}
-use Rattle.tables.specs.Tables.{Tables}
-use Rattle.catalogue.specs.Catalogue.{catalogueRule, Right}
-use Rattle.catalogue.proofs.Laws.{is-right}
+use Rattle.catalogue_tables.specs.Tables.{Tables}
+use Rattle.catalogue_check.specs.Catalogue.{catalogueRule, Right}
+use Rattle.catalogue_check.proofs.Laws.{is-right}
 use Rattle.admission.specs.declared.Admitted.{Admitted}
 use Rattle.admission.specs.declared.Admitted.the-variants.{Fine, Catalogue, State}
 use Rattle.admission.specs.Refusals.{Left, leaves}

@@ -3,8 +3,8 @@
 use mathlib.Core.Bool.{Bool, not}
 use mathlib.Core.List.{List, _∷_}
 use Rattle.ground.specs.Cases.{pick}
-use Rattle.tables.specs.Tables.{Tables}
-use Rattle.catalogue.specs.Catalogue.{catalogueRule}
+use Rattle.catalogue_tables.specs.Tables.{Tables}
+use Rattle.catalogue_check.specs.Catalogue.{catalogueRule}
 use Rattle.admission.specs.Refusals.{Row, row}
 use Rattle.admission.specs.declared.Admitted.{Admitted}
 use Rattle.admission.specs.declared.Admitted.the-variants.{Fine, Catalogue, State}

@@ -1,6 +1,6 @@
 // The two rows that every call on a state has (document 01, "Refusal numbers"): 200, the catalogue; 201, the state.
 ghost use mathlib.Core.Path.{_≡_};
-ghost use Rattle.tables.specs.Tables.{tables};
+ghost use Rattle.catalogue_tables.specs.Tables.{tables};
 ghost use Rattle.admission.specs.Admission.{admittedOf};
 
 // Whether a call may go on to its work, or which row refuses it.
@@ -22,10 +22,10 @@ pub fn admit(
 ) -> Admitted
     ensures { λ r. ⌜ r ≡ admittedOf (tables (now (groups .entry)) (now (tracks .entry)) (now (segments .entry)) (now (text .entry))) stands ⌝ }
 {
-    let c = catalogue::check(groups, tracks, segments, text);
+    let c = catalogue_check::check(groups, tracks, segments, text);
     match c {
-        catalogue::Catalogue::Wrong => Admitted::Catalogue,
-        catalogue::Catalogue::Fine => {
+        catalogue_check::Catalogue::Wrong => Admitted::Catalogue,
+        catalogue_check::Catalogue::Fine => {
             if stands {
                 return Admitted::Fine;
             }

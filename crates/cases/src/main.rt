@@ -123,7 +123,7 @@ fn write_media(media: u8) {
     }
 }
 
-fn write_state(p: player::Player) {
+fn write_state(p: player_state::Player) {
     write_media(p.mode.media);
     write_number(ground::wide_octet(p.mode.order));
     write_signed(p.mode.speed);
@@ -171,7 +171,7 @@ fn write_answer(answer: Answer) {
 }
 
 // Writes the line of a call, and hands back the state that it left.
-fn report(o: Outcome) -> player::Player {
+fn report(o: Outcome) -> player_state::Player {
     let answer = o.answer;
     let p = o.player;
     write_answer(answer);
@@ -180,7 +180,7 @@ fn report(o: Outcome) -> player::Player {
 }
 
 // The same of a start; a refused one leaves the state that there was.
-fn report_start(o: Outcome, before: player::Player) -> player::Player {
+fn report_start(o: Outcome, before: player_state::Player) -> player_state::Player {
     let answer = o.answer;
     match answer {
         Answer::Done => report(o),
@@ -193,7 +193,7 @@ fn report_start(o: Outcome, before: player::Player) -> player::Player {
 }
 
 // The same of a value, with its octets.
-fn report_value(o: Outcome, out: &[u8; 128]) -> player::Player {
+fn report_value(o: Outcome, out: &[u8; 128]) -> player_state::Player {
     let whole = &out[..];
     let answer = o.answer;
     let p = o.player;
@@ -217,19 +217,19 @@ fn value(
     tracks: &[u32],
     segments: &[u32],
     text: &[u8],
-    p: player::Player,
+    p: player_state::Player,
     c: u32,
     room: usize,
-) -> player::Player {
+) -> player_state::Player {
     let mut out = [0u8; 128];
     let n = at_most(room, 128);
     let o = player_calls::value(groups, tracks, segments, text, p, c, &mut out[0..n]);
     report_value(o, &out)
 }
 
-fn with_name_length(p: player::Player, len: u8) -> player::Player {
+fn with_name_length(p: player_state::Player, len: u8) -> player_state::Player {
     let octets = p.name.octets;
-    let name = player::Name {
+    let name = player_state::Name {
         octets: octets,
         len: len,
     };
@@ -238,10 +238,10 @@ fn with_name_length(p: player::Player, len: u8) -> player::Player {
     q
 }
 
-fn with_first_octet(p: player::Player, first: u8) -> player::Player {
+fn with_first_octet(p: player_state::Player, first: u8) -> player_state::Player {
     let mut octets = p.name.octets;
     octets[0] = first;
-    let name = player::Name {
+    let name = player_state::Name {
         octets: octets,
         len: p.name.len,
     };
@@ -251,28 +251,38 @@ fn with_first_octet(p: player::Player, first: u8) -> player::Player {
 }
 
 // Sets one part of the state to anything.
-fn damage(p: player::Player, part: u8, number: u32) -> player::Player {
+fn damage(p: player_state::Player, part: u8, number: u32) -> player_state::Player {
     match part {
-        1 => player::in_mode(p, low(number), p.mode.seeking),
-        2 => player::with_order(p, low(number)),
-        3 => player::in_mode(p, p.mode.media, low(number)),
-        4 => player::at_place(p, tables::GroupNo(number), p.place.track, p.place.position),
-        5 => player::at_place(p, p.place.group, tables::TrackNo(number), p.place.position),
-        6 => player::at_position(p, tables::Position(number)),
+        1 => player_state::in_mode(p, low(number), p.mode.seeking),
+        2 => player_state::with_order(p, low(number)),
+        3 => player_state::in_mode(p, p.mode.media, low(number)),
+        4 => player_state::at_place(
+            p,
+            catalogue_tables::GroupNo(number),
+            p.place.track,
+            p.place.position,
+        ),
+        5 => player_state::at_place(
+            p,
+            p.place.group,
+            catalogue_tables::TrackNo(number),
+            p.place.position,
+        ),
+        6 => player_state::at_position(p, catalogue_tables::Position(number)),
         7 => with_name_length(p, low(number)),
         8 => with_first_octet(p, low(number)),
         _ => p,
     }
 }
 
-fn damaged(p: player::Player, part: u8, number: u32) -> player::Player {
+fn damaged(p: player_state::Player, part: u8, number: u32) -> player_state::Player {
     let q = damage(p, part, number);
     io::write_all(1, b"damaged");
     write_state(q);
     q
 }
 
-fn note(p: player::Player, words: &[u8]) -> player::Player {
+fn note(p: player_state::Player, words: &[u8]) -> player_state::Player {
     io::write_all(1, b"# ");
     io::write_all(1, words);
     io::write_all(1, b"\n");
@@ -285,12 +295,12 @@ fn call(
     tracks: &[u32],
     segments: &[u32],
     text: &[u8],
-    p: player::Player,
+    p: player_state::Player,
     kind: u8,
     octet: u8,
     number: u32,
     words: &[u8],
-) -> player::Player {
+) -> player_state::Player {
     match kind {
         1 => report_start(
             player_calls::start(groups, tracks, segments, text, words, number, octet),
@@ -303,7 +313,7 @@ fn call(
             segments,
             text,
             p,
-            tables::GroupNo(number),
+            catalogue_tables::GroupNo(number),
         )),
         4 => report(player_calls::deactivate(groups, tracks, segments, text, p)),
         5 => report(player_calls::advance(groups, tracks, segments, text, p, number)),
@@ -329,12 +339,12 @@ fn call(
 // The titles are Überfahrt, Rast, an empty one, and Ziel.
 fn call_over(
     catalogue: u8,
-    p: player::Player,
+    p: player_state::Player,
     kind: u8,
     octet: u8,
     number: u32,
     words: &[u8],
-) -> player::Player {
+) -> player_state::Player {
     let text = b"\xC3\x9CberfahrtRastZiel";
     match catalogue {
         0 => call(
@@ -381,7 +391,7 @@ fn text_length(s: &[u8]) -> usize
 }
 
 // Makes the call of the first frame.
-fn frame(s: &[u8], p: player::Player) -> player::Player {
+fn frame(s: &[u8], p: player_state::Player) -> player_state::Player {
     if s.len() < 8 {
         return p;
     }
@@ -402,7 +412,7 @@ fn behind(s: &[u8]) -> &[u8]
 
 fn frames(s: &[u8]) {
     let none: [u8; 0] = [];
-    let mut p = player::start(&none, 0, 0);
+    let mut p = player_state::start(&none, 0, 0);
     let mut left = s;
     while 0 < left.len() {
         p = frame(left, p);

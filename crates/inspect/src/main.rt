@@ -1,9 +1,9 @@
 // Reads a card from standard input, loads it into tables at the limits, and checks the catalogue that it holds.
 // Writes the counts and "catalogue fine", or the refusal number alone.
 ghost use Prim.Native.Nat.{_≤_};
-use card::Counts;
-use card::Loaded;
-use catalogue::Catalogue;
+use card_load::Counts;
+use card_load::Loaded;
+use catalogue_check::Catalogue;
 
 fn write_number(n: usize) {
     io::print_decimal(1, n as u64);
@@ -27,7 +27,7 @@ fn write_counts(counts: Counts) {
 
 // The loaded records alone are the catalogue.
 fn check(counts: Counts, groups: &[u32], tracks: &[u32], segments: &[u32], text: &[u8]) {
-    let answer = catalogue::check(groups, tracks, segments, text);
+    let answer = catalogue_check::check(groups, tracks, segments, text);
     match answer {
         Catalogue::Wrong => {
             refuse(200);
@@ -54,7 +54,7 @@ fn inspect(card: &[u8]) {
     let mut tracks = [0u32; 1536];
     let mut segments = [0u32; 1024];
     let mut text = [0u8; 32768];
-    let answer = card::load(card, &mut groups, &mut tracks, &mut segments, &mut text);
+    let answer = card_load::load(card, &mut groups, &mut tracks, &mut segments, &mut text);
     match answer {
         Loaded::BadLength => {
             refuse(210);

@@ -7,10 +7,10 @@ use native.Mathlib.Omega.{arith}
 use lib.Dec.{eqb}
 use lib.ListN.{length, take, drop, getD, drop-of-length-le}
 use Rattle.ground.proofs.Cases.{clash}
-use Rattle.cue.specs.declared.Cued.{Cued}
-use Rattle.cue.specs.declared.Cued.the-variants.{Done, TooLong, BadLine, NotRising, NoRoom}
-use Rattle.cue.specs.Sheet.{saidOf, cueSaid}
-use Rattle.cue.proofs.Small.{cue-small}
+use Rattle.catalogue_cue.specs.declared.Cued.{Cued}
+use Rattle.catalogue_cue.specs.declared.Cued.the-variants.{Done, TooLong, BadLine, NotRising, NoRoom}
+use Rattle.catalogue_cue.specs.Sheet.{saidOf, cueSaid}
+use Rattle.catalogue_cue.proofs.Small.{cue-small}
 use Rattle.mcs.specs.Calls.{lowWord, toldOf, toldAfter, carriedAfter}
 use Rattle.mcs.proofs.Short.{low}
 

@@ -3,7 +3,7 @@ use mathlib.Core.Path.{_≡_, sym, subst, _∙_}
 use mathlib.Core.List.{List}
 use Prim.Native.Nat.{ℕ}
 use Rattle.admission.specs.Refusals.{Left}
-use Rattle.desk.specs.declared.Desk.{Desk}
+use Rattle.desk_state.specs.declared.Desk.{Desk}
 use Rattle.mcs.specs.Calls.{Leaves}
 
 pub follow : {l m : Left Desk} {old new : List ℕ} {number : ℕ} → l ≡ m → Leaves l old number new → Leaves m old number new

@@ -10,23 +10,23 @@ use lib.ListN.{length, take, drop, getD, length-take, length-drop}
 use Rattle.ground.specs.Cases.{pick, Said, granted, refused, refuseIf}
 use Rattle.ground.specs.Limits.{mostGroups, mostTracks, mostSegments, mostText, groupWords, trackWords}
 use Rattle.ground.proofs.Cases.{and-left, and-right}
-use Rattle.tables.specs.Tables.{Tables}
-use Rattle.card.specs.Card.{blocksOf, recordCount, lengthRule, blocksRule}
-use Rattle.card.specs.Load.{fits, roomRule, loadSaid}
-use Rattle.slots.specs.Slots.{clientCount, slotTable, characteristicOf}
-use Rattle.values.specs.Values.{valueOf}
-use Rattle.handing.proofs.Fits.{value-fits}
+use Rattle.catalogue_tables.specs.Tables.{Tables}
+use Rattle.card_load.specs.Card.{blocksOf, recordCount, lengthRule, blocksRule}
+use Rattle.card_load.specs.Load.{fits, roomRule, loadSaid}
+use Rattle.desk_slots.specs.Slots.{clientCount, slotTable, characteristicOf}
+use Rattle.player_values.specs.Values.{valueOf}
+use Rattle.player_values.proofs.Fits.{value-fits}
 use Rattle.admission.specs.Refusals.{Left, leaves, Row, answered}
 use Rattle.admission.proofs.Rows.{NoneApplies}
-use Rattle.client.specs.declared.Client.{Client}
-use Rattle.client.specs.Client.{controlSlot, blankEntry}
-use Rattle.desk.specs.declared.Desk.{Desk}
-use Rattle.desk.specs.Desk.{clientAt}
-use Rattle.replies.specs.Replies.{askedBy, fronted}
-use Rattle.replies.proofs.Gates.{right, player}
-use Rattle.exchange.specs.Read.{valueNow, readRows, allReadRows, readOctets, readCall}
-use Rattle.takes.specs.Serving.{nextSlot, resultOctets, handedOctets, handedTo}
-use Rattle.takes.specs.Take.{nextClient, servedAt, takeRows, takenBy, takeCall}
+use Rattle.desk_client.specs.declared.Client.{Client}
+use Rattle.desk_client.specs.Client.{controlSlot, blankEntry}
+use Rattle.desk_state.specs.declared.Desk.{Desk}
+use Rattle.desk_state.specs.Desk.{clientAt}
+use Rattle.desk_replies.specs.Replies.{askedBy, fronted}
+use Rattle.desk_replies.proofs.Gates.{right, player}
+use Rattle.desk_exchange.specs.Read.{valueNow, readRows, allReadRows, readOctets, readCall}
+use Rattle.desk_take.specs.Serving.{nextSlot, resultOctets, handedOctets, handedTo}
+use Rattle.desk_take.specs.Take.{nextClient, servedAt, takeRows, takenBy, takeCall}
 use Rattle.mcs.specs.Calls.{lowWord, toldOf, toldAfter, wordsAfter}
 
 -- each of them is below 2^32

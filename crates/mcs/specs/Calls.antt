@@ -8,8 +8,8 @@ use lib.ListN.{length, take, drop, getD}
 use Rattle.ground.specs.Cases.{pick, Said}
 use Rattle.ground.specs.Lists.{filled}
 use Rattle.admission.specs.Refusals.{Left}
-use Rattle.desk.specs.declared.Desk.{Desk}
-use Rattle.codec.specs.Codec.{deskOf, deskOctets}
+use Rattle.desk_state.specs.declared.Desk.{Desk}
+use Rattle.mcs_state.specs.Codec.{deskOf, deskOctets}
 use Rattle.mcs.specs.declared.Told.{Told}
 
 -- the low 32 bits of a number

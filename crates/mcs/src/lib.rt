@@ -1,28 +1,28 @@
-// What C calls (include/mcs.h). The state is 338 octets that the caller keeps (`codec`); each call reads it out of them, makes its call, and writes it back
+// What C calls (include/mcs.h). The state is 338 octets that the caller keeps (`mcs_state`); each call reads it out of them, makes its call, and writes it back
 // where that is accepted. A call returns 0, or the number of the refusal: then nothing that was lent is altered.
 ghost use mathlib.Core.Path.{_≡_};
 ghost use mathlib.Core.List.{[], _∷_};
 ghost use Prim.Native.Nat.{_≤_};
 ghost use lib.ListN.{length as len};
-ghost use Rattle.tables.specs.Tables.{tables};
-ghost use Rattle.replies.specs.Replies.{saidOf, leftBy, outputAfter};
+ghost use Rattle.catalogue_tables.specs.Tables.{tables};
+ghost use Rattle.desk_replies.specs.Replies.{saidOf, leftBy, outputAfter};
 ghost use Rattle.ground.specs.Lists.{tableAfter};
 ghost use Rattle.ground.specs.Words.{words};
-ghost use Rattle.card.specs.Card.{blocksOf, gather, octets};
-ghost use Rattle.card.specs.Load.{saidOf as loadSaidOf, loadSaid};
+ghost use Rattle.card_load.specs.Card.{blocksOf, gather, octets};
+ghost use Rattle.card_load.specs.Load.{saidOf as loadSaidOf, loadSaid};
 ghost use Rattle.ground.specs.Cases.{refused as refusedBy, refusedWith, granted as grantedWith};
-ghost use Rattle.cue.specs.Sheet.{saidOf as cueSaidOf, cueSaid, sheetLines, startsOf};
-ghost use Rattle.codec.specs.Codec.{flag, deskOf};
-ghost use Rattle.console.specs.Console.{startCall, nameCall, activateCall, deactivateCall, advanceCall};
-ghost use Rattle.clients.specs.Links.{connectCall, disconnectCall, subscribeCall, unsubscribeCall};
-ghost use Rattle.exchange.specs.Read.{readCall, readOctets};
-ghost use Rattle.exchange.specs.Write.{writeCall};
-ghost use Rattle.takes.specs.Take.{takeCall, takeOctets};
+ghost use Rattle.catalogue_cue.specs.Sheet.{saidOf as cueSaidOf, cueSaid, sheetLines, startsOf};
+ghost use Rattle.mcs_state.specs.Codec.{flag, deskOf};
+ghost use Rattle.desk_console.specs.Console.{startCall, nameCall, activateCall, deactivateCall, advanceCall};
+ghost use Rattle.desk_links.specs.Links.{connectCall, disconnectCall, subscribeCall, unsubscribeCall};
+ghost use Rattle.desk_exchange.specs.Read.{readCall, readOctets};
+ghost use Rattle.desk_exchange.specs.Write.{writeCall};
+ghost use Rattle.desk_take.specs.Take.{takeCall, takeOctets};
 ghost use Rattle.mcs.specs.Calls.{Leaves, toldOf, toldAfter, wordsAfter, carriedAfter};
-use card::Loaded;
-use cue::Cued;
-use replies::Answer;
-use replies::Outcome;
+use card_load::Loaded;
+use catalogue_cue::Cued;
+use desk_replies::Answer;
+use desk_replies::Outcome;
 
 // What C is told of an answer: document 01's number, 0 where the call is accepted, and then its values as words, 0 where there is none.
 pub struct Told {
@@ -147,7 +147,7 @@ fn finish(o: Outcome, state: &mut [u8]) -> u32
     let n = t.number;
     if n == 0 {
         let next = o.desk;
-        codec::encode(next, state);
+        mcs_state::encode(next, state);
         return n;
     }
     n
@@ -170,7 +170,7 @@ pub extern "C" fn mcs_card_load(
     ensures { λ r. ⌜ now (text .exit) ≡ tableAfter (loadSaid (now (card .entry)) (len (now (groups .entry))) (len (now (tracks .entry))) (len (now (segments .entry))) (len (now (text .entry)))) (gather octets 4 (blocksOf (now (card .entry)))) (now (text .entry)) ⌝ }
     ensures { λ r. ⌜ now (counts .exit) ≡ wordsAfter (loadSaid (now (card .entry)) (len (now (groups .entry))) (len (now (tracks .entry))) (len (now (segments .entry))) (len (now (text .entry)))) (now (counts .entry)) ⌝ }
 {
-    let l = card::load(card, groups, tracks, segments, text);
+    let l = card_load::load(card, groups, tracks, segments, text);
     let t = told_of_load(l);
     let values = t.values;
     tell(t.number, values, counts);
@@ -190,7 +190,7 @@ pub extern "C" fn mcs_cue_sheet(
     ensures { λ r. ⌜ now (count .exit) ≡ wordsAfter (cueSaid (now (sheet .entry)) (len (now (starts .entry)))) (now (count .entry)) ⌝ }
     ensures { λ r. ⌜ now (line .exit) ≡ carriedAfter (cueSaid (now (sheet .entry)) (len (now (starts .entry)))) (now (line .entry)) ⌝ }
 {
-    let a = cue::read(sheet, starts);
+    let a = catalogue_cue::read(sheet, starts);
     let t = told_of_cue(a);
     let values = t.values;
     let number = t.number;
@@ -215,7 +215,7 @@ pub extern "C" fn mcs_start(
 ) -> u32
     ensures { λ r. ⌜ Leaves (startCall (tables (now (groups .entry)) (now (tracks .entry)) (now (segments .entry)) (now (text .entry))) (now (name .entry)) mask ccid) (now (state .entry)) r (now (state .exit)) ⌝ }
 {
-    let o = console::start(groups, tracks, segments, text, name, mask, ccid);
+    let o = desk_console::start(groups, tracks, segments, text, name, mask, ccid);
     finish(o, state)
 }
 
@@ -231,8 +231,8 @@ pub extern "C" fn mcs_set_name(
 ) -> u32
     ensures { λ r. ⌜ Leaves (nameCall (tables (now (groups .entry)) (now (tracks .entry)) (now (segments .entry)) (now (text .entry))) (deskOf (now (state .entry))) (now (name .entry))) (now (state .entry)) r (now (state .exit)) ⌝ }
 {
-    let d = codec::decode(state);
-    let o = console::set_name(groups, tracks, segments, text, d, name);
+    let d = mcs_state::decode(state);
+    let o = desk_console::set_name(groups, tracks, segments, text, d, name);
     finish(o, state)
 }
 
@@ -248,9 +248,9 @@ pub extern "C" fn mcs_activate(
 ) -> u32
     ensures { λ r. ⌜ Leaves (activateCall (tables (now (groups .entry)) (now (tracks .entry)) (now (segments .entry)) (now (text .entry))) (deskOf (now (state .entry))) group) (now (state .entry)) r (now (state .exit)) ⌝ }
 {
-    let d = codec::decode(state);
-    let g = tables::GroupNo(group);
-    let o = console::activate(groups, tracks, segments, text, d, g);
+    let d = mcs_state::decode(state);
+    let g = catalogue_tables::GroupNo(group);
+    let o = desk_console::activate(groups, tracks, segments, text, d, g);
     finish(o, state)
 }
 
@@ -265,8 +265,8 @@ pub extern "C" fn mcs_deactivate(
 ) -> u32
     ensures { λ r. ⌜ Leaves (deactivateCall (tables (now (groups .entry)) (now (tracks .entry)) (now (segments .entry)) (now (text .entry))) (deskOf (now (state .entry)))) (now (state .entry)) r (now (state .exit)) ⌝ }
 {
-    let d = codec::decode(state);
-    let o = console::deactivate(groups, tracks, segments, text, d);
+    let d = mcs_state::decode(state);
+    let o = desk_console::deactivate(groups, tracks, segments, text, d);
     finish(o, state)
 }
 
@@ -282,8 +282,8 @@ pub extern "C" fn mcs_advance(
 ) -> u32
     ensures { λ r. ⌜ Leaves (advanceCall (tables (now (groups .entry)) (now (tracks .entry)) (now (segments .entry)) (now (text .entry))) (deskOf (now (state .entry))) step) (now (state .entry)) r (now (state .exit)) ⌝ }
 {
-    let d = codec::decode(state);
-    let o = console::advance(groups, tracks, segments, text, d, step);
+    let d = mcs_state::decode(state);
+    let o = desk_console::advance(groups, tracks, segments, text, d, step);
     finish(o, state)
 }
 
@@ -301,8 +301,8 @@ pub extern "C" fn mcs_connect(
 ) -> u32
     ensures { λ r. ⌜ Leaves (connectCall (tables (now (groups .entry)) (now (tracks .entry)) (now (segments .entry)) (now (text .entry))) (deskOf (now (state .entry))) client mtu (flag encrypted)) (now (state .entry)) r (now (state .exit)) ⌝ }
 {
-    let d = codec::decode(state);
-    let o = clients::connect(
+    let d = mcs_state::decode(state);
+    let o = desk_links::connect(
         groups,
         tracks,
         segments,
@@ -327,8 +327,8 @@ pub extern "C" fn mcs_disconnect(
 ) -> u32
     ensures { λ r. ⌜ Leaves (disconnectCall (tables (now (groups .entry)) (now (tracks .entry)) (now (segments .entry)) (now (text .entry))) (deskOf (now (state .entry))) client) (now (state .entry)) r (now (state .exit)) ⌝ }
 {
-    let d = codec::decode(state);
-    let o = clients::disconnect(groups, tracks, segments, text, d, client);
+    let d = mcs_state::decode(state);
+    let o = desk_links::disconnect(groups, tracks, segments, text, d, client);
     finish(o, state)
 }
 
@@ -345,8 +345,8 @@ pub extern "C" fn mcs_subscribe(
 ) -> u32
     ensures { λ r. ⌜ Leaves (subscribeCall (tables (now (groups .entry)) (now (tracks .entry)) (now (segments .entry)) (now (text .entry))) (deskOf (now (state .entry))) client characteristic) (now (state .entry)) r (now (state .exit)) ⌝ }
 {
-    let d = codec::decode(state);
-    let o = clients::subscribe(groups, tracks, segments, text, d, client, characteristic);
+    let d = mcs_state::decode(state);
+    let o = desk_links::subscribe(groups, tracks, segments, text, d, client, characteristic);
     finish(o, state)
 }
 
@@ -363,8 +363,8 @@ pub extern "C" fn mcs_unsubscribe(
 ) -> u32
     ensures { λ r. ⌜ Leaves (unsubscribeCall (tables (now (groups .entry)) (now (tracks .entry)) (now (segments .entry)) (now (text .entry))) (deskOf (now (state .entry))) client characteristic) (now (state .entry)) r (now (state .exit)) ⌝ }
 {
-    let d = codec::decode(state);
-    let o = clients::unsubscribe(groups, tracks, segments, text, d, client, characteristic);
+    let d = mcs_state::decode(state);
+    let o = desk_links::unsubscribe(groups, tracks, segments, text, d, client, characteristic);
     finish(o, state)
 }
 
@@ -386,8 +386,8 @@ pub extern "C" fn mcs_read(
     ensures { λ r. ⌜ now (out .exit) ≡ outputAfter (readCall (tables (now (groups .entry)) (now (tracks .entry)) (now (segments .entry)) (now (text .entry))) (deskOf (now (state .entry))) client characteristic offset (len (now (out .entry))) .said) (readOctets (tables (now (groups .entry)) (now (tracks .entry)) (now (segments .entry)) (now (text .entry))) (deskOf (now (state .entry))) client characteristic offset) (now (out .entry)) ⌝ }
     ensures { λ r. ⌜ now (length .exit) ≡ wordsAfter (readCall (tables (now (groups .entry)) (now (tracks .entry)) (now (segments .entry)) (now (text .entry))) (deskOf (now (state .entry))) client characteristic offset (len (now (out .entry))) .said) (now (length .entry)) ⌝ }
 {
-    let d = codec::decode(state);
-    let o = exchange::read(
+    let d = mcs_state::decode(state);
+    let o = desk_exchange::read(
         groups,
         tracks,
         segments,
@@ -420,8 +420,8 @@ pub extern "C" fn mcs_take(
     ensures { λ r. ⌜ now (out .exit) ≡ outputAfter (takeCall (tables (now (groups .entry)) (now (tracks .entry)) (now (segments .entry)) (now (text .entry))) (deskOf (now (state .entry))) (len (now (out .entry))) .said) (takeOctets (tables (now (groups .entry)) (now (tracks .entry)) (now (segments .entry)) (now (text .entry))) (deskOf (now (state .entry)))) (now (out .entry)) ⌝ }
     ensures { λ r. ⌜ now (served .exit) ≡ wordsAfter (takeCall (tables (now (groups .entry)) (now (tracks .entry)) (now (segments .entry)) (now (text .entry))) (deskOf (now (state .entry))) (len (now (out .entry))) .said) (now (served .entry)) ⌝ }
 {
-    let d = codec::decode(state);
-    let o = takes::take(groups, tracks, segments, text, d, out);
+    let d = mcs_state::decode(state);
+    let o = desk_take::take(groups, tracks, segments, text, d, out);
     let answer = o.answer;
     let t = told_of(answer);
     let values = t.values;
@@ -443,8 +443,8 @@ pub extern "C" fn mcs_write(
 ) -> u32
     ensures { λ r. ⌜ Leaves (writeCall (tables (now (groups .entry)) (now (tracks .entry)) (now (segments .entry)) (now (text .entry))) (deskOf (now (state .entry))) client characteristic (now (value .entry))) (now (state .entry)) r (now (state .exit)) ⌝ }
 {
-    let d = codec::decode(state);
-    let o = exchange::write(
+    let d = mcs_state::decode(state);
+    let o = desk_exchange::write(
         groups,
         tracks,
         segments,

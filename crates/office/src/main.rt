@@ -6,9 +6,9 @@
 // call takes, an octet for the room of the lent output, one for the length of the text, the text.
 ghost use Prim.Native.Nat.{_-_, _<_, _≤_};
 ghost use lib.ListN.{length};
-ghost use Rattle.slots.specs.Slots.{slotCount};
-use replies::Answer;
-use replies::Outcome;
+ghost use Rattle.desk_slots.specs.Slots.{slotCount};
+use desk_replies::Answer;
+use desk_replies::Outcome;
 
 // "Groups: 0 (no tracks), 1 (tracks 0–2), 2 (none), 3 (track 3); parents 0."
 const GROUPS: [u32; 12] = [0, 0, 0, 0, 0, 3, 0, 3, 0, 0, 3, 1];
@@ -168,7 +168,7 @@ fn write_media(media: u8) {
     }
 }
 
-fn write_player(p: player::Player) {
+fn write_player(p: player_state::Player) {
     write_media(p.mode.media);
     write_number(ground::wide_octet(p.mode.order));
     write_signed(p.mode.speed);
@@ -183,14 +183,14 @@ fn write_slot(w: u32, s: u32)
     requires { ⌜ s < slotCount ⌝ }
 {
     if ground::has_bit(w, s) {
-        write_number(slots::characteristic_of(s));
+        write_number(desk_slots::characteristic_of(s));
     }
 }
 
 // The characteristics of a word of slots.
 fn write_slots(w: u32) {
     let mut s: u32 = 0;
-    while s < slots::SLOTS {
+    while s < desk_slots::SLOTS {
         write_slot(w, s);
         s += 1;
     }
@@ -199,12 +199,12 @@ fn write_slots(w: u32) {
 // The same, and a + for bits outside the slots.
 fn write_set(w: u32) {
     write_slots(w);
-    if !slots::only_slots(w) {
+    if !desk_slots::only_slots(w) {
         io::write_all(1, b" +");
     }
 }
 
-fn write_client(c: client::Client) {
+fn write_client(c: desk_client::Client) {
     io::write_all(1, b" |");
     if !c.connected {
         io::write_all(1, b" -");
@@ -219,13 +219,13 @@ fn write_client(c: client::Client) {
     io::print_decimal(1, c.waiting as u64);
 }
 
-fn write_state(d: desk::Desk) {
+fn write_state(d: desk_state::Desk) {
     let p = d.player;
     write_player(p);
-    write_client(desk::client_at(d, 0));
-    write_client(desk::client_at(d, 1));
-    write_client(desk::client_at(d, 2));
-    write_client(desk::client_at(d, 3));
+    write_client(desk_state::client_at(d, 0));
+    write_client(desk_state::client_at(d, 1));
+    write_client(desk_state::client_at(d, 2));
+    write_client(desk_state::client_at(d, 3));
 }
 
 // A refusal by a number of this project.
@@ -326,7 +326,7 @@ fn write_taken(answer: Answer) {
 }
 
 // Writes the line of a call, and hands back the state that it left.
-fn report(o: Outcome) -> desk::Desk {
+fn report(o: Outcome) -> desk_state::Desk {
     let answer = o.answer;
     let d = o.desk;
     write_answer(answer);
@@ -336,7 +336,7 @@ fn report(o: Outcome) -> desk::Desk {
 }
 
 // The same of a start; a refused one leaves the state that there was.
-fn report_start(o: Outcome, before: desk::Desk) -> desk::Desk {
+fn report_start(o: Outcome, before: desk_state::Desk) -> desk_state::Desk {
     let answer = o.answer;
     match answer {
         Answer::Done => report(o),
@@ -370,7 +370,7 @@ fn is_untouched(s: &[u8]) -> bool {
 }
 
 // The rest of the line of a read or a take, from the octets on. "lent octets behind the answer stay"
-fn report_lent(o: Outcome, out: &[u8; MOST_ROOM]) -> desk::Desk {
+fn report_lent(o: Outcome, out: &[u8; MOST_ROOM]) -> desk_state::Desk {
     let whole = &out[..];
     let answer = o.answer;
     let d = o.desk;
@@ -389,12 +389,12 @@ fn read(
     tracks: &[u32],
     segments: &[u32],
     text: &[u8],
-    d: desk::Desk,
+    d: desk_state::Desk,
     c: Ask,
-) -> desk::Desk {
+) -> desk_state::Desk {
     let mut out = [LENT; MOST_ROOM];
     let room = at_most(c.room, MOST_ROOM);
-    let o = exchange::read(
+    let o = desk_exchange::read(
         groups,
         tracks,
         segments,
@@ -415,20 +415,20 @@ fn take(
     tracks: &[u32],
     segments: &[u32],
     text: &[u8],
-    d: desk::Desk,
+    d: desk_state::Desk,
     c: Ask,
-) -> desk::Desk {
+) -> desk_state::Desk {
     let mut out = [LENT; MOST_ROOM];
     let room = at_most(c.room, MOST_ROOM);
-    let o = takes::take(groups, tracks, segments, text, d, &mut out[0..room]);
+    let o = desk_take::take(groups, tracks, segments, text, d, &mut out[0..room]);
     let answer = o.answer;
     write_taken(answer);
     report_lent(o, &out)
 }
 
-fn with_name_length(p: player::Player, len: u8) -> player::Player {
+fn with_name_length(p: player_state::Player, len: u8) -> player_state::Player {
     let octets = p.name.octets;
-    let name = player::Name {
+    let name = player_state::Name {
         octets: octets,
         len: len,
     };
@@ -438,25 +438,35 @@ fn with_name_length(p: player::Player, len: u8) -> player::Player {
 }
 
 // Sets one part of the player to anything.
-fn damage_player(p: player::Player, part: u8, number: u32) -> player::Player {
+fn damage_player(p: player_state::Player, part: u8, number: u32) -> player_state::Player {
     match part {
-        1 => player::in_mode(p, low(number), p.mode.seeking),
-        2 => player::with_order(p, low(number)),
-        3 => player::in_mode(p, p.mode.media, low(number)),
-        4 => player::at_place(p, tables::GroupNo(number), p.place.track, p.place.position),
-        5 => player::at_place(p, p.place.group, tables::TrackNo(number), p.place.position),
-        6 => player::at_position(p, tables::Position(number)),
+        1 => player_state::in_mode(p, low(number), p.mode.seeking),
+        2 => player_state::with_order(p, low(number)),
+        3 => player_state::in_mode(p, p.mode.media, low(number)),
+        4 => player_state::at_place(
+            p,
+            catalogue_tables::GroupNo(number),
+            p.place.track,
+            p.place.position,
+        ),
+        5 => player_state::at_place(
+            p,
+            p.place.group,
+            catalogue_tables::TrackNo(number),
+            p.place.position,
+        ),
+        6 => player_state::at_position(p, catalogue_tables::Position(number)),
         7 => with_name_length(p, low(number)),
         _ => p,
     }
 }
 
 // The code of the result at a place: the place is the second octet of the number, the code its first.
-fn with_code(c: client::Client, number: u32) -> client::Client {
+fn with_code(c: desk_client::Client, number: u32) -> desk_client::Client {
     let mut results = c.results;
     let at = ground::wide_word(number / 256 % 8);
     let e = results[at];
-    results[at] = client::Entry {
+    results[at] = desk_client::Entry {
         opcode: e.opcode,
         code: low(number),
     };
@@ -466,7 +476,7 @@ fn with_code(c: client::Client, number: u32) -> client::Client {
 }
 
 // Sets one part of a client's record to anything.
-fn damage_client(c: client::Client, part: u8, number: u32) -> client::Client {
+fn damage_client(c: desk_client::Client, part: u8, number: u32) -> desk_client::Client {
     let mut d = c;
     match part {
         10 => {
@@ -502,26 +512,26 @@ fn damage_client(c: client::Client, part: u8, number: u32) -> client::Client {
 }
 
 // The parts up to 8 are the player's, 9 is the round of the clients, the others are a client's.
-fn damage(d: desk::Desk, who: u32, part: u8, number: u32) -> desk::Desk {
+fn damage(d: desk_state::Desk, who: u32, part: u8, number: u32) -> desk_state::Desk {
     if part < 9 {
         let p = d.player;
         let q = damage_player(p, part, number);
-        return desk::with_player(d, q);
+        return desk_state::with_player(d, q);
     }
     if part == 9 {
         let mut e = d;
         e.turn = number;
         return e;
     }
-    if who < slots::CLIENTS {
-        let c = desk::client_at(d, who);
+    if who < desk_slots::CLIENTS {
+        let c = desk_state::client_at(d, who);
         let next = damage_client(c, part, number);
-        return desk::with_client(d, who, next);
+        return desk_state::with_client(d, who, next);
     }
     d
 }
 
-fn damaged(d: desk::Desk, c: Ask) -> desk::Desk {
+fn damaged(d: desk_state::Desk, c: Ask) -> desk_state::Desk {
     let e = damage(d, c.who, c.octet, c.number);
     io::write_all(1, b"damaged");
     write_state(e);
@@ -529,7 +539,7 @@ fn damaged(d: desk::Desk, c: Ask) -> desk::Desk {
     e
 }
 
-fn note(d: desk::Desk, words: &[u8]) -> desk::Desk {
+fn note(d: desk_state::Desk, words: &[u8]) -> desk_state::Desk {
     io::write_all(1, b"# ");
     io::write_all(1, words);
     io::write_all(1, b"\n");
@@ -542,27 +552,27 @@ fn call_desk(
     tracks: &[u32],
     segments: &[u32],
     text: &[u8],
-    d: desk::Desk,
+    d: desk_state::Desk,
     c: Ask,
     words: &[u8],
-) -> desk::Desk {
+) -> desk_state::Desk {
     let kind = c.kind;
     match kind {
         1 => report_start(
-            console::start(groups, tracks, segments, text, words, c.number, c.octet),
+            desk_console::start(groups, tracks, segments, text, words, c.number, c.octet),
             d,
         ),
-        2 => report(console::set_name(groups, tracks, segments, text, d, words)),
-        3 => report(console::activate(
+        2 => report(desk_console::set_name(groups, tracks, segments, text, d, words)),
+        3 => report(desk_console::activate(
             groups,
             tracks,
             segments,
             text,
             d,
-            tables::GroupNo(c.number),
+            catalogue_tables::GroupNo(c.number),
         )),
-        4 => report(console::deactivate(groups, tracks, segments, text, d)),
-        5 => report(console::advance(groups, tracks, segments, text, d, c.number)),
+        4 => report(desk_console::deactivate(groups, tracks, segments, text, d)),
+        5 => report(desk_console::advance(groups, tracks, segments, text, d, c.number)),
         _ => note(d, words),
     }
 }
@@ -573,14 +583,14 @@ fn call_client(
     tracks: &[u32],
     segments: &[u32],
     text: &[u8],
-    d: desk::Desk,
+    d: desk_state::Desk,
     c: Ask,
     words: &[u8],
-) -> desk::Desk {
+) -> desk_state::Desk {
     let kind = c.kind;
     let characteristic = ground::wide_octet(c.octet);
     match kind {
-        6 => report(clients::connect(
+        6 => report(desk_links::connect(
             groups,
             tracks,
             segments,
@@ -590,11 +600,27 @@ fn call_client(
             c.number,
             c.octet != 0,
         )),
-        7 => report(clients::disconnect(groups, tracks, segments, text, d, c.who)),
-        8 => report(clients::subscribe(groups, tracks, segments, text, d, c.who, characteristic)),
-        9 => report(clients::unsubscribe(groups, tracks, segments, text, d, c.who, characteristic)),
+        7 => report(desk_links::disconnect(groups, tracks, segments, text, d, c.who)),
+        8 => report(desk_links::subscribe(
+            groups,
+            tracks,
+            segments,
+            text,
+            d,
+            c.who,
+            characteristic,
+        )),
+        9 => report(desk_links::unsubscribe(
+            groups,
+            tracks,
+            segments,
+            text,
+            d,
+            c.who,
+            characteristic,
+        )),
         10 => read(groups, tracks, segments, text, d, c),
-        11 => report(exchange::write(
+        11 => report(desk_exchange::write(
             groups,
             tracks,
             segments,
@@ -614,17 +640,17 @@ fn call(
     tracks: &[u32],
     segments: &[u32],
     text: &[u8],
-    d: desk::Desk,
+    d: desk_state::Desk,
     c: Ask,
     words: &[u8],
-) -> desk::Desk {
+) -> desk_state::Desk {
     if c.kind < 6 {
         return call_desk(groups, tracks, segments, text, d, c, words);
     }
     call_client(groups, tracks, segments, text, d, c, words)
 }
 
-fn call_over(catalogue: u8, d: desk::Desk, c: Ask, words: &[u8]) -> desk::Desk {
+fn call_over(catalogue: u8, d: desk_state::Desk, c: Ask, words: &[u8]) -> desk_state::Desk {
     let text = b"\xC3\x9CberfahrtRastZiel";
     match catalogue {
         0 => call(&GROUPS, &TRACKS, &SEGMENTS, text, d, c, words),
@@ -650,7 +676,7 @@ fn text_length(s: &[u8]) -> usize
 }
 
 // Makes the call of the first frame.
-fn frame(s: &[u8], d: desk::Desk) -> desk::Desk {
+fn frame(s: &[u8], d: desk_state::Desk) -> desk_state::Desk {
     if s.len() < 10 {
         return d;
     }
@@ -680,7 +706,7 @@ fn behind(s: &[u8]) -> &[u8]
 
 fn frames(s: &[u8]) {
     let none: [u8; 0] = [];
-    let mut d = desk::fresh_desk(player::start(&none, 0, 0));
+    let mut d = desk_state::fresh_desk(player_state::start(&none, 0, 0));
     let mut left = s;
     while 0 < left.len() {
         d = frame(left, d);

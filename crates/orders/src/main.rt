@@ -3,10 +3,10 @@
 ghost use Prim.Native.Nat.{_≤_};
 ghost use lib.ListN.{length};
 ghost use Rattle.ground.specs.Limits.{mostGroups};
-ghost use Rattle.order.specs.Order.{Run};
-use card::Loaded;
-use catalogue::Catalogue;
-use order::NearTrack;
+ghost use Rattle.player_orders.specs.Order.{Run};
+use card_load::Loaded;
+use catalogue_check::Catalogue;
+use player_orders::NearTrack;
 
 fn refuse(number: u64) {
     io::print_decimal(1, number);
@@ -14,7 +14,12 @@ fn refuse(number: u64) {
 }
 
 // The track behind t in order 5; nothing stands behind what is no track of the run.
-fn after(tracks: &[u32], first: tables::TrackNo, count: u32, t: tables::TrackNo) -> NearTrack
+fn after(
+    tracks: &[u32],
+    first: catalogue_tables::TrackNo,
+    count: u32,
+    t: catalogue_tables::TrackNo,
+) -> NearTrack
     requires { ⌜ Run (length (now tracks)) (first .0) count ⌝ }
 {
     if t.0 < first.0 {
@@ -23,11 +28,16 @@ fn after(tracks: &[u32], first: tables::TrackNo, count: u32, t: tables::TrackNo)
     if first.0 + count <= t.0 {
         return NearTrack::None;
     }
-    order::track_after(tracks, 5, first, count, t, walk::Step::Next)
+    player_orders::track_after(tracks, 5, first, count, t, player_walk::Step::Next)
 }
 
 // Writes what was found, and finds what comes behind it.
-fn write_found(tracks: &[u32], first: tables::TrackNo, count: u32, found: NearTrack) -> NearTrack
+fn write_found(
+    tracks: &[u32],
+    first: catalogue_tables::TrackNo,
+    count: u32,
+    found: NearTrack,
+) -> NearTrack
     requires { ⌜ Run (length (now tracks)) (first .0) count ⌝ }
 {
     match found {
@@ -41,10 +51,10 @@ fn write_found(tracks: &[u32], first: tables::TrackNo, count: u32, found: NearTr
 }
 
 // A run has no more tracks than its count.
-fn write_run(tracks: &[u32], first: tables::TrackNo, count: u32)
+fn write_run(tracks: &[u32], first: catalogue_tables::TrackNo, count: u32)
     requires { ⌜ Run (length (now tracks)) (first .0) count ⌝ }
 {
-    let mut found = order::entry_track(tracks, 5, first, count);
+    let mut found = player_orders::entry_track(tracks, 5, first, count);
     let mut left = count;
     while 0 < left {
         found = write_found(tracks, first, count, found);
@@ -54,9 +64,9 @@ fn write_run(tracks: &[u32], first: tables::TrackNo, count: u32)
 
 // A group without tracks is left out. The run of a checked catalogue's group lies in the tracks.
 fn write_group(groups: &[u32], tracks: &[u32], g: u32) {
-    let group = tables::GroupNo(g);
-    let first = tables::first_track(groups, group);
-    let count = tables::tracks_in(groups, group);
+    let group = catalogue_tables::GroupNo(g);
+    let first = catalogue_tables::first_track(groups, group);
+    let count = catalogue_tables::tracks_in(groups, group);
     let end = ground::wide_word(first.0) + ground::wide_word(count);
     if count == 0 {
         return;
@@ -87,7 +97,7 @@ fn write_groups(groups: &[u32], tracks: &[u32], count: usize)
 fn check(count: usize, groups: &[u32], tracks: &[u32], segments: &[u32], text: &[u8])
     requires { ⌜ count ≤ mostGroups ⌝ }
 {
-    let answer = catalogue::check(groups, tracks, segments, text);
+    let answer = catalogue_check::check(groups, tracks, segments, text);
     match answer {
         Catalogue::Wrong => {
             refuse(200);
@@ -113,7 +123,7 @@ fn write_card(card: &[u8]) {
     let mut tracks = [0u32; 1536];
     let mut segments = [0u32; 1024];
     let mut text = [0u8; 32768];
-    let answer = card::load(card, &mut groups, &mut tracks, &mut segments, &mut text);
+    let answer = card_load::load(card, &mut groups, &mut tracks, &mut segments, &mut text);
     match answer {
         Loaded::BadLength => {
             refuse(210);

@@ -8,9 +8,9 @@ use lib.Dec.{eqb}
 use Rattle.ground.specs.Cases.{pick, Said}
 use Rattle.ground.proofs.Settled.{settled}
 use Rattle.admission.specs.Refusals.{Left}
-use Rattle.player.specs.declared.Player.{Player}
-use Rattle.tables.specs.declared.GroupNo.{GroupNo}
-use Rattle.values.specs.Values.{valueOf}
+use Rattle.player_state.specs.declared.Player.{Player}
+use Rattle.catalogue_tables.specs.declared.GroupNo.{GroupNo}
+use Rattle.player_values.specs.Values.{valueOf}
 use Rattle.player_calls.specs.declared.Answer.{Answer}
 use Rattle.player_calls.specs.declared.Answer.the-variants.{Done, Value, BadCatalogue, SmallOutput, BadState, BadOrder, BadName, BadGroup}
 use Rattle.player_calls.specs.declared.Outcome.{Outcome}

@@ -7,16 +7,16 @@ use lib.Dec.{ltb, eqb}
 use lib.ListN.{length}
 use Rattle.ground.specs.Cases.{pick, within, Said, granted, refused}
 use Rattle.ground.specs.Lists.{filled}
-use Rattle.tables.specs.Tables.{Tables}
-use Rattle.catalogue.specs.Catalogue.{catalogueRule}
+use Rattle.catalogue_tables.specs.Tables.{Tables}
+use Rattle.catalogue_check.specs.Catalogue.{catalogueRule}
 use Rattle.admission.specs.Refusals.{Left, Row, leaves, row, answered}
 use Rattle.admission.specs.Admission.{guarded}
-use Rattle.player.specs.declared.Player.{Player}
-use Rattle.player.specs.Player.{startedPlayer, renamed, deactivated, withOrder, withSpeed}
-use Rattle.standing.specs.Standing.{textRule, groupRule, playerRule}
-use Rattle.moves.specs.Control.{controlled}
-use Rattle.moves.specs.Clock.{advanced, positioned, activated}
-use Rattle.values.specs.Values.{valueOf}
+use Rattle.player_state.specs.declared.Player.{Player}
+use Rattle.player_state.specs.Player.{startedPlayer, renamed, deactivated, withOrder, withSpeed}
+use Rattle.player_check.specs.Standing.{textRule, groupRule, playerRule}
+use Rattle.player_moves.specs.Control.{controlled}
+use Rattle.player_moves.specs.Clock.{advanced, positioned, activated}
+use Rattle.player_values.specs.Values.{valueOf}
 use Rattle.player_calls.specs.declared.Answer.{Answer}
 use Rattle.player_calls.specs.declared.Answer.the-variants.{Done, Value, BadCatalogue, SmallOutput, BadState, BadOrder, BadName, BadGroup}
 use Rattle.player_calls.specs.declared.Outcome.{Outcome}

@@ -1,8 +1,8 @@
 // The calls of the player layer. Each checks catalogue and state itself, and refuses by document 01's numbers.
 ghost use mathlib.Core.Path.{_≡_};
 ghost use lib.ListN.{length};
-ghost use Rattle.values.specs.Values.{valueOf};
-ghost use Rattle.tables.specs.Tables.{tables};
+ghost use Rattle.player_values.specs.Values.{valueOf};
+ghost use Rattle.catalogue_tables.specs.Tables.{tables};
 ghost use Rattle.admission.specs.Refusals.{leaves};
 ghost use Rattle.admission.specs.Admission.{admittedOf};
 ghost use Rattle.player_calls.specs.Calls.{leftBy, stateRight, checkCall, startCall, nameCall, activateCall, deactivateCall, advanceCall, positionCall, speedCall, orderCall, controlCall, valueCall, outputAfter, saidOf};
@@ -27,10 +27,10 @@ pub enum Answer {
 
 pub struct Outcome {
     pub answer: Answer,
-    pub player: player::Player,
+    pub player: player_state::Player,
 }
 
-fn left(answer: Answer, p: player::Player) -> Outcome
+fn left(answer: Answer, p: player_state::Player) -> Outcome
     ensures { λ r. ⌜ leftBy r ≡ leaves (saidOf answer) p ⌝ }
 {
     Outcome {
@@ -44,11 +44,11 @@ fn admit(
     tracks: &[u32],
     segments: &[u32],
     text: &[u8],
-    p: player::Player,
+    p: player_state::Player,
 ) -> admission::Admitted
     ensures { λ r. ⌜ r ≡ admittedOf (tables (now (groups .entry)) (now (tracks .entry)) (now (segments .entry)) (now (text .entry))) (stateRight (tables (now (groups .entry)) (now (tracks .entry)) (now (segments .entry)) (now (text .entry))) p) ⌝ }
 {
-    let stands = standing::player_right(groups, tracks, p);
+    let stands = player_check::player_right(groups, tracks, p);
     admission::admit(groups, tracks, segments, text, stands)
 }
 
@@ -58,7 +58,7 @@ pub fn check(
     tracks: &[u32],
     segments: &[u32],
     text: &[u8],
-    p: player::Player,
+    p: player_state::Player,
 ) -> Outcome
     ensures { λ r. ⌜ leftBy r ≡ checkCall (tables (now (groups .entry)) (now (tracks .entry)) (now (segments .entry)) (now (text .entry))) p ⌝ }
 {
@@ -83,15 +83,15 @@ pub fn start(
     ensures { λ r. ⌜ leftBy r ≡ startCall (tables (now (groups .entry)) (now (tracks .entry)) (now (segments .entry)) (now (text .entry))) (now (name .entry)) mask ccid ⌝ }
 {
     let none: [u8; 0] = [];
-    let blank = player::start(&none, mask, ccid);
-    let c = catalogue::check(groups, tracks, segments, text);
+    let blank = player_state::start(&none, mask, ccid);
+    let c = catalogue_check::check(groups, tracks, segments, text);
     match c {
-        catalogue::Catalogue::Wrong => left(Answer::BadCatalogue, blank),
-        catalogue::Catalogue::Fine => {
-            if !standing::text_right(name) {
+        catalogue_check::Catalogue::Wrong => left(Answer::BadCatalogue, blank),
+        catalogue_check::Catalogue::Fine => {
+            if !player_check::text_right(name) {
                 return left(Answer::BadName, blank);
             }
-            let p = player::start(name, mask, ccid);
+            let p = player_state::start(name, mask, ccid);
             left(Answer::Done, p)
         }
     }
@@ -103,7 +103,7 @@ pub fn set_name(
     tracks: &[u32],
     segments: &[u32],
     text: &[u8],
-    p: player::Player,
+    p: player_state::Player,
     name: &[u8],
 ) -> Outcome
     ensures { λ r. ⌜ leftBy r ≡ nameCall (tables (now (groups .entry)) (now (tracks .entry)) (now (segments .entry)) (now (text .entry))) p (now (name .entry)) ⌝ }
@@ -113,10 +113,10 @@ pub fn set_name(
         admission::Admitted::Catalogue => left(Answer::BadCatalogue, p),
         admission::Admitted::State => left(Answer::BadState, p),
         admission::Admitted::Fine => {
-            if !standing::text_right(name) {
+            if !player_check::text_right(name) {
                 return left(Answer::BadName, p);
             }
-            let q = player::set_name(p, name);
+            let q = player_state::set_name(p, name);
             left(Answer::Done, q)
         }
     }
@@ -128,8 +128,8 @@ pub fn activate(
     tracks: &[u32],
     segments: &[u32],
     text: &[u8],
-    p: player::Player,
-    g: tables::GroupNo,
+    p: player_state::Player,
+    g: catalogue_tables::GroupNo,
 ) -> Outcome
     ensures { λ r. ⌜ leftBy r ≡ activateCall (tables (now (groups .entry)) (now (tracks .entry)) (now (segments .entry)) (now (text .entry))) p (g .0) ⌝ }
 {
@@ -138,10 +138,10 @@ pub fn activate(
         admission::Admitted::Catalogue => left(Answer::BadCatalogue, p),
         admission::Admitted::State => left(Answer::BadState, p),
         admission::Admitted::Fine => {
-            if !standing::group_right(groups, g) {
+            if !player_check::group_right(groups, g) {
                 return left(Answer::BadGroup, p);
             }
-            let q = moves::activate(groups, tracks, p, g);
+            let q = player_moves::activate(groups, tracks, p, g);
             left(Answer::Done, q)
         }
     }
@@ -153,7 +153,7 @@ pub fn deactivate(
     tracks: &[u32],
     segments: &[u32],
     text: &[u8],
-    p: player::Player,
+    p: player_state::Player,
 ) -> Outcome
     ensures { λ r. ⌜ leftBy r ≡ deactivateCall (tables (now (groups .entry)) (now (tracks .entry)) (now (segments .entry)) (now (text .entry))) p ⌝ }
 {
@@ -162,7 +162,7 @@ pub fn deactivate(
         admission::Admitted::Catalogue => left(Answer::BadCatalogue, p),
         admission::Admitted::State => left(Answer::BadState, p),
         admission::Admitted::Fine => {
-            let q = moves::deactivate(p);
+            let q = player_moves::deactivate(p);
             left(Answer::Done, q)
         }
     }
@@ -174,7 +174,7 @@ pub fn advance(
     tracks: &[u32],
     segments: &[u32],
     text: &[u8],
-    p: player::Player,
+    p: player_state::Player,
     d: u32,
 ) -> Outcome
     ensures { λ r. ⌜ leftBy r ≡ advanceCall (tables (now (groups .entry)) (now (tracks .entry)) (now (segments .entry)) (now (text .entry))) p d ⌝ }
@@ -184,7 +184,7 @@ pub fn advance(
         admission::Admitted::Catalogue => left(Answer::BadCatalogue, p),
         admission::Admitted::State => left(Answer::BadState, p),
         admission::Admitted::Fine => {
-            let q = moves::advance(groups, tracks, p, d);
+            let q = player_moves::advance(groups, tracks, p, d);
             left(Answer::Done, q)
         }
     }
@@ -196,7 +196,7 @@ pub fn write_position(
     tracks: &[u32],
     segments: &[u32],
     text: &[u8],
-    p: player::Player,
+    p: player_state::Player,
     number: u32,
 ) -> Outcome
     ensures { λ r. ⌜ leftBy r ≡ positionCall (tables (now (groups .entry)) (now (tracks .entry)) (now (segments .entry)) (now (text .entry))) p number ⌝ }
@@ -206,7 +206,7 @@ pub fn write_position(
         admission::Admitted::Catalogue => left(Answer::BadCatalogue, p),
         admission::Admitted::State => left(Answer::BadState, p),
         admission::Admitted::Fine => {
-            let q = moves::write_position(tracks, p, number);
+            let q = player_moves::write_position(tracks, p, number);
             left(Answer::Done, q)
         }
     }
@@ -218,7 +218,7 @@ pub fn write_speed(
     tracks: &[u32],
     segments: &[u32],
     text: &[u8],
-    p: player::Player,
+    p: player_state::Player,
     speed: u8,
 ) -> Outcome
     ensures { λ r. ⌜ leftBy r ≡ speedCall (tables (now (groups .entry)) (now (tracks .entry)) (now (segments .entry)) (now (text .entry))) p speed ⌝ }
@@ -228,7 +228,7 @@ pub fn write_speed(
         admission::Admitted::Catalogue => left(Answer::BadCatalogue, p),
         admission::Admitted::State => left(Answer::BadState, p),
         admission::Admitted::Fine => {
-            let q = player::with_speed(p, speed);
+            let q = player_state::with_speed(p, speed);
             left(Answer::Done, q)
         }
     }
@@ -240,7 +240,7 @@ pub fn write_order(
     tracks: &[u32],
     segments: &[u32],
     text: &[u8],
-    p: player::Player,
+    p: player_state::Player,
     order: u8,
 ) -> Outcome
     ensures { λ r. ⌜ leftBy r ≡ orderCall (tables (now (groups .entry)) (now (tracks .entry)) (now (segments .entry)) (now (text .entry))) p order ⌝ }
@@ -254,7 +254,7 @@ pub fn write_order(
             if !right {
                 return left(Answer::BadOrder, p);
             }
-            let q = player::with_order(p, order);
+            let q = player_state::with_order(p, order);
             left(Answer::Done, q)
         }
     }
@@ -266,7 +266,7 @@ pub fn control(
     tracks: &[u32],
     segments: &[u32],
     text: &[u8],
-    p: player::Player,
+    p: player_state::Player,
     opcode: u8,
     number: u32,
 ) -> Outcome
@@ -277,7 +277,7 @@ pub fn control(
         admission::Admitted::Catalogue => left(Answer::BadCatalogue, p),
         admission::Admitted::State => left(Answer::BadState, p),
         admission::Admitted::Fine => {
-            let c = moves::control(groups, tracks, segments, p, opcode, number);
+            let c = player_moves::control(groups, tracks, segments, p, opcode, number);
             let q = c.player;
             left(Answer::Value(c.result as usize), q)
         }
@@ -290,7 +290,7 @@ pub fn value(
     tracks: &[u32],
     segments: &[u32],
     text: &[u8],
-    p: player::Player,
+    p: player_state::Player,
     c: u32,
     out: &mut [u8],
 ) -> Outcome
@@ -311,7 +311,7 @@ pub fn value(
             if small {
                 return left(Answer::SmallOutput, p);
             }
-            let n = values::value(out, tracks, text, p, c);
+            let n = player_values::value(out, tracks, text, p, c);
             left(Answer::Value(n), p)
         }
     }

@@ -2,9 +2,9 @@
 // A frame: an octet for the kind (1 card, 2 catalogue, 3 text, 4 cue sheet), an octet for the length of the name, the name, the case.
 ghost use Prim.Native.Nat.{_-_, _≤_};
 ghost use lib.ListN.{length};
-use card::Loaded;
-use catalogue::Catalogue;
-use cue::Cued;
+use card_load::Loaded;
+use catalogue_check::Catalogue;
+use catalogue_cue::Cued;
 use text::Checked;
 
 fn at_most(n: usize, most: usize) -> usize
@@ -125,7 +125,7 @@ fn load(
     prefill(groups);
     prefill(tracks);
     prefill(segments);
-    write_answer(card::load(card, groups, tracks, segments, text));
+    write_answer(card_load::load(card, groups, tracks, segments, text));
     write_sum_of_words(groups);
     write_sum_of_words(tracks);
     write_sum_of_words(segments);
@@ -191,7 +191,7 @@ fn rest_of_words(s: &[u8], n: usize) -> &[u8]
 }
 
 fn check_catalogue(groups: &[u32], tracks: &[u32], segments: &[u32], text: &[u8]) {
-    let answer = catalogue::check(groups, tracks, segments, text);
+    let answer = catalogue_check::check(groups, tracks, segments, text);
     match answer {
         Catalogue::Fine => {
             io::write_all(1, b" fine");
@@ -279,7 +279,7 @@ fn write_cued(answer: Cued) {
 
 fn read_sheet(sheet: &[u8], starts: &mut [u32]) {
     prefill(starts);
-    write_cued(cue::read(sheet, starts));
+    write_cued(catalogue_cue::read(sheet, starts));
     write_sum_of_words(starts);
 }
 

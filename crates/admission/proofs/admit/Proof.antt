@@ -2,9 +2,9 @@
 use mathlib.Core.Path.{refl, sym, ap, _∙_}
 use mathlib.Core.Bool.{not}
 use Rattle.ground.proofs.Cases.{past, here}
-use Rattle.tables.specs.Tables.{Tables, tables}
-use Rattle.catalogue.proofs.Laws.{passed, failed}
-use Rattle.catalogue.specs.Catalogue.{saidOf}
+use Rattle.catalogue_tables.specs.Tables.{Tables, tables}
+use Rattle.catalogue_check.proofs.Laws.{passed, failed}
+use Rattle.catalogue_check.specs.Catalogue.{saidOf}
 use Rattle.admission.specs.Admission.{admittedOf}
 use borrow.Author.Needs.{needs}
 use Rattle.admission.proofs.admit.Statement.{statement}

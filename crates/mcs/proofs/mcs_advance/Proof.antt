@@ -1,8 +1,8 @@
--- `mcs::mcs_advance`: the state read out, `console::advance`, then its end.
+-- `mcs::mcs_advance`: the state read out, `desk_console::advance`, then its end.
 use mathlib.Core.Path.{ap, _∙_}
-use Rattle.tables.specs.Tables.{tables}
-use Rattle.desk.specs.declared.Desk.{Desk}
-use Rattle.console.specs.Console.{advanceCall}
+use Rattle.catalogue_tables.specs.Tables.{tables}
+use Rattle.desk_state.specs.declared.Desk.{Desk}
+use Rattle.desk_console.specs.Console.{advanceCall}
 use Rattle.mcs.proofs.Leaving.{follow}
 use borrow.Author.Needs.{needs}
 use Rattle.mcs.proofs.mcs_advance.Statement.{statement}

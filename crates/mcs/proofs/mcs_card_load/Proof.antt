@@ -1,4 +1,4 @@
--- `mcs::mcs_card_load`: `card::load`, and what it says.
+-- `mcs::mcs_card_load`: `card_load::load`, and what it says.
 use mathlib.Core.Path.{sym, ap, _∙_}
 use mathlib.Core.List.{List}
 use Prim.Native.Nat.{ℕ}
@@ -6,8 +6,8 @@ use lib.ListN.{length}
 use Rattle.ground.specs.Cases.{Said}
 use Rattle.ground.specs.Lists.{tableAfter}
 use Rattle.ground.specs.Words.{words}
-use Rattle.card.specs.Card.{blocksOf, gather, octets}
-use Rattle.card.specs.Load.{loadSaid}
+use Rattle.card_load.specs.Card.{blocksOf, gather, octets}
+use Rattle.card_load.specs.Load.{loadSaid}
 use Rattle.mcs.specs.declared.Told.{Told}
 use Rattle.mcs.specs.Calls.{toldOf, toldAfter}
 use Rattle.mcs.proofs.Short.{load-words, told-as-said}

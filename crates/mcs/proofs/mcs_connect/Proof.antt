@@ -1,9 +1,9 @@
--- `mcs::mcs_connect`: the state read out, `clients::connect`, then its end.
+-- `mcs::mcs_connect`: the state read out, `desk_links::connect`, then its end.
 use mathlib.Core.Path.{ap, _∙_}
-use Rattle.tables.specs.Tables.{tables}
-use Rattle.desk.specs.declared.Desk.{Desk}
-use Rattle.codec.specs.Codec.{flag}
-use Rattle.clients.specs.Links.{connectCall}
+use Rattle.catalogue_tables.specs.Tables.{tables}
+use Rattle.desk_state.specs.declared.Desk.{Desk}
+use Rattle.mcs_state.specs.Codec.{flag}
+use Rattle.desk_links.specs.Links.{connectCall}
 use Rattle.mcs.proofs.Leaving.{follow}
 use borrow.Author.Needs.{needs}
 use Rattle.mcs.proofs.mcs_connect.Statement.{statement}

@@ -1,4 +1,4 @@
--- `mcs::mcs_cue_sheet`: `cue::read`, and what it says.
+-- `mcs::mcs_cue_sheet`: `catalogue_cue::read`, and what it says.
 use mathlib.Core.Path.{_≡_, sym, ap, _∙_}
 use mathlib.Core.Bool.{Bool, _||_}
 use Prim.Native.Nat.{ℕ, _<_}
@@ -6,7 +6,7 @@ use lib.Dec.{eqb}
 use lib.ListN.{length, getD}
 use Rattle.ground.specs.Cases.{Said}
 use Rattle.ground.specs.Lists.{tableAfter}
-use Rattle.cue.specs.Sheet.{saidOf, cueSaid, sheetLines, startsOf}
+use Rattle.catalogue_cue.specs.Sheet.{saidOf, cueSaid, sheetLines, startsOf}
 use Rattle.mcs.specs.declared.Told.{Told}
 use Rattle.mcs.specs.Calls.{toldOf, toldAfter, wordsAfter, carriedAfter}
 use Rattle.mcs.proofs.Short.{told-by-places}

@@ -1,8 +1,8 @@
--- `mcs::mcs_deactivate`: the state read out, `console::deactivate`, then its end.
+-- `mcs::mcs_deactivate`: the state read out, `desk_console::deactivate`, then its end.
 use mathlib.Core.Path.{ap, _∙_}
-use Rattle.tables.specs.Tables.{tables}
-use Rattle.desk.specs.declared.Desk.{Desk}
-use Rattle.console.specs.Console.{deactivateCall}
+use Rattle.catalogue_tables.specs.Tables.{tables}
+use Rattle.desk_state.specs.declared.Desk.{Desk}
+use Rattle.desk_console.specs.Console.{deactivateCall}
 use Rattle.mcs.proofs.Leaving.{follow}
 use borrow.Author.Needs.{needs}
 use Rattle.mcs.proofs.mcs_deactivate.Statement.{statement}

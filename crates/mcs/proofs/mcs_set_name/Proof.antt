@@ -1,8 +1,8 @@
--- `mcs::mcs_set_name`: the state read out, `console::set_name`, then its end.
+-- `mcs::mcs_set_name`: the state read out, `desk_console::set_name`, then its end.
 use mathlib.Core.Path.{ap, _∙_}
-use Rattle.tables.specs.Tables.{tables}
-use Rattle.desk.specs.declared.Desk.{Desk}
-use Rattle.console.specs.Console.{nameCall}
+use Rattle.catalogue_tables.specs.Tables.{tables}
+use Rattle.desk_state.specs.declared.Desk.{Desk}
+use Rattle.desk_console.specs.Console.{nameCall}
 use Rattle.mcs.proofs.Leaving.{follow}
 use borrow.Author.Needs.{needs}
 use Rattle.mcs.proofs.mcs_set_name.Statement.{statement}

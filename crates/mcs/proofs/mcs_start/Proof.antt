@@ -1,4 +1,4 @@
--- `mcs::mcs_start`: `console::start`, then its end.
+-- `mcs::mcs_start`: `desk_console::start`, then its end.
 use Rattle.mcs.proofs.Leaving.{follow}
 use borrow.Author.Needs.{needs}
 use Rattle.mcs.proofs.mcs_start.Statement.{statement}

@@ -1,12 +1,12 @@
--- `mcs::mcs_take`: the state read out, `takes::take`, what it says of it, then its end.
+-- `mcs::mcs_take`: the state read out, `desk_take::take`, what it says of it, then its end.
 use mathlib.Core.Path.{ap, _∙_}
 use lib.ListN.{length}
-use Rattle.tables.specs.Tables.{tables}
+use Rattle.catalogue_tables.specs.Tables.{tables}
 use Rattle.admission.specs.Refusals.{Left}
-use Rattle.desk.specs.declared.Desk.{Desk}
-use Rattle.replies.specs.Replies.{outputAfter}
-use Rattle.takes.specs.Take.{takeCall, takeOctets}
-use Rattle.codec.specs.Codec.{deskOf}
+use Rattle.desk_state.specs.declared.Desk.{Desk}
+use Rattle.desk_replies.specs.Replies.{outputAfter}
+use Rattle.desk_take.specs.Take.{takeCall, takeOctets}
+use Rattle.mcs_state.specs.Codec.{deskOf}
 use Rattle.mcs.specs.declared.Told.{Told}
 use Rattle.mcs.specs.Calls.{toldOf, toldAfter}
 use Rattle.mcs.proofs.Leaving.{follow}

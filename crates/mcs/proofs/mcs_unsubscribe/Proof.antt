@@ -1,8 +1,8 @@
--- `mcs::mcs_unsubscribe`: the state read out, `clients::unsubscribe`, then its end.
+-- `mcs::mcs_unsubscribe`: the state read out, `desk_links::unsubscribe`, then its end.
 use mathlib.Core.Path.{ap, _∙_}
-use Rattle.tables.specs.Tables.{tables}
-use Rattle.desk.specs.declared.Desk.{Desk}
-use Rattle.clients.specs.Links.{unsubscribeCall}
+use Rattle.catalogue_tables.specs.Tables.{tables}
+use Rattle.desk_state.specs.declared.Desk.{Desk}
+use Rattle.desk_links.specs.Links.{unsubscribeCall}
 use Rattle.mcs.proofs.Leaving.{follow}
 use borrow.Author.Needs.{needs}
 use Rattle.mcs.proofs.mcs_unsubscribe.Statement.{statement}

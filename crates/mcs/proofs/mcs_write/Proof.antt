@@ -1,8 +1,8 @@
--- `mcs::mcs_write`: the state read out, `exchange::write`, then its end.
+-- `mcs::mcs_write`: the state read out, `desk_exchange::write`, then its end.
 use mathlib.Core.Path.{ap, _∙_}
-use Rattle.tables.specs.Tables.{tables}
-use Rattle.desk.specs.declared.Desk.{Desk}
-use Rattle.exchange.specs.Write.{writeCall}
+use Rattle.catalogue_tables.specs.Tables.{tables}
+use Rattle.desk_state.specs.declared.Desk.{Desk}
+use Rattle.desk_exchange.specs.Write.{writeCall}
 use Rattle.mcs.proofs.Leaving.{follow}
 use borrow.Author.Needs.{needs}
 use Rattle.mcs.proofs.mcs_write.Statement.{statement}

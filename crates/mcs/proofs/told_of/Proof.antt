@@ -2,8 +2,8 @@
 use mathlib.Core.Path.{sym, ap, _∙_}
 use mathlib.Core.List.{[], _∷_}
 use Rattle.ground.specs.Cases.{granted}
-use Rattle.replies.specs.declared.Answer.{Answer}
-use Rattle.replies.specs.Replies.{saidOf}
+use Rattle.desk_replies.specs.declared.Answer.{Answer}
+use Rattle.desk_replies.specs.Replies.{saidOf}
 use Rattle.mcs.specs.Calls.{toldOf}
 use borrow.Author.Needs.{needs}
 use Rattle.mcs.proofs.told_of.Statement.{statement}

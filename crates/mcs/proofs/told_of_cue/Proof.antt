@@ -1,7 +1,7 @@
 -- `mcs::told_of_cue`: an arm an answer.
 use mathlib.Core.Path.{_≡_, sym, ap, _∙_}
-use Rattle.cue.specs.declared.Cued.{Cued}
-use Rattle.cue.specs.Sheet.{saidOf}
+use Rattle.catalogue_cue.specs.declared.Cued.{Cued}
+use Rattle.catalogue_cue.specs.Sheet.{saidOf}
 use Rattle.mcs.specs.Calls.{toldOf}
 use borrow.Author.Needs.{needs}
 use Rattle.mcs.proofs.told_of_cue.Statement.{statement}

@@ -1,7 +1,7 @@
 -- `mcs::told_of_load`: an arm an answer.
 use mathlib.Core.Path.{sym, ap, _∙_}
-use Rattle.card.specs.declared.Loaded.{Loaded}
-use Rattle.card.specs.Load.{saidOf}
+use Rattle.card_load.specs.declared.Loaded.{Loaded}
+use Rattle.card_load.specs.Load.{saidOf}
 use Rattle.mcs.specs.Calls.{toldOf}
 use borrow.Author.Needs.{needs}
 use Rattle.mcs.proofs.told_of_load.Statement.{statement}

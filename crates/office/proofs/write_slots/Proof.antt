@@ -1,7 +1,7 @@
 -- `office::write_slots`: the slots that are left fall.
 use Prim.Native.Nat.{_≤_, _-_}
 use borrow.Author.Needs.{needs}
-use Rattle.slots.specs.Slots.{slotCount}
+use Rattle.desk_slots.specs.Slots.{slotCount}
 use Rattle.office.proofs.write_slots.Statement.{statement}
 use Rattle.office.proofs.write_slots.Tie as tie
 

@@ -5,11 +5,11 @@ use mathlib.Core.List.{[]}
 use borrow.Author.Tests.{not-false}
 use Rattle.ground.specs.Cases.{granted}
 use Rattle.ground.proofs.Cases.{past, here}
-use Rattle.tables.specs.Tables.{Tables, tables}
-use Rattle.moves.proofs.Ready.{shaped, run-of}
+use Rattle.catalogue_tables.specs.Tables.{Tables, tables}
+use Rattle.player_moves.proofs.Ready.{shaped, run-of}
 use Rattle.admission.specs.Refusals.{leaves}
 use Rattle.player_calls.specs.Calls.{activateCall}
-use Rattle.standing.proofs.Laws.{group-there}
+use Rattle.player_check.proofs.Laws.{group-there}
 use Rattle.admission.proofs.Guard.{says-catalogue, says-state, goes-on, fine-right}
 use borrow.Author.Needs.{needs}
 use Rattle.player_calls.proofs.activate.Statement.{statement}

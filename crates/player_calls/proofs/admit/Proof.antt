@@ -1,6 +1,6 @@
 -- `player_calls::admit`: what the state check says is what admission is told.
 use mathlib.Core.Path.{ap, _∙_}
-use Rattle.tables.specs.Tables.{Tables, tables}
+use Rattle.catalogue_tables.specs.Tables.{Tables, tables}
 use Rattle.admission.specs.Admission.{admittedOf}
 use borrow.Author.Needs.{needs}
 use Rattle.player_calls.proofs.admit.Statement.{statement}

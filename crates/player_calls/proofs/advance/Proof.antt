@@ -2,8 +2,8 @@
 use mathlib.Core.Path.{ap, _∙_}
 use mathlib.Core.List.{[]}
 use Rattle.ground.specs.Cases.{granted}
-use Rattle.tables.specs.Tables.{Tables, tables}
-use Rattle.moves.proofs.Ready.{shaped, seated}
+use Rattle.catalogue_tables.specs.Tables.{Tables, tables}
+use Rattle.player_moves.proofs.Ready.{shaped, seated}
 use Rattle.admission.specs.Refusals.{leaves}
 use Rattle.player_calls.specs.Calls.{advanceCall}
 use Rattle.admission.proofs.Guard.{says-catalogue, says-state, goes-on, fine-right, fine-stands}

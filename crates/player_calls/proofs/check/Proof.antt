@@ -1,6 +1,6 @@
 -- `player_calls::check`: 200, 201, else nothing to say.
 use mathlib.Core.Path.{_∙_}
-use Rattle.tables.specs.Tables.{Tables, tables}
+use Rattle.catalogue_tables.specs.Tables.{Tables, tables}
 use Rattle.player_calls.specs.Calls.{checkCall}
 use Rattle.admission.proofs.Guard.{says-catalogue, says-state, goes-on}
 use borrow.Author.Needs.{needs}

@@ -2,9 +2,9 @@
 use mathlib.Core.Path.{ap, _∙_}
 use mathlib.Core.List.{[], _∷_}
 use Rattle.ground.specs.Cases.{granted}
-use Rattle.tables.specs.Tables.{Tables, tables}
-use Rattle.moves.specs.declared.Controlled.{Controlled}
-use Rattle.moves.proofs.Ready.{shaped}
+use Rattle.catalogue_tables.specs.Tables.{Tables, tables}
+use Rattle.player_moves.specs.declared.Controlled.{Controlled}
+use Rattle.player_moves.proofs.Ready.{shaped}
 use Rattle.admission.specs.Refusals.{leaves}
 use Rattle.player_calls.specs.Calls.{controlCall}
 use Rattle.admission.proofs.Guard.{says-catalogue, says-state, goes-on, fine-right, fine-stands}

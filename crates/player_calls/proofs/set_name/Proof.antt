@@ -5,10 +5,10 @@ use mathlib.Core.List.{[]}
 use borrow.Author.Tests.{not-false}
 use Rattle.ground.specs.Cases.{granted}
 use Rattle.ground.proofs.Cases.{past, here}
-use Rattle.tables.specs.Tables.{Tables, tables}
+use Rattle.catalogue_tables.specs.Tables.{Tables, tables}
 use Rattle.admission.specs.Refusals.{leaves}
 use Rattle.player_calls.specs.Calls.{nameCall}
-use Rattle.standing.proofs.Laws.{text-short}
+use Rattle.player_check.proofs.Laws.{text-short}
 use Rattle.admission.proofs.Guard.{says-catalogue, says-state, goes-on}
 use borrow.Author.Needs.{needs}
 use Rattle.player_calls.proofs.set_name.Statement.{statement}

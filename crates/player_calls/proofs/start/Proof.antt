@@ -5,12 +5,12 @@ use mathlib.Core.List.{[]}
 use borrow.Author.Tests.{not-false}
 use Rattle.ground.specs.Cases.{granted, refused}
 use Rattle.ground.proofs.Cases.{past, here}
-use Rattle.tables.specs.Tables.{Tables, tables}
+use Rattle.catalogue_tables.specs.Tables.{Tables, tables}
 use Rattle.admission.specs.Refusals.{leaves}
 use Rattle.player_calls.specs.Calls.{startCall}
-use Rattle.catalogue.proofs.Laws.{passed, failed}
-use Rattle.standing.proofs.Laws.{text-short}
-use Rattle.catalogue.specs.Catalogue.{saidOf}
+use Rattle.catalogue_check.proofs.Laws.{passed, failed}
+use Rattle.player_check.proofs.Laws.{text-short}
+use Rattle.catalogue_check.specs.Catalogue.{saidOf}
 use borrow.Author.Needs.{needs}
 use Rattle.player_calls.proofs.start.Statement.{statement}
 use Rattle.player_calls.proofs.start.Tie as tie

@@ -7,13 +7,13 @@ use native.Mathlib.Omega.{arith}
 use borrow.Author.Tests.{ltb-false}
 use Rattle.ground.specs.Cases.{granted}
 use Rattle.ground.proofs.Cases.{past, here}
-use Rattle.tables.specs.Tables.{Tables, tables}
+use Rattle.catalogue_tables.specs.Tables.{Tables, tables}
 use Rattle.admission.specs.Refusals.{leaves}
 use Rattle.player_calls.specs.Calls.{valueCall}
-use Rattle.handing.proofs.Fits.{name-short, title-fits}
+use Rattle.player_values.proofs.Fits.{name-short, title-fits}
 use Rattle.player_calls.proofs.Output.{kept, shown}
 use Rattle.admission.proofs.Guard.{catalogue-wrong, state-wrong, both-right, fine-right, fine-stands}
-use Rattle.values.specs.Values.{valueOf}
+use Rattle.player_values.specs.Values.{valueOf}
 use borrow.Author.Needs.{needs}
 use Rattle.player_calls.proofs.value.Statement.{statement}
 use Rattle.player_calls.proofs.value.Tie as tie

@@ -2,7 +2,7 @@
 use mathlib.Core.Path.{ap, _∙_}
 use mathlib.Core.List.{[]}
 use Rattle.ground.specs.Cases.{granted}
-use Rattle.tables.specs.Tables.{Tables, tables}
+use Rattle.catalogue_tables.specs.Tables.{Tables, tables}
 use Rattle.admission.specs.Refusals.{leaves}
 use Rattle.player_calls.specs.Calls.{positionCall}
 use Rattle.admission.proofs.Guard.{says-catalogue, says-state, goes-on}

@@ -1,0 +1,67 @@
+-- A block of 512 octets and its rules, in the order of document 01, "Card and catalogue".
+-- Assumes nothing.
+use mathlib.Core.Bool.{Bool, true, _&&_}
+use mathlib.Core.List.{List, [], _∷_}
+use Prim.Native.Nat.{ℕ, _+_, _*_}
+use lib.Dec.{eqb, leb}
+use lib.ListN.{getD, take}
+use Rattle.ground.specs.Cases.{pick}
+use Rattle.ground.specs.Lists.{part}
+use Rattle.ground.specs.Words.{halfAt}
+use Rattle.card_block.specs.Sums.{sumsOf}
+
+-- "Bytes 0–1 block number", "2 kind", "3–4 record count"
+abbrev pub numberOf : List ℕ → ℕ
+numberOf b = halfAt b 0
+
+abbrev pub kindOf : List ℕ → ℕ
+kindOf b = getD b 2 0
+
+abbrev pub countOf : List ℕ → ℕ
+countOf b = halfAt b 3
+
+-- a number for each kind: "1 group, 2 track, 3 segment, 4 text"
+abbrev pub byKind : ℕ → ℕ → ℕ → ℕ → ℕ → ℕ
+byKind kind group track segment text =
+    pick (eqb kind 1) group (pick (eqb kind 2) track (pick (eqb kind 3) segment text))
+
+-- octets in a record: a group has 3 words, a track 6, a segment 1; text is octets
+unfoldable pub recordSize : ℕ → ℕ
+recordSize kind = byKind kind 12 24 4 1
+
+-- "record count, 1 up to 42, 21, 126 or 505 by kind"
+unfoldable pub mostRecords : ℕ → ℕ
+mostRecords kind = byKind kind 42 21 126 505
+
+-- "then the records", from byte 5 on
+abbrev pub recordsEnd : List ℕ → ℕ
+recordsEnd b = 5 + countOf b * recordSize (kindOf b)
+
+abbrev pub recordsOf : List ℕ → List ℕ
+recordsOf b = part b 5 (recordsEnd b)
+
+unfoldable pub allZero : List ℕ → Bool
+allZero [] = true
+allZero (x ∷ s) = eqb x 0 && allZero s
+
+-- the rules: `number` is the block's place on the card, `least` the kind of the block before it, 1 for the first
+unfoldable pub checkRule : List ℕ → Bool
+checkRule b =
+    eqb (getD b 510 0) (sumsOf (take 510 b) .plain) && eqb (getD b 511 0) (sumsOf (take 510 b) .running)
+
+unfoldable pub numberRule : ℕ → List ℕ → Bool
+numberRule number b = eqb (numberOf b) number
+
+unfoldable pub kindRule : ℕ → List ℕ → Bool
+kindRule least b = leb least (kindOf b) && leb (kindOf b) 4
+
+unfoldable pub countRule : List ℕ → Bool
+countRule b = leb 1 (countOf b) && leb (countOf b) (mostRecords (kindOf b))
+
+-- "zeros up to byte 509"
+unfoldable pub paddingRule : List ℕ → Bool
+paddingRule b = allZero (part b (recordsEnd b) 510)
+
+unfoldable pub blockRule : ℕ → ℕ → List ℕ → Bool
+blockRule number least b =
+    checkRule b && numberRule number b && kindRule least b && countRule b && paddingRule b

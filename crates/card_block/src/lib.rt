@@ -1,0 +1,141 @@
+// A block of a card: its head, its check octets, its rules.
+ghost use mathlib.Core.Path.{_≡_};
+ghost use Prim.Native.Nat.{_+_, _<_, _≤_};
+ghost use lib.ListN.{length};
+ghost use Rattle.card_block.specs.Sums.{sumsOf};
+ghost use Rattle.card_block.specs.Block.{kindOf, countOf, recordSize, mostRecords, recordsEnd, allZero, checkRule, numberRule, kindRule, countRule, paddingRule, blockRule};
+
+pub struct CheckSums {
+    pub plain: u32,
+    pub running: u32,
+}
+
+// Both check sums, the remainder taken at each step.
+pub fn sums(s: &[u8]) -> CheckSums
+    ensures { λ r. ⌜ r ≡ sumsOf (now (s .entry)) ⌝ }
+{
+    let mut plain: u32 = 0;
+    let mut running: u32 = 0;
+    let mut i: usize = 0;
+    while i < s.len() {
+        plain = (plain + ground::wide_octet(s[i])) % 255;
+        running = (running + plain) % 255;
+        i += 1;
+    }
+    CheckSums {
+        plain: plain,
+        running: running,
+    }
+}
+
+// The octets in a record of a kind.
+pub fn record_size(kind: u8) -> usize
+    ensures { λ r. ⌜ r ≡ recordSize kind ⌝ }
+{
+    match kind {
+        1 => 12,
+        2 => 24,
+        3 => 4,
+        _ => 1,
+    }
+}
+
+// The most records in a block of a kind.
+pub fn most_records(kind: u8) -> usize
+    ensures { λ r. ⌜ r ≡ mostRecords kind ⌝ }
+{
+    match kind {
+        1 => 42,
+        2 => 21,
+        3 => 126,
+        _ => 505,
+    }
+}
+
+// With no early exit the loop is vector code.
+pub fn all_zero(s: &[u8]) -> bool
+    ensures { λ r. ⌜ r ≡ allZero (now (s .entry)) ⌝ }
+{
+    let mut good = true;
+    let mut i: usize = 0;
+    while i < s.len() {
+        good = good & (s[i] == 0);
+        i += 1;
+    }
+    good
+}
+
+fn check_right(b: &[u8]) -> bool
+    requires { ⌜ length (now b) ≡ 512 ⌝ }
+    ensures { λ r. ⌜ r ≡ checkRule (now (b .entry)) ⌝ }
+{
+    let s = sums(&b[0..510]);
+    let plain = ground::wide_octet(b[510]);
+    let running = ground::wide_octet(b[511]);
+    (plain == s.plain) & (running == s.running)
+}
+
+fn number_right(b: &[u8], number: usize) -> bool
+    requires { ⌜ length (now b) ≡ 512 ⌝ }
+    ensures { λ r. ⌜ r ≡ numberRule number (now (b .entry)) ⌝ }
+{
+    let written = ground::half_at(b, 0);
+    written == number
+}
+
+fn kind_right(b: &[u8], least: u8) -> bool
+    requires { ⌜ length (now b) ≡ 512 ⌝ }
+    ensures { λ r. ⌜ r ≡ kindRule least (now (b .entry)) ⌝ }
+{
+    let kind = b[2];
+    (least <= kind) & (kind <= 4)
+}
+
+fn count_right(b: &[u8]) -> bool
+    requires { ⌜ length (now b) ≡ 512 ⌝ }
+    ensures { λ r. ⌜ r ≡ countRule (now (b .entry)) ⌝ }
+{
+    let count = ground::half_at(b, 3);
+    let most = most_records(b[2]);
+    (1 <= count) & (count <= most)
+}
+
+// Where the records of a block end.
+pub fn records_end(b: &[u8]) -> usize
+    requires { ⌜ length (now b) ≡ 512 ⌝ }
+    requires { ⌜ countOf (now b) ≤ mostRecords (kindOf (now b)) ⌝ }
+    ensures { λ r. ⌜ (r ≡ recordsEnd (now (b .entry))) × (5 ≤ r) × (r ≤ 510) ⌝ }
+{
+    let count = ground::half_at(b, 3);
+    let size = record_size(b[2]);
+    5 + count * size
+}
+
+fn padding_right(b: &[u8]) -> bool
+    requires { ⌜ length (now b) ≡ 512 ⌝ }
+    requires { ⌜ countOf (now b) ≤ mostRecords (kindOf (now b)) ⌝ }
+    ensures { λ r. ⌜ r ≡ paddingRule (now (b .entry)) ⌝ }
+{
+    let end = records_end(b);
+    all_zero(&b[end..510])
+}
+
+// Whether all rules of a block hold.
+pub fn block_right(b: &[u8], number: usize, least: u8) -> bool
+    requires { ⌜ length (now b) ≡ 512 ⌝ }
+    ensures { λ r. ⌜ r ≡ blockRule number least (now (b .entry)) ⌝ }
+{
+    if !check_right(b) {
+        return false;
+    }
+    if !number_right(b, number) {
+        return false;
+    }
+    if !kind_right(b, least) {
+        return false;
+    }
+    if !count_right(b) {
+        return false;
+    }
+    padding_right(b)
+}

@@ -1,0 +1,48 @@
+-- A card as a list of blocks (document 01, "Card and catalogue").
+-- Assumes nothing.
+use mathlib.Core.Bool.{Bool, true, _&&_}
+use mathlib.Core.List.{List, [], _∷_, _++_}
+use Prim.Native.Nat.{ℕ, zero, suc, _+_, _*_, _/_, _%_, _<_, _≤_}
+use lib.Dec.{eqb, leb}
+use lib.ListN.{length, take, drop}
+use Rattle.ground.specs.Cases.{pick}
+use Rattle.ground.specs.Lists.{part}
+use Rattle.card_block.specs.Block.{kindOf, countOf, mostRecords, recordsOf, blockRule}
+
+-- "A card is 0 to 128 blocks of 512 bytes."
+unfoldable pub lengthRule : List ℕ → Bool
+lengthRule card = eqb (length card % 512) 0 && leb (length card) 65536
+
+-- the first n blocks
+unfoldable pub blocks : ℕ → List ℕ → List (List ℕ)
+blocks zero card = []
+blocks (suc n) card = take 512 card ∷ blocks n (drop 512 card)
+
+abbrev pub blocksOf : List ℕ → List (List ℕ)
+blocksOf card = blocks (length card / 512) card
+
+-- all rules of all blocks: the numbers count on from `number`, and the kind never falls below `least`
+unfoldable pub blocksRule : ℕ → ℕ → List (List ℕ) → Bool
+blocksRule number least [] = true
+blocksRule number least (b ∷ bs) = blockRule number least b && blocksRule (number + 1) (kindOf b) bs
+
+-- how many records of a kind there are
+unfoldable pub recordCount : ℕ → List (List ℕ) → ℕ
+recordCount kind [] = 0
+recordCount kind (b ∷ bs) = pick (eqb (kindOf b) kind) (countOf b) 0 + recordCount kind bs
+
+-- what f makes of the records of a kind, block after block
+unfoldable pub gather : (List ℕ → List ℕ) → ℕ → List (List ℕ) → List ℕ
+gather f kind [] = []
+gather f kind (b ∷ bs) = pick (eqb (kindOf b) kind) (f (recordsOf b)) [] ++ gather f kind bs
+
+-- text is octets
+abbrev pub octets : List ℕ → List ℕ
+octets s = s
+
+-- block i of a card, and that the count of each of the first n blocks has room in its block
+abbrev pub blockAt : List ℕ → ℕ → List ℕ
+blockAt card i = part card (i * 512) (i * 512 + 512)
+
+abbrev pub CountsFit : ℕ → List ℕ → Type 0
+CountsFit n card = (i : ℕ) → i < n → countOf (blockAt card i) ≤ mostRecords (kindOf (blockAt card i))

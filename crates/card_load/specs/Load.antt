@@ -1,0 +1,38 @@
+-- What card load says and leaves: 210, 211 or 212, in that order, or the counts (document 01, "Refusal numbers").
+-- Assumes nothing.
+use mathlib.Core.Bool.{Bool, _&&_, not}
+use mathlib.Core.List.{List, [], _∷_}
+use Prim.Native.Nat.{ℕ, _/_}
+use lib.Dec.{eqb, leb}
+use Rattle.ground.specs.Cases.{pick, Said, granted, refused, refuseIf}
+use Rattle.ground.specs.Limits.{mostGroups, mostTracks, mostSegments, mostText, groupWords, trackWords}
+use Rattle.card_load.specs.Card.{lengthRule, blocksRule, blocksOf, recordCount}
+use Rattle.card_load.specs.declared.Loaded.{Loaded}
+use Rattle.card_load.specs.declared.Loaded.the-variants.{Done, BadLength, BadBlock, NoRoom}
+
+-- document 01's number and values of each answer
+abbrev pub saidOf : Loaded → Said
+saidOf (Done c) = granted (c .groups ∷ c .tracks ∷ c .segments ∷ c .text ∷ [])
+saidOf BadLength = refused 210
+saidOf BadBlock = refused 211
+saidOf NoRoom = refused 212
+
+-- a count keeps within its limit and its table's room, in whole records
+abbrev pub fits : ℕ → ℕ → ℕ → Bool
+fits count limit room = leb count limit && leb count room
+
+-- all four do; the tables' lengths are in words, and in octets for the text
+unfoldable pub roomRule : List (List ℕ) → ℕ → ℕ → ℕ → ℕ → Bool
+roomRule bs groups tracks segments text =
+    fits (recordCount 1 bs) mostGroups (groups / groupWords)
+    && fits (recordCount 2 bs) mostTracks (tracks / trackWords)
+    && fits (recordCount 3 bs) mostSegments segments
+    && fits (recordCount 4 bs) mostText text
+
+-- what loading a card into tables of these lengths says
+unfoldable pub loadSaid : List ℕ → ℕ → ℕ → ℕ → ℕ → Said
+loadSaid card groups tracks segments text =
+    refuseIf (not (lengthRule card)) 210
+    (refuseIf (not (blocksRule 0 1 (blocksOf card))) 211
+    (refuseIf (not (roomRule (blocksOf card) groups tracks segments text)) 212
+    (granted (recordCount 1 (blocksOf card) ∷ recordCount 2 (blocksOf card) ∷ recordCount 3 (blocksOf card) ∷ recordCount 4 (blocksOf card) ∷ []))))

@@ -1,0 +1,124 @@
+-- `catalogue_cue::survey`: the loop's state is `Judging`.
+use mathlib.Core.Path.{_≡_, refl, sym, ap, _∙_}
+use mathlib.Core.Bool.{false}
+use mathlib.Core.List.{List, [], _∷_}
+use Prim.Native.Nat.{ℕ, _≤_, _+_, _-_}
+use native.Mathlib.Omega.{arith}
+use borrow.Author.Tests.{lt-ltb, le-ltb}
+use lib.Dec.{ltb}
+use lib.ListN.{length}
+use Rattle.ground.specs.Cases.{Said, granted, refuseIf}
+use Rattle.ground.proofs.Cases.{past, here}
+use Rattle.catalogue_cue.specs.Sheet.{sheetLines, startsOf, judged, cueSaid}
+use Rattle.catalogue_cue.proofs.Judging.{Judging, Turned, judging-starts, judging-ends, all-counted, turned}
+use borrow.Author.Needs.{needs}
+use Rattle.catalogue_cue.proofs.survey.Statement.{statement}
+use Rattle.catalogue_cue.proofs.survey.Tie as tie
+
+-- what stands behind the lines: the room, and the number of starts
+abbrev behindOf : List ℕ → ℕ → Said
+behindOf sheet room =
+    refuseIf (ltb room (length (startsOf (sheetLines sheet)))) 228 (granted (length (startsOf (sheetLines sheet)) ∷ []))
+
+abbrev Inv-loop : tie.InvT-loop
+Inv-loop sheet room at₀ number₀ count₀ last₀ at number count last = (at ≤ length sheet + 1) × (number ≤ at + 1) × (count ≤ number) × Judging sheet (behindOf sheet room) at number count last
+
+abbrev μ-loop : tie.MeasureT-loop
+μ-loop sheet room at₀ number₀ count₀ last₀ at number count last = length sheet + 1 - at
+
+-- the refusals below those of a line
+small : (c : tie.Else1 Inv-loop μ-loop) → ltb 65536 (length (c .before .before .args .sheet .now)) ≡ false
+small c = le-ltb _ _ (c .if1 .left)
+
+-- behind the last line: what is said, and the number of starts
+end : (c : tie.After-loop Inv-loop μ-loop)
+    → let l = c .before in
+    let a = l .before .before .before .args in
+    (judged 1 [] (sheetLines (a .sheet .now)) (behindOf (a .sheet .now) (a .room)) ≡ behindOf (a .sheet .now) (a .room))
+    × (l .loop .count ≡ length (startsOf (sheetLines (a .sheet .now))))
+end c =
+    let l = c .before in
+    let a = l .before .before .before .args in
+    let behind = behindOf (a .sheet .now) (a .room) in (
+      judging-ends (a .sheet .now) behind (l .loop .at) (l .loop .number) (l .loop .count) (l .loop .last) (l .loop .inv .3) (c .loop-test .left),
+      all-counted (a .sheet .now) behind (l .loop .at) (l .loop .number) (l .loop .count) (l .loop .last) (l .loop .inv .3) (c .loop-test .left),
+    )
+
+-- a line of the sheet
+turn : (w : tie.After-weigh Inv-loop μ-loop)
+    → let f = w .before in
+    let l = f .before .before in
+    let a = l .before .before .before .args in
+    Turned (a .sheet .now) (behindOf (a .sheet .now) (a .room)) (l .loop .number) (l .loop .count) (f .read-line .result .next) (w .weigh .result)
+turn w =
+    let f = w .before in
+    let l = f .before .before in
+    let a = l .before .before .before .args in
+    turned (a .sheet .now) (behindOf (a .sheet .now) (a .room)) (l .loop .at) (l .loop .number) (l .loop .count) (l .loop .last) (l .loop .inv .3)
+    (f .read-line .result .line) (f .read-line .result .next) (f .read-line .ensures .gives) (w .weigh .result) (w .weigh .ensures)
+
+returns : tie.Need-returns Inv-loop μ-loop
+unfolding cueSaid
+returns c = here _ (lt-ltb _ _ (c .if1 .taken)) refl
+
+loop-holds : tie.Need-loop-holds Inv-loop μ-loop
+loop-holds c = (search needs, search needs, search needs, judging-starts _ _)
+
+read-line-requires : tie.Need-read-line-requires Inv-loop μ-loop
+read-line-requires c κs = search needs
+
+weigh-requires : tie.Need-weigh-requires Inv-loop μ-loop
+weigh-requires c κs = search needs
+
+returns-2 : tie.Need-returns-2 Inv-loop μ-loop
+unfolding cueSaid
+returns-2 c = past _ (small (c .before .before .before .before .before .before)) (turn (c .before .before) .bad (c .if2 .taken))
+
+returns-3 : tie.Need-returns-3 Inv-loop μ-loop
+unfolding cueSaid
+returns-3 c = past _ (small (c .before .before .before .before .before .before .before .before)) (turn (c .before .before .before .before) .fallen (c .if3 .taken))
+
+add-number : tie.Need-add-number Inv-loop μ-loop
+add-number c = search needs
+
+loop-less : tie.Need-loop-less Inv-loop μ-loop
+loop-less c = omega (arith, c .before .before .before .before .before .read-line .ensures .onward)
+
+loop-again : tie.Need-loop-again Inv-loop μ-loop
+loop-again c =
+    let w = c .before .before .before .before in
+    let t = turn w in
+    let r = w .before .read-line .ensures in
+    (r .bound, omega (arith, r .onward), omega (arith, t .counts), t .goes (c .before .before .if2 .left) (c .if3 .left))
+
+returns-4 : tie.Need-returns-4 Inv-loop μ-loop
+unfolding cueSaid
+returns-4 c =
+    let l = c .before .before in
+    let ended = end (c .before) in
+    past _ (small (l .before)) (here _ (lt-ltb _ _ (rw (ended .1) at (c .if4 .taken))) refl ∙ sym (ended .0))
+
+returns-5 : tie.Need-returns-5 Inv-loop μ-loop
+unfolding cueSaid
+returns-5 c =
+    let l = c .before .before in
+    let ended = end (c .before) in
+    past _ (small (l .before)) (past _ (le-ltb _ _ (rw (ended .1) at (c .if4 .left))) (ap (λ (n : ℕ). granted (n ∷ [])) (ended .1)) ∙ sym (ended .0))
+
+pub survey-spec : {M : Type 1} → statement M
+survey-spec =
+    tie.close
+    (tie.spec
+    Inv-loop
+    μ-loop
+    returns
+    loop-holds
+    read-line-requires
+    weigh-requires
+    returns-2
+    returns-3
+    add-number
+    loop-less
+    loop-again
+    returns-4
+    returns-5)

@@ -1,0 +1,167 @@
+// The rules of a catalogue, a function for each. Loops have no early exit: they are vector code, or at least branch-free.
+ghost use mathlib.Core.Path.{_≡_};
+ghost use mathlib.Core.Bool.{_&&_};
+ghost use Prim.Native.Nat.{ℕ, _+_, _*_, _<_, _≤_};
+ghost use lib.ListN.{length, getD};
+ghost use Rattle.catalogue_tables.specs.Tables.{wordIn};
+ghost use Rattle.catalogue_rules.specs.Rules.{sizesRule, parentRight, parentsRule, follow, durationsRule, beginRule, riseRule, belowRule, startsRight, startsRule, titlePlaced, titlesPlacedRule, titlesTextRule, RunsInside, TitlesInside};
+
+pub fn sizes_right(groups: usize, tracks: usize, segments: usize, text: usize) -> bool
+    ensures { λ r. ⌜ r ≡ sizesRule groups tracks segments text ⌝ }
+{
+    (groups % 3 == 0)
+        & (tracks % 6 == 0)
+        & (groups / 3 <= ground::MOST_GROUPS)
+        & (tracks / 6 <= ground::MOST_TRACKS)
+        & (segments <= ground::MOST_SEGMENTS)
+        & (text <= ground::MOST_TEXT)
+}
+
+fn parent_right(group: usize, parent: usize) -> bool
+    ensures { λ r. ⌜ r ≡ parentRight group parent ⌝ }
+{
+    if group == 0 {
+        return parent == 0;
+    }
+    parent < group
+}
+
+pub fn parents_right(groups: &[u32]) -> bool
+    ensures { λ r. ⌜ r ≡ parentsRule (now (groups .entry)) ⌝ }
+{
+    let n = groups.len() / 3;
+    let mut good = true;
+    let mut i: usize = 0;
+    while i < n {
+        let parent = ground::wide_word(groups[i * 3]);
+        let right = parent_right(i, parent);
+        good = good & right;
+        i += 1;
+    }
+    good
+}
+
+// Whether the runs of n records follow each other from 0 and use up all: a record has `width` words, the first number of its run at the place
+// `at` and its count behind it.
+pub fn runs_right(table: &[u32], n: usize, width: usize, at: usize, total: usize) -> bool
+    requires { ⌜ n * width ≤ length (now table) ⌝ }
+    requires { ⌜ at + 2 ≤ width ⌝ }
+    requires { ⌜ n ≤ 256 ⌝ }
+    ensures { λ r. ⌜ r ≡ follow n (λ (i : ℕ). wordIn width (now (table .entry)) i at) (λ (i : ℕ). wordIn width (now (table .entry)) i (at + 1)) total ⌝ }
+{
+    let mut good = true;
+    let mut sum: usize = 0;
+    let mut i: usize = 0;
+    while i < n {
+        let base = i * width;
+        let first = ground::wide_word(table[base + at]);
+        let count = ground::wide_word(table[base + (at + 1)]);
+        good = good & (first == sum);
+        sum += count;
+        i += 1;
+    }
+    good & (sum == total)
+}
+
+pub fn durations_right(tracks: &[u32]) -> bool
+    ensures { λ r. ⌜ r ≡ durationsRule (now (tracks .entry)) ⌝ }
+{
+    let n = tracks.len() / 6;
+    let mut good = true;
+    let mut i: usize = 0;
+    while i < n {
+        let duration = tracks[i * 6];
+        good = good & (duration <= ground::MOST_DURATION);
+        i += 1;
+    }
+    good
+}
+
+fn rises(starts: &[u32]) -> bool
+    ensures { λ r. ⌜ r ≡ riseRule (now (starts .entry)) ⌝ }
+{
+    let n = starts.len();
+    let mut good = true;
+    let mut i: usize = 0;
+    while i + 1 < n {
+        good = good & (starts[i] < starts[i + 1]);
+        i += 1;
+    }
+    good
+}
+
+fn all_below(starts: &[u32], duration: u32) -> bool
+    ensures { λ r. ⌜ r ≡ belowRule (now (starts .entry)) duration ⌝ }
+{
+    let mut good = true;
+    let mut i: usize = 0;
+    while i < starts.len() {
+        good = good & (starts[i] < duration);
+        i += 1;
+    }
+    good
+}
+
+fn starts_of_track_right(starts: &[u32], duration: u32) -> bool
+    ensures { λ r. ⌜ r ≡ startsRight (now (starts .entry)) duration ⌝ }
+{
+    let begin = ground::word_or_zero(starts, 0);
+    let rising = rises(starts);
+    let low = all_below(starts, duration);
+    (begin == 0) & rising & low
+}
+
+pub fn starts_right(tracks: &[u32], segments: &[u32]) -> bool
+    requires { ⌜ RunsInside (now tracks) (length (now segments)) ⌝ }
+    ensures { λ r. ⌜ r ≡ startsRule (now (tracks .entry)) (now (segments .entry)) ⌝ }
+{
+    let n = tracks.len() / 6;
+    let mut good = true;
+    let mut i: usize = 0;
+    while i < n {
+        let base = i * 6;
+        let first = ground::wide_word(tracks[base + 2]);
+        let count = ground::wide_word(tracks[base + 3]);
+        let end = first + count;
+        let right = starts_of_track_right(&segments[first..end], tracks[base]);
+        good = good & right;
+        i += 1;
+    }
+    good
+}
+
+pub fn titles_placed(tracks: &[u32], text: usize) -> bool
+    ensures { λ r. ⌜ r ≡ titlesPlacedRule (now (tracks .entry)) text ⌝ }
+{
+    let n = tracks.len() / 6;
+    let mut good = true;
+    let mut i: usize = 0;
+    while i < n {
+        let base = i * 6;
+        let offset = ground::wide_word(tracks[base + 4]);
+        let len = ground::wide_word(tracks[base + 5]);
+        let end = offset + len;
+        good = good & ((end <= text) & (len <= ground::MOST_TITLE));
+        i += 1;
+    }
+    good
+}
+
+pub fn titles_text(tracks: &[u32], text: &[u8]) -> bool
+    requires { ⌜ TitlesInside (now tracks) (length (now text)) ⌝ }
+    ensures { λ r. ⌜ r ≡ titlesTextRule (now (tracks .entry)) (now (text .entry)) ⌝ }
+{
+    let n = tracks.len() / 6;
+    let mut good = true;
+    let mut i: usize = 0;
+    while i < n {
+        let base = i * 6;
+        let offset = ground::wide_word(tracks[base + 4]);
+        let len = ground::wide_word(tracks[base + 5]);
+        let end = offset + len;
+        let right = text::is_text(&text[offset..end]);
+        good = good & right;
+        i += 1;
+    }
+    good
+}

@@ -1,0 +1,142 @@
+// Views of a catalogue's tables. They take any words and any number: behind the end of a table stands 0.
+ghost use mathlib.Core.Path.{_≡_};
+ghost use Prim.Native.Nat.{min, _+_, _-_, _≤_};
+ghost use Rattle.catalogue_tables.specs.Tables.{wordIn, groupCount, trackCount, parentOf, firstTrackOf, tracksIn, durationOf, stampOf, firstSegmentOf, segmentsIn, titleOffsetOf, titleLengthOf, startsOf, titleOf};
+
+// Group, track and segment numbers and hundredths are counted apart.
+pub struct GroupNo(pub u32);
+
+pub struct TrackNo(pub u32);
+
+pub struct SegmentNo(pub u32);
+// Hundredths of a second from the start of a track; its duration is the position of its end.
+pub struct Position(pub u32);
+
+// A word of record i.
+fn word_in(table: &[u32], width: usize, i: u32, column: usize) -> u32
+    requires { ⌜ (width ≤ 6) × (column ≤ 6) ⌝ }
+    ensures { λ r. ⌜ r ≡ wordIn width (now (table .entry)) i column ⌝ }
+{
+    let base = ground::wide_word(i) * width;
+    ground::word_or_zero(table, base + column)
+}
+
+pub fn group_count(groups: &[u32]) -> usize
+    ensures { λ r. ⌜ r ≡ groupCount (now (groups .entry)) ⌝ }
+{
+    groups.len() / 3
+}
+
+pub fn track_count(tracks: &[u32]) -> usize
+    ensures { λ r. ⌜ r ≡ trackCount (now (tracks .entry)) ⌝ }
+{
+    tracks.len() / 6
+}
+
+pub fn parent(groups: &[u32], g: GroupNo) -> GroupNo
+    ensures { λ r. ⌜ r .0 ≡ parentOf (now (groups .entry)) (g .0) ⌝ }
+{
+    let x = word_in(groups, 3, g.0, 0);
+    GroupNo(x)
+}
+
+pub fn first_track(groups: &[u32], g: GroupNo) -> TrackNo
+    ensures { λ r. ⌜ r .0 ≡ firstTrackOf (now (groups .entry)) (g .0) ⌝ }
+{
+    let x = word_in(groups, 3, g.0, 1);
+    TrackNo(x)
+}
+
+pub fn tracks_in(groups: &[u32], g: GroupNo) -> u32
+    ensures { λ r. ⌜ r ≡ tracksIn (now (groups .entry)) (g .0) ⌝ }
+{
+    word_in(groups, 3, g.0, 2)
+}
+
+pub fn duration(tracks: &[u32], t: TrackNo) -> Position
+    ensures { λ r. ⌜ r .0 ≡ durationOf (now (tracks .entry)) (t .0) ⌝ }
+{
+    let x = word_in(tracks, 6, t.0, 0);
+    Position(x)
+}
+
+pub fn stamp(tracks: &[u32], t: TrackNo) -> u32
+    ensures { λ r. ⌜ r ≡ stampOf (now (tracks .entry)) (t .0) ⌝ }
+{
+    word_in(tracks, 6, t.0, 1)
+}
+
+pub fn first_segment(tracks: &[u32], t: TrackNo) -> SegmentNo
+    ensures { λ r. ⌜ r .0 ≡ firstSegmentOf (now (tracks .entry)) (t .0) ⌝ }
+{
+    let x = word_in(tracks, 6, t.0, 2);
+    SegmentNo(x)
+}
+
+pub fn segments_in(tracks: &[u32], t: TrackNo) -> u32
+    ensures { λ r. ⌜ r ≡ segmentsIn (now (tracks .entry)) (t .0) ⌝ }
+{
+    word_in(tracks, 6, t.0, 3)
+}
+
+fn title_offset(tracks: &[u32], t: TrackNo) -> u32
+    ensures { λ r. ⌜ r ≡ titleOffsetOf (now (tracks .entry)) (t .0) ⌝ }
+{
+    word_in(tracks, 6, t.0, 4)
+}
+
+fn title_length(tracks: &[u32], t: TrackNo) -> u32
+    ensures { λ r. ⌜ r ≡ titleLengthOf (now (tracks .entry)) (t .0) ⌝ }
+{
+    word_in(tracks, 6, t.0, 5)
+}
+
+// The start and the end of a run, cut off at the end of its table.
+struct Run {
+    start: usize,
+    end: usize,
+}
+
+fn lesser(a: usize, b: usize) -> usize
+    ensures { λ r. ⌜ r ≡ min a b ⌝ }
+{
+    if a < b {
+        return a;
+    }
+    b
+}
+
+fn run_within(first: u32, count: u32, len: usize) -> Run
+    ensures { λ r. ⌜ (r .start ≡ min first len) × (r .end ≡ r .start + min count (len - r .start)) ⌝ }
+{
+    let start = lesser(ground::wide_word(first), len);
+    let end = start + lesser(ground::wide_word(count), len - start);
+    Run {
+        start: start,
+        end: end,
+    }
+}
+
+// The starts of a track's segments, a part of the segments.
+pub fn starts<'a>(tracks: &[u32], segments: &'a [u32], t: TrackNo) -> &'a [u32]
+    ensures { λ r. ⌜ now r ≡ startsOf (now (tracks .entry)) (now (segments .entry)) (t .0) ⌝ }
+{
+    let first = first_segment(tracks, t);
+    let count = segments_in(tracks, t);
+    let run = run_within(first.0, count, segments.len());
+    let a = run.start;
+    let e = run.end;
+    &segments[a..e]
+}
+
+// The octets of a track's title, a part of the text.
+pub fn title<'a>(tracks: &[u32], text: &'a [u8], t: TrackNo) -> &'a [u8]
+    ensures { λ r. ⌜ now r ≡ titleOf (now (tracks .entry)) (now (text .entry)) (t .0) ⌝ }
+{
+    let offset = title_offset(tracks, t);
+    let len = title_length(tracks, t);
+    let run = run_within(offset, len, text.len());
+    let a = run.start;
+    let e = run.end;
+    &text[a..e]
+}

@@ -1,2 +1,0 @@
--- What the contracts name.
-pub mod Changes

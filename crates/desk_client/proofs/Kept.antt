@@ -1,0 +1,307 @@
+-- What becomes of a record keeps the clients' part of 201. Assumes nothing.
+use mathlib.Core.Path.{_≡_, refl, sym, ap, _∙_, subst}
+use mathlib.Core.Bool.{Bool, true, false, not, _&&_, _||_, or-false, and-false}
+use mathlib.Core.Logic.{_⊎_, inl, inr, ⊎-elim}
+use mathlib.Core.List.{[], _∷_}
+use Prim.Native.Nat.{ℕ, _+_, _-_, _≤_, _<_, _^_}
+use native.Mathlib.Decide.{ℕ-discrete}
+use native.Mathlib.Omega.{arith}
+use borrow.Author.Tests.{eq-eqb, ne-eqb, eqb-true, lt-ltb, le-ltb, ltb-true, ltb-false}
+use lib.Bits.{bitAnd, and-le-l, and-le-r}
+use lib.Dec.{eqb, ltb}
+use lib.ListN.{length, getD, set, drop, length-drop, List·getD-append}
+use lib.Seq.{getD-set-same, getD-set-other, getD-drop}
+use Rattle.ground.specs.Cases.{pick, within, has}
+use Rattle.ground.specs.Lists.{allBelow}
+use Rattle.ground.proofs.Bounded.{all-at, all-intro}
+use Rattle.ground.proofs.Cases.{true-or, clash}
+use Rattle.desk_slots.specs.Slots.{slotCount, insert, remove, union, inter, minus}
+use Rattle.desk_slots.specs.Characteristics.{readables, isIn, setOf}
+use Rattle.desk_slots.proofs.Bits.{has-and, ext}
+use Rattle.desk_slots.proofs.SetLaws.{below, set-lt, set-has, in-below}
+use Rattle.desk_slots.proofs.SlotLaws.{has-insert, has-remove, has-minus, insert-lt, remove-lt, union-lt, inter-lt, minus-lt, insert-same, remove-same, remove-other}
+use Rattle.desk_client.specs.declared.Entry.{Entry}
+use Rattle.desk_client.specs.declared.Client.{Client}
+use Rattle.desk_client.specs.Client.{controlSlot, mostResults, onlyReadable, blankEntry, codesRight}
+use Rattle.desk_client.specs.Setters.{withSlots}
+use Rattle.desk_client.specs.Queue.{withoutOldest}
+use Rattle.desk_client.specs.Duties.{joined, dropped, noted, wasRead, resulted, served}
+use Rattle.desk_client.proofs.Rule.{Sound, Blank}
+use Rattle.desk_client.proofs.SlotBySlot.{noted-owed, resulted-none, resulted-is, served-value, served-result}
+
+-- a set with a slot put in, and a set that lost one, hold what they should
+or-left : (a b : Bool) → a ≡ true → (a || b) ≡ true
+or-left true b e = refl
+or-left false b e = clash e
+
+cut : (a t : Bool) → (a && not t) ≡ true → (a ≡ true) × (t ≡ false)
+cut true true e = clash e
+cut true false e = (refl, refl)
+cut false t e = clash e
+
+keep : (a t : Bool) → a ≡ true → t ≡ false → (a && not t) ≡ true
+keep true t e q = ap not q
+keep false t e q = clash e
+
+-- what is owed after a note was owed, or is wanted
+noted-covered : (o w d : Bool) → (o ≡ true → w ≡ true) → (o || (w && d)) ≡ true → w ≡ true
+noted-covered true w d f e = f refl
+noted-covered false true d f e = refl
+noted-covered false false d f e = clash e
+
+-- the changed marks: only of characteristics that may be read, bit by bit
+abbrev readableSet : ℕ
+readableSet = setOf 32 (isIn readables)
+
+marks-lt : (w : ℕ) → onlyReadable w ≡ true → w < 2 ^ 32
+marks-lt w e = omega (arith, eqb-true (bitAnd w readableSet) w e, and-le-r w readableSet, set-lt (isIn readables) 32)
+
+marks-in : (w : ℕ) → onlyReadable w ≡ true → (x : ℕ) → has w x ≡ true → has readableSet x ≡ true
+marks-in w e x h =
+    right (has w x) (has readableSet x) (sym (has-and w readableSet x) ∙ ap (λ (v : ℕ). has v x) (eqb-true (bitAnd w readableSet) w e)) h
+  where
+    right : (a b : Bool) → (a && b) ≡ a → a ≡ true → b ≡ true
+    right true b q k = q
+    right false b q k = clash k
+
+in-marks : (w : ℕ) → w < 2 ^ 32 → ((x : ℕ) → has w x ≡ true → has readableSet x ≡ true) → onlyReadable w ≡ true
+in-marks w h f =
+    eq-eqb (bitAnd w readableSet) w (ext 32 (bitAnd w readableSet) w (omega (arith, and-le-l w readableSet)) h (λ x l. has-and w readableSet x ∙ only (has w x) (has readableSet x) (f x)))
+  where
+    only : (a b : Bool) → (a ≡ true → b ≡ true) → (a && b) ≡ a
+    only true b k = k refl
+    only false b k = refl
+
+readable-less : (w altered : ℕ) → onlyReadable w ≡ true → onlyReadable (minus w altered) ≡ true
+readable-less w altered e =
+    in-marks (minus w altered) (minus-lt 32 w altered (marks-lt w e))
+    (λ x h. marks-in w e x (cut (has w x) (has altered x) (sym (has-minus w altered x) ∙ h) .0))
+
+readable-more : (w x : ℕ) → onlyReadable w ≡ true → isIn readables x ≡ true → onlyReadable (insert w x) ≡ true
+readable-more w x e h =
+    let l = in-below 32 readables below-32 x h in
+    in-marks (insert w x) (insert-lt 32 w x (marks-lt w e) l)
+    (λ y q. ⊎-elim
+    (λ (a : has w y ≡ true). marks-in w e y a)
+    (λ (a : eqb x y ≡ true). ap (has readableSet) (sym (eqb-true x y a)) ∙ set-has (isIn readables) 32 x l ∙ h)
+    (either (has w y) (eqb x y) (sym (has-insert w x y) ∙ q)))
+  where
+    below-32 : below 32 readables ≡ true
+    below-32 = refl
+
+    either : (a b : Bool) → (a || b) ≡ true → (a ≡ true) ⊎ (b ≡ true)
+    either true b k = inl refl
+    either false b k = inr k
+
+module _ (c : Client) (sound : Sound c) where
+  pub kept-joined : (s : ℕ) → s < slotCount → c .encrypted ≡ true → Sound (joined s c)
+  unfolding joined
+  kept-joined s h safe =
+      record {
+        mtu-from = sound .mtu-from;
+        mtu-to = sound .mtu-to;
+        subscribed-slots = insert-lt slotCount (c .subscribed) s (sound .subscribed-slots) h;
+        owed-slots = sound .owed-slots;
+        readable = sound .readable;
+        covered = λ t e. has-insert (c .subscribed) s t ∙ or-left (has (c .subscribed) t) (eqb s t) (sound .covered t e);
+        waits = sound .waits;
+        few = sound .few;
+        codes = sound .codes;
+        marked = sound .marked;
+        safe = ap (λ (b : Bool). b || eqb (insert (c .subscribed) s) 0) safe;
+      }
+
+  -- unsubscribing from 18 leaves no result, from another slot as many as there were
+  pub kept-dropped : (s : ℕ) → s < slotCount → c .encrypted ≡ true → Sound (dropped s c)
+  unfolding dropped codesRight allBelow
+  kept-dropped s h safe =
+      record {
+        mtu-from = sound .mtu-from;
+        mtu-to = sound .mtu-to;
+        subscribed-slots = remove-lt slotCount (c .subscribed) s (sound .subscribed-slots);
+        owed-slots = remove-lt slotCount (c .owed) s (sound .owed-slots);
+        readable = sound .readable;
+        covered = λ t e.
+            let k = cut (has (c .owed) t) (eqb s t) (sym (has-remove (c .owed) s t) ∙ e) in
+            has-remove (c .subscribed) s t ∙ keep (has (c .subscribed) t) (eqb s t) (sound .covered t (k .0)) (k .1);
+        waits = waits (ℕ-discrete s controlSlot);
+        few = few (eqb s controlSlot);
+        codes = codes (eqb s controlSlot);
+        marked = sound .marked;
+        safe = ap (λ (b : Bool). b || eqb (remove (c .subscribed) s) 0) safe;
+      }
+    where
+      waits : Dec (s ≡ controlSlot) → has (remove (c .owed) s) controlSlot ≡ ltb 0 (pick (eqb s controlSlot) 0 (c .waiting))
+      waits (yes e) = ap (λ (x : ℕ). has (remove (c .owed) x) controlSlot) e ∙ remove-same (c .owed) controlSlot ∙ sym (ap (λ (b : Bool). ltb 0 (pick b 0 (c .waiting))) (eq-eqb s controlSlot e))
+      waits (no n) = remove-other (c .owed) s controlSlot n ∙ sound .waits ∙ sym (ap (λ (b : Bool). ltb 0 (pick b 0 (c .waiting))) (ne-eqb s controlSlot n))
+
+      few : (t : Bool) → pick t 0 (c .waiting) ≤ mostResults
+      few true = omega arith
+      few false = sound .few
+
+      codes : (t : Bool) → codesRight (pick t 0 (c .waiting)) (c .results) ≡ true
+      codes true = refl
+      codes false = sound .codes
+
+  -- what fell due has nothing of 18
+  pub kept-noted : (due altered : ℕ) → has due controlSlot ≡ false → Sound (noted due altered c)
+  unfolding noted
+  kept-noted due altered none =
+      record {
+        mtu-from = sound .mtu-from;
+        mtu-to = sound .mtu-to;
+        subscribed-slots = sound .subscribed-slots;
+        owed-slots = union-lt slotCount (c .owed) (inter (c .subscribed) due) (sound .owed-slots) (inter-lt slotCount (c .subscribed) due (sound .subscribed-slots));
+        readable = fewer (sound .readable);
+        covered = λ t e. noted-covered (has (c .owed) t) (has (c .subscribed) t) (has due t) (sound .covered t) (sym (noted-owed c due altered t) ∙ e);
+        waits = noted-owed c due altered controlSlot ∙ ap (λ (b : Bool). has (c .owed) controlSlot || (has (c .subscribed) controlSlot && b)) none ∙ same ∙ sound .waits;
+        few = sound .few;
+        codes = sound .codes;
+        marked = sound .marked;
+        safe = sound .safe;
+      }
+    where
+      same : (has (c .owed) controlSlot || (has (c .subscribed) controlSlot && false)) ≡ has (c .owed) controlSlot
+      same = ap (λ (b : Bool). has (c .owed) controlSlot || b) (and-false (has (c .subscribed) controlSlot)) ∙ or-false (has (c .owed) controlSlot)
+
+      fewer : onlyReadable (c .fresh) ≡ true → onlyReadable (minus (c .fresh) altered) ≡ true
+      fewer = readable-less (c .fresh) altered
+
+  pub kept-read : (x : ℕ) → isIn readables x ≡ true → Sound (wasRead x c)
+  unfolding wasRead
+  kept-read x h =
+      record {
+        mtu-from = sound .mtu-from;
+        mtu-to = sound .mtu-to;
+        subscribed-slots = sound .subscribed-slots;
+        owed-slots = sound .owed-slots;
+        readable = readable-more (c .fresh) x (sound .readable) h;
+        covered = sound .covered;
+        waits = sound .waits;
+        few = sound .few;
+        codes = sound .codes;
+        marked = sound .marked;
+        safe = sound .safe;
+      }
+
+  -- a result of 1 to 4 behind those that wait
+  pub kept-resulted : (opcode code : ℕ) → length (c .results) ≡ mostResults → c .waiting < mostResults → within 1 4 code ≡ true → Sound (resulted opcode code c)
+  kept-resulted opcode code long room right =
+      ⊎-elim
+      (λ e. subst Sound (sym (resulted-is c opcode code e room)) (with-one e))
+      (λ e. subst Sound (sym (resulted-none c opcode code e)) sound)
+      (true-or (has (c .subscribed) controlSlot))
+    where
+      entry : Entry
+      entry = record { opcode = opcode; code = code }
+
+      each : (i : ℕ) → i < c .waiting + 1 → within 1 4 (getD (set (c .results) (c .waiting) entry) i blankEntry .code) ≡ true
+      each i h =
+          elim (ℕ-discrete i (c .waiting)) [
+            | yes e ↦
+                ap (λ (n : ℕ). within 1 4 (getD (set (c .results) (c .waiting) entry) n blankEntry .code)) e
+                ∙ ap (λ (x : Entry). within 1 4 (x .code)) (getD-set-same (c .results) (c .waiting) entry blankEntry (omega arith)) ∙ right
+            | no n ↦
+                ap (λ (x : Entry). within 1 4 (x .code)) (getD-set-other (c .results) (c .waiting) i entry blankEntry n)
+                ∙ all-at (λ (j : ℕ). within 1 4 (getD (c .results) j blankEntry .code)) (c .waiting) (sound .codes) i (omega arith)
+          ]
+
+      with-one : has (c .subscribed) controlSlot ≡ true
+          → Sound (withSlots (c .subscribed) (insert (c .owed) controlSlot) (c .mark) (c .waiting + 1) (set (c .results) (c .waiting) entry) c)
+      with-one wants =
+          record {
+            mtu-from = sound .mtu-from;
+            mtu-to = sound .mtu-to;
+            subscribed-slots = sound .subscribed-slots;
+            owed-slots = insert-lt slotCount (c .owed) controlSlot (sound .owed-slots) (omega arith);
+            readable = sound .readable;
+            covered = λ t e. ⊎-elim
+                (λ (a : has (c .owed) t ≡ true). sound .covered t a)
+                (λ (a : has (c .owed) t ≡ false). ap (has (c .subscribed)) (sym (eqb-true controlSlot t (sym (ap (λ (b : Bool). b || eqb controlSlot t) a) ∙ sym (has-insert (c .owed) controlSlot t) ∙ e))) ∙ wants)
+                (true-or (has (c .owed) t));
+            waits = insert-same (c .owed) controlSlot ∙ sym (lt-ltb 0 (c .waiting + 1) (omega arith));
+            few = omega arith;
+            codes = all-intro (λ (j : ℕ). within 1 4 (getD (set (c .results) (c .waiting) entry) j blankEntry .code)) (c .waiting + 1) each;
+            marked = sound .marked;
+            safe = sound .safe;
+          }
+
+  -- a slot that is owed was served
+  pub kept-served : (s : ℕ) → length (c .results) ≡ mostResults → s < slotCount → has (c .owed) s ≡ true → Sound (served s c)
+  kept-served s long h owes = at (ℕ-discrete s controlSlot)
+    where
+      value : (s ≡ controlSlot → ⊥) → Sound (withSlots (c .subscribed) (remove (c .owed) s) s (c .waiting) (c .results) c)
+      value n =
+          record {
+            mtu-from = sound .mtu-from;
+            mtu-to = sound .mtu-to;
+            subscribed-slots = sound .subscribed-slots;
+            owed-slots = remove-lt slotCount (c .owed) s (sound .owed-slots);
+            readable = sound .readable;
+            covered = λ t e. sound .covered t (cut (has (c .owed) t) (eqb s t) (sym (has-remove (c .owed) s t) ∙ e) .0);
+            waits = remove-other (c .owed) s controlSlot n ∙ sound .waits;
+            few = sound .few;
+            codes = sound .codes;
+            marked = h;
+            safe = sound .safe;
+          }
+
+      some : has (c .owed) controlSlot ≡ true → 0 < c .waiting
+      some e = ltb-true 0 (c .waiting) (sym (sound .waits) ∙ e)
+
+      behind : (i : ℕ) → i < c .waiting - 1 → within 1 4 (getD (withoutOldest (c .results)) i blankEntry .code) ≡ true
+      behind i l =
+          ap (λ (x : Entry). within 1 4 (x .code)) (List·getD-append (drop 1 (c .results)) (blankEntry ∷ []) blankEntry i (shorter l) ∙ getD-drop 1 (c .results) i blankEntry)
+          ∙ all-at (λ (j : ℕ). within 1 4 (getD (c .results) j blankEntry .code)) (c .waiting) (sound .codes) (1 + i) (omega arith)
+        where
+          shorter : i < c .waiting - 1 → i < length (drop 1 (c .results))
+          shorter q = simp length-drop (omega (arith, sound .few))
+
+      left : (t : Bool) → ltb 1 (c .waiting) ≡ t → has (c .owed) controlSlot ≡ true
+          → (pick t (c .owed) (remove (c .owed) controlSlot) < 2 ^ slotCount)
+          × ((u : ℕ) → has (pick t (c .owed) (remove (c .owed) controlSlot)) u ≡ true → has (c .subscribed) u ≡ true)
+          × (has (pick t (c .owed) (remove (c .owed) controlSlot)) controlSlot ≡ ltb 0 (c .waiting - 1))
+      left true e o = (sound .owed-slots, sound .covered, o ∙ sym (lt-ltb 0 (c .waiting - 1) (omega (arith, ltb-true 1 (c .waiting) e))))
+      left false e o = (
+        remove-lt slotCount (c .owed) controlSlot (sound .owed-slots),
+        (λ u q. sound .covered u (cut (has (c .owed) u) (eqb controlSlot u) (sym (has-remove (c .owed) controlSlot u) ∙ q) .0)),
+        remove-same (c .owed) controlSlot ∙ sym (le-ltb 0 (c .waiting - 1) (omega (arith, ltb-false 1 (c .waiting) e))),
+      )
+
+      result : has (c .owed) controlSlot ≡ true
+          → Sound (withSlots (c .subscribed) (pick (ltb 1 (c .waiting)) (c .owed) (remove (c .owed) controlSlot)) controlSlot (c .waiting - 1) (withoutOldest (c .results)) c)
+      result o =
+          let l = left (ltb 1 (c .waiting)) refl o in
+          record {
+            mtu-from = sound .mtu-from;
+            mtu-to = sound .mtu-to;
+            subscribed-slots = sound .subscribed-slots;
+            owed-slots = l .0;
+            readable = sound .readable;
+            covered = l .1;
+            waits = l .2;
+            few = omega (arith, sound .few);
+            codes = all-intro (λ (j : ℕ). within 1 4 (getD (withoutOldest (c .results)) j blankEntry .code)) (c .waiting - 1) behind;
+            marked = omega arith;
+            safe = sound .safe;
+          }
+
+      at : Dec (s ≡ controlSlot) → Sound (served s c)
+      at (no n) = subst Sound (sym (served-value c s n)) (value n)
+      at (yes e) =
+          let o = ap (has (c .owed)) (sym e) ∙ owes in
+          subst (λ (t : ℕ). Sound (served t c)) (sym e) (subst Sound (sym (served-result c (some o))) (result o))
+
+-- a record that is not connected is told nothing
+pub kept-blank : (c : Client) (due altered : ℕ) → Blank c → Blank (noted due altered c)
+unfolding noted union inter minus
+kept-blank c due altered b =
+    record {
+      encrypted = b .encrypted;
+      mtu = b .mtu;
+      subscribed = b .subscribed;
+      owed = rw (b .owed, b .subscribed);
+      fresh = rw (b .fresh);
+      mark = b .mark;
+      waiting = b .waiting;
+    }

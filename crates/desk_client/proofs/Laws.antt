@@ -1,0 +1,45 @@
+-- Records that keep the clients' part of 201, and the queue of results: pushing appends, popping drops the oldest. Assumes nothing.
+use mathlib.Core.Path.{_≡_, refl, sym, ap, _∙_}
+use mathlib.Core.Bool.{Bool, true, false}
+use mathlib.Core.List.{List, [], _∷_, _++_}
+use Prim.Native.Nat.{ℕ, suc, _-_, _<_, _≤_}
+use native.Mathlib.Nat.{le-of-suc-le-suc, not-suc-le-zero}
+use native.Mathlib.Numerals.{add-one}
+use native.Mathlib.Omega.{arith}
+use borrow.Author.Tests.{lt-ltb, ne-eqb}
+use lib.ListN.{length, take, drop}
+use lib.Seq.{take-suc-set, take-append-le}
+use Rattle.ground.specs.Cases.{has}
+use Rattle.ground.specs.Lists.{allBelow}
+use Rattle.desk_slots.specs.Slots.{inter, onlySlots}
+use Rattle.desk_client.specs.declared.Client.{Client}
+use Rattle.desk_client.specs.Client.{mtuRight, mostResults, blankEntry, blankRule, connectedRule, clientRule, startClient, connectedClient}
+use Rattle.desk_client.specs.Queue.{queueOf, pushed, popped}
+
+pub start-stands : clientRule startClient ≡ true
+unfolding clientRule blankRule startClient
+start-stands = refl
+
+pub connected-stands : (mtu : ℕ) (encrypted : Bool) → mtuRight mtu ≡ true → clientRule (connectedClient mtu encrypted) ≡ true
+unfolding clientRule connectedRule connectedClient onlySlots inter has allBelow
+connected-stands mtu true e = rw e
+connected-stands mtu false e = rw e
+
+dropped : {A : Type 0} (n : ℕ) (xs : List A) (b : A) → n < length xs → take n (drop 1 xs ++ (b ∷ [])) ≡ drop 1 (take (suc n) xs)
+dropped n [] b h = absurd (not-suc-le-zero h)
+dropped n (x ∷ xs) b h = take-append-le n xs (b ∷ []) (le-of-suc-le-suc h)
+
+module _ (c : Client) (long : length (c .results) ≡ mostResults) where
+  pub push-appends : (opcode code : ℕ) → c .waiting < mostResults → queueOf (pushed opcode code c) ≡ queueOf c ++ (record { opcode = opcode; code = code } ∷ [])
+  unfolding pushed
+  push-appends opcode code h =
+      let l : c .waiting < length (c .results) = omega arith in
+      rw (lt-ltb (c .waiting) 8 h, add-one (c .waiting)) (take-suc-set (c .results) (c .waiting) (record { opcode = opcode; code = code }) l)
+
+  pub pop-drops : 0 < c .waiting → c .waiting ≤ mostResults → queueOf (popped c) ≡ drop 1 (queueOf c)
+  unfolding popped
+  pop-drops p h =
+      let z : c .waiting ≡ 0 → ⊥ = λ q. omega arith in
+      let w : c .waiting ≡ suc (c .waiting - 1) = omega arith in
+      rw (ne-eqb (c .waiting) 0 z)
+      (dropped (c .waiting - 1) (c .results) blankEntry (omega arith) ∙ ap (λ (n : ℕ). drop 1 (take n (c .results))) (sym w))

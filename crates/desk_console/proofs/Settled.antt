@@ -1,0 +1,46 @@
+-- The contracts of the calls settle their outcomes: two outcomes that meet one at the same arguments are the same. Assumes nothing.
+use mathlib.Core.Path.{_≡_}
+use mathlib.Core.List.{List}
+use Prim.Native.Nat.{ℕ}
+use contract.Lifetimes.{Lfts}
+use denote.Ref.{RefT}
+use Rattle.catalogue_tables.specs.declared.GroupNo.{GroupNo}
+use Rattle.desk_state.specs.declared.Desk.{Desk}
+use Rattle.desk_replies.specs.declared.Outcome.{Outcome}
+use Rattle.desk_replies.proofs.Settled.{one-outcome}
+use Rattle.desk_console.proofs.activate.Reads as activate
+use Rattle.desk_console.proofs.advance.Reads as advance
+use Rattle.desk_console.proofs.deactivate.Reads as deactivate
+use Rattle.desk_console.proofs.set_name.Reads as set-name
+use Rattle.desk_console.proofs.start.Reads as start
+
+module _ (κs : Lfts 4) (groups tracks segments text : RefT (List ℕ)) (d : Desk) (o₁ o₂ : Outcome) where
+  pub activate-settled : (group : GroupNo)
+      → activate.Post κs (groups, (tracks, (segments, (text, (d, (group, tt)))))) o₁ (groups, (tracks, (segments, (text, (d, (group, tt))))))
+      → activate.Post κs (groups, (tracks, (segments, (text, (d, (group, tt)))))) o₂ (groups, (tracks, (segments, (text, (d, (group, tt))))))
+      → o₁ ≡ o₂
+  activate-settled group = one-outcome o₁ o₂
+
+  pub deactivate-settled : deactivate.Post κs (groups, (tracks, (segments, (text, (d, tt))))) o₁ (groups, (tracks, (segments, (text, (d, tt)))))
+      → deactivate.Post κs (groups, (tracks, (segments, (text, (d, tt))))) o₂ (groups, (tracks, (segments, (text, (d, tt)))))
+      → o₁ ≡ o₂
+  deactivate-settled = one-outcome o₁ o₂
+
+  pub advance-settled : (step : ℕ)
+      → advance.Post κs (groups, (tracks, (segments, (text, (d, (step, tt)))))) o₁ (groups, (tracks, (segments, (text, (d, (step, tt))))))
+      → advance.Post κs (groups, (tracks, (segments, (text, (d, (step, tt)))))) o₂ (groups, (tracks, (segments, (text, (d, (step, tt))))))
+      → o₁ ≡ o₂
+  advance-settled step = one-outcome o₁ o₂
+
+module _ (κs : Lfts 5) (groups tracks segments text name : RefT (List ℕ)) (o₁ o₂ : Outcome) where
+  pub start-settled : (mask ccid : ℕ)
+      → start.Post κs (groups, (tracks, (segments, (text, (name, (mask, (ccid, tt))))))) o₁ (groups, (tracks, (segments, (text, (name, (mask, (ccid, tt)))))))
+      → start.Post κs (groups, (tracks, (segments, (text, (name, (mask, (ccid, tt))))))) o₂ (groups, (tracks, (segments, (text, (name, (mask, (ccid, tt)))))))
+      → o₁ ≡ o₂
+  start-settled mask ccid = one-outcome o₁ o₂
+
+  pub set-name-settled : (d : Desk)
+      → set-name.Post κs (groups, (tracks, (segments, (text, (d, (name, tt)))))) o₁ (groups, (tracks, (segments, (text, (d, (name, tt))))))
+      → set-name.Post κs (groups, (tracks, (segments, (text, (d, (name, tt)))))) o₂ (groups, (tracks, (segments, (text, (d, (name, tt))))))
+      → o₁ ≡ o₂
+  set-name-settled d = one-outcome o₁ o₂

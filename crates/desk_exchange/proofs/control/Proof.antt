@@ -1,0 +1,67 @@
+-- `desk_exchange::control`: what the opcode comes to is settled, and then its result is noted.
+use mathlib.Core.Path.{ap, _∙_}
+use native.Mathlib.Omega.{arith}
+use Rattle.catalogue_tables.specs.Tables.{Tables, tables}
+use Rattle.player_moves.specs.Control.{controlled}
+use Rattle.player_moves.proofs.Ready.{shaped}
+use Rattle.desk_client.specs.Duties.{resulted}
+use Rattle.desk_state.specs.declared.Desk.{Desk}
+use Rattle.desk_state.specs.Desk.{clientAt, withClient}
+use Rattle.desk_notices.specs.Owed.{settled}
+use Rattle.desk_exchange.specs.Write.{controlWritten}
+use borrow.Author.Needs.{needs}
+use Rattle.desk_exchange.proofs.control.Statement.{statement}
+use Rattle.desk_exchange.proofs.control.Tie as tie
+
+abbrev lent : tie.Start → Tables
+lent s = tables (s .args .groups .now) (s .args .tracks .now) (s .args .segments .now) (s .args .text .now)
+
+octet-or-zero-requires : tie.Need-octet-or-zero-requires
+octet-or-zero-requires c κs = search needs
+
+number-of-requires : tie.Need-number-of-requires
+number-of-requires c κs = search needs
+
+control-requires : tie.Need-control-requires
+control-requires c κs =
+    let s = c .before .before .before .before .before .before .before .before in
+    (shaped (lent s) (s .pre .0), s .pre .1 .0)
+
+by-writer-requires : tie.Need-by-writer-requires
+by-writer-requires c κs = search needs
+
+settle-requires : tie.Need-settle-requires
+settle-requires c κs = search needs
+
+client-at-requires : tie.Need-client-at-requires
+client-at-requires c κs = omega (arith, c .before .before .before .before .before .before .before .before .before .before .before .before .pre .1 .1)
+
+note-result-requires : tie.Need-note-result-requires
+note-result-requires c κs = search needs
+
+with-client-requires : tie.Need-with-client-requires
+with-client-requires c κs = c .before .before .before .before .before .before .before .before .before .before .before .before .before .before .pre .1 .1
+
+returns : tie.Need-returns
+unfolding controlWritten
+returns c =
+    let s = c .before .before .before .before .before .before .before .before .before .before .before .before .before .before .before in
+    let opcode = c .before .before .before .before .before .before .before .before .octet-or-zero .ensures in
+    let done = c .before .before .before .before .before .before .control .ensures ∙ (λ k. controlled (s .args .groups .now) (s .args .tracks .now) (s .args .segments .now) (opcode k) (c .before .before .before .before .before .before .before .number-of .ensures k) (s .args .d .player)) in
+    let told = c .before .before .before .settle .ensures ∙ (λ k. settled (s .args .tracks .now) (s .args .text .now) (c .before .before .before .before .by-writer .ensures k) (done k .player) (s .args .d)) in
+    let note = c .before .note-result .ensures ∙ (λ k. resulted (opcode k) (done k .result) ((c .before .before .client-at .ensures ∙ ap (λ (e : Desk). clientAt (e .clients) (s .args .who)) told) k)) in
+    c .with-client .ensures ∙ (λ k. withClient (s .args .who) (note k) (told k))
+
+pub control-spec : {M : Type 1} → statement M
+control-spec =
+    tie.close
+    (tie.spec
+    octet-or-zero-requires
+    number-of-requires
+    control-requires
+    by-writer-requires
+    settle-requires
+    client-at-requires
+    note-result-requires
+    with-client-requires
+    returns)

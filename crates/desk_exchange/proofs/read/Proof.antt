@@ -1,0 +1,176 @@
+-- `desk_exchange::read`: its rows, then a part of the value, and a read at 0 kept in mind.
+use mathlib.Core.Path.{_≡_, refl, ap, _∙_}
+use mathlib.Core.Bool.{true, false, not}
+use mathlib.Core.List.{List, [], _∷_}
+use Prim.Native.Nat.{ℕ, _-_, _≤_, _<_}
+use native.Mathlib.Omega.{arith}
+use borrow.Author.Tests.{leb-false, ltb-false, not-true, not-false}
+use lib.Dec.{ltb}
+use lib.ListN.{length, take, drop, replicate}
+use lib.Seq.{take-append-seam}
+use Rattle.ground.specs.Cases.{granted}
+use Rattle.ground.specs.Limits.{mostTitle}
+use Rattle.ground.specs.Lists.{filled}
+use Rattle.catalogue_tables.specs.Tables.{Tables, tables}
+use Rattle.catalogue_check.specs.Catalogue.{Right}
+use Rattle.player_check.specs.Standing.{playerRule}
+use Rattle.desk_slots.specs.Slots.{clientCount}
+use Rattle.desk_slots.specs.Characteristics.{readables}
+use Rattle.desk_slots.proofs.SetLaws.{in-below}
+use Rattle.player_values.specs.declared.Held.{Held}
+use Rattle.player_values.specs.Handing.{partFrom}
+use Rattle.player_values.proofs.Fits.{name-short, title-fits, value-fits}
+use Rattle.admission.specs.Refusals.{Left, Row, leaves}
+use Rattle.admission.proofs.Rows.{NoneApplies, through}
+use Rattle.desk_client.specs.declared.Client.{Client}
+use Rattle.desk_client.proofs.Rule.{mtu-least}
+use Rattle.desk_state.specs.declared.Desk.{Desk}
+use Rattle.desk_state.specs.Desk.{clientAt, withClient}
+use Rattle.desk_state.proofs.Laws.{client-stands}
+use Rattle.desk_replies.specs.Replies.{fronted}
+use Rattle.desk_replies.proofs.Gates.{refuses, none, right, stands, player, kept, shown}
+use Rattle.desk_exchange.specs.Read.{valueNow, allReadRows, afterRead, readOctets, readCall}
+use borrow.Author.Needs.{needs}
+use Rattle.desk_exchange.proofs.read.Statement.{statement}
+use Rattle.desk_exchange.proofs.read.Tie as tie
+
+abbrev lent : tie.Start → Tables
+lent s = tables (s .args .groups .now) (s .args .tracks .now) (s .args .segments .now) (s .args .text .now)
+
+abbrev begin : tie.After-read-gate → tie.Start
+begin g = g .before .before .before .before .before .before
+
+abbrev room : tie.Start → ℕ
+room s = length (s .args .out .now)
+
+abbrev rows : tie.Start → List Row
+rows s = allReadRows (lent s) (s .args .d) (s .args .who) (s .args .characteristic) (s .args .offset) (room s)
+
+passed : (g : tie.After-read-gate) → not (g .read-gate .result .passes) ≡ false → NoneApplies (rows (begin g))
+passed g e = none (rows (begin g)) (g .read-gate .result) (g .read-gate .ensures) refl (not-false _ e)
+
+-- of a read that is not refused
+module _ (s : tie.Start) (n : NoneApplies (rows s)) where
+  abbrev first : NoneApplies (fronted (lent s) (ltb (room s) 128) (s .args .d))
+  first = (n .0, (n .1 .0, (n .1 .1 .0, tt)))
+
+  catalogue : Right (lent s)
+  catalogue = right (lent s) (ltb (room s) 128) (s .args .d) first
+
+  fine : playerRule (s .args .groups .now) (s .args .tracks .now) (s .args .d .player) ≡ true
+  fine = player (lent s) (ltb (room s) 128) (s .args .d) first
+
+  there : s .args .who < clientCount
+  there = leb-false _ _ (n .1 .1 .1 .0)
+
+  abbrev own : Client
+  own = clientAt (s .args .d .clients) (s .args .who)
+
+  mtu : 23 ≤ own .mtu
+  mtu = mtu-least own (client-stands (s .args .groups .now) (s .args .tracks .now) (s .args .d) (stands (lent s) (ltb (room s) 128) (s .args .d) first) (s .args .who) there)
+
+  abbrev value : List ℕ
+  value = valueNow (lent s) (s .args .d) (s .args .characteristic)
+
+  within-value : s .args .offset ≤ length value
+  within-value = ltb-false _ _ (n .1 .1 .1 .1 .1 .1 .1 .1 .1 .0)
+
+  short : length value ≤ mostTitle
+  short = value-fits (lent s) catalogue (s .args .d .player) fine (s .args .characteristic)
+
+read-gate-requires : tie.Need-read-gate-requires
+read-gate-requires c κs = search needs
+
+shut-requires : tie.Need-shut-requires
+shut-requires c κs = search needs
+
+returns : tie.Need-returns
+unfolding readCall
+returns c =
+    let g = c .before .before .before in
+    let s = begin g in
+    let e = not-true _ (c .before .if1 .taken) in (
+      c .shut .ensures ∙ refuses (rows s) (g .read-gate .result) (g .read-gate .ensures) e (s .args .d) _,
+      kept (rows s) (g .read-gate .result) (g .read-gate .ensures) e _ (ap (λ (l : Left Desk). l .said) (c .shut .ensures))
+          (readOctets (lent s) (s .args .d) (s .args .who) (s .args .characteristic) (s .args .offset)) (s .args .out .now),
+    )
+
+client-at-requires : tie.Need-client-at-requires
+client-at-requires c κs = there (begin (c .before .before .before)) (passed (c .before .before .before) (c .before .if1 .left))
+
+hold-requires : tie.Need-hold-requires
+hold-requires c κs =
+    let s = begin (c .before .before .before .before) in
+    let n = passed (c .before .before .before .before) (c .before .before .if1 .left) in
+    (name-short (lent s) (catalogue s n) (s .args .d .player) (fine s n), title-fits (lent s) (catalogue s n) (s .args .d .player) (fine s n))
+
+wide-word-requires : tie.Need-wide-word-requires
+wide-word-requires c κs = search needs
+
+sub-wide-word : tie.Need-sub-wide-word
+sub-wide-word c = omega (arith, mtu (begin (c .before .before .before .before .before .before .before)) (passed (c .before .before .before .before .before .before .before) (c .before .before .before .before .before .if1 .left)), ap (λ (r : Client). r .mtu) (c .before .before .before .client-at .ensures))
+
+wide-word-requires-2 : tie.Need-wide-word-requires-2
+wide-word-requires-2 c κs = search needs
+
+hand-requires : tie.Need-hand-requires
+hand-requires c κs =
+    let s = begin (c .before .before .before .before .before .before .before .before .before) in
+    let n = passed (c .before .before .before .before .before .before .before .before .before) (c .before .before .before .before .before .before .before .if1 .left) in
+    let held = ap (λ (h : Held). h .len) (c .before .before .before .before .hold .ensures) in
+    let from = c .before .before .before .wide-word .ensures .0 in
+    (ltb-false _ _ (n .1 .0), (omega (arith, within-value s n, held, from), omega (arith, short s n, held)))
+
+after-read-requires : tie.Need-after-read-requires
+after-read-requires c κs = in-below 32 readables refl _ (not-false _ (passed (c .before .before .before .before .before .before .before .before .before .before .before .before) (c .before .before .before .before .before .before .before .before .before .before .if1 .left) .1 .1 .1 .1 .1 .1 .0))
+
+with-client-requires : tie.Need-with-client-requires
+with-client-requires c κs = there (begin (c .before .before .before .before .before .before .before .before .before .before .before .before .before)) (passed (c .before .before .before .before .before .before .before .before .before .before .before .before .before) (c .before .before .before .before .before .before .before .before .before .before .before .if1 .left))
+
+left-requires : tie.Need-left-requires
+left-requires c κs = search needs
+
+same-length : tie.Need-same-length
+same-length c = search needs
+
+returns-2 : tie.Need-returns-2
+unfolding readCall readOctets
+returns-2 c =
+    let g = c .before .before .before .before .before .before .before .before .before .before .before .before .before .before .before in
+    let s = begin g in
+    let n = passed (c .before .before .before .before .before .before .before .before .before .before .before .before .before .before .before) (c .before .before .before .before .before .before .before .before .before .before .before .before .before .if1 .left) in
+    let hold = c .before .before .before .before .before .before .before .before .before .before .hold .ensures in
+    let own = c .before .before .before .before .before .before .before .before .before .before .before .client-at .ensures in
+    let from = c .before .before .before .before .before .before .before .before .before .wide-word .ensures .0 in
+    let most = c .before .before .before .before .before .before .before .wide-word2 .ensures .0 ∙ ap (λ (r : Client). r .mtu - 1) own in
+    let part : partFrom (c .before .before .before .before .before .before .before .before .before .wide-word .result) (c .before .before .before .before .before .before .before .wide-word2 .result) (take (c .before .before .before .before .before .before .before .before .before .before .hold .result .len) (c .before .before .before .before .before .before .before .before .before .before .hold .result .octets)) ≡ readOctets (lent s) (s .args .d) (s .args .who) (s .args .characteristic) (s .args .offset) =
+    (λ k. partFrom (from k) (most k) (take (hold k .len) (hold k .octets)))
+    ∙ ap (partFrom (s .args .offset) (clientAt (s .args .d .clients) (s .args .who) .mtu - 1)) (take-append-seam (value s n) (drop (length (value s n)) (replicate mostTitle 0))) in
+    let hand = c .before .before .before .before .before .hand in
+    let next = c .before .before .after-read .ensures ∙ ap (afterRead (s .args .characteristic) (s .args .offset)) own in (
+      through (s .args .d) (rows s) n
+          (c .left .ensures
+          ∙ (λ k. leaves (granted ((hand .ensures .0 ∙ ap length part) k ∷ [])) ((c .before .with-client .ensures ∙ ap (λ (r : Client). withClient (s .args .who) r (s .args .d)) next) k))),
+      hand .ensures .1
+          ∙ ap (λ (octets : List ℕ). filled octets (s .args .out .now)) part
+          ∙ shown _ _ (readOctets (lent s) (s .args .d) (s .args .who) (s .args .characteristic) (s .args .offset)) (s .args .out .now) (ap (λ (l : Left Desk). l .said) (c .left .ensures)),
+    )
+
+pub read-spec : {M : Type 1} → statement M
+read-spec =
+    tie.close
+    (tie.spec
+    read-gate-requires
+    shut-requires
+    returns
+    client-at-requires
+    hold-requires
+    wide-word-requires
+    sub-wide-word
+    wide-word-requires-2
+    hand-requires
+    after-read-requires
+    with-client-requires
+    left-requires
+    same-length
+    returns-2)

@@ -1,0 +1,284 @@
+// Clients read and write. Each call checks catalogue and state itself, and refuses by document 01's numbers.
+ghost use mathlib.Core.Path.{_≡_};
+ghost use mathlib.Core.Bool.{true};
+ghost use Prim.Native.Nat.{_<_, _≤_};
+ghost use lib.ListN.{length};
+ghost use Rattle.catalogue_tables.specs.Tables.{tables};
+ghost use Rattle.catalogue_check.specs.Catalogue.{Right};
+ghost use Rattle.player_check.specs.Standing.{playerRule};
+ghost use Rattle.desk_slots.specs.Slots.{clientCount};
+ghost use Rattle.desk_replies.specs.Replies.{Gated, saidOf, leftBy, outputAfter};
+ghost use Rattle.desk_exchange.specs.Read.{allReadRows, afterRead, readOctets, readCall};
+ghost use Rattle.desk_exchange.specs.Write.{writeRows, controlLength, lengthRight, numberOf, controlWritten, written, writeCall};
+
+// What a read leaves of the client's record.
+fn after_read(c: desk_client::Client, characteristic: u32, offset: u32) -> desk_client::Client
+    requires { ⌜ characteristic < 32 ⌝ }
+    ensures { λ r. ⌜ r ≡ afterRead characteristic offset c ⌝ }
+{
+    if offset == 0 {
+        return desk_client::mark_read(c, characteristic);
+    }
+    c
+}
+
+// The refusals of a read.
+fn read_gate(
+    groups: &[u32],
+    tracks: &[u32],
+    segments: &[u32],
+    text: &[u8],
+    d: desk_state::Desk,
+    who: u32,
+    characteristic: u32,
+    offset: u32,
+    room: usize,
+) -> desk_replies::Gate
+    ensures { λ r. ⌜ Gated (allReadRows (tables (now (groups .entry)) (now (tracks .entry)) (now (segments .entry)) (now (text .entry))) d who characteristic offset room) r ⌝ }
+{
+    let g = desk_replies::client_gate(groups, tracks, segments, text, room < 128, d, who);
+    if !g.passes {
+        return g;
+    }
+    if !desk_slots::is_characteristic(characteristic) {
+        return desk_replies::gate_at(false, desk_replies::Answer::NoCharacteristic);
+    }
+    if !desk_slots::may_read(characteristic) {
+        return desk_replies::gate_at(false, desk_replies::Answer::NotReadable);
+    }
+    let c = desk_state::client_at(d, who);
+    if !c.encrypted {
+        return desk_replies::gate_at(false, desk_replies::Answer::NotEncrypted);
+    }
+    let known = ground::has_bit(c.fresh, characteristic);
+    if (0 < offset) & !known {
+        return desk_replies::gate_at(false, desk_replies::Answer::ValueChanged);
+    }
+    let p = d.player;
+    let h = player_values::hold(tracks, text, p, characteristic);
+    let from = ground::wide_word(offset);
+    if h.len < from {
+        return desk_replies::gate_at(false, desk_replies::Answer::BeyondEnd);
+    }
+    desk_replies::gate_at(true, desk_replies::Answer::Done)
+}
+
+// A client reads a characteristic from an offset on, over the front of out.
+pub fn read(
+    groups: &[u32],
+    tracks: &[u32],
+    segments: &[u32],
+    text: &[u8],
+    d: desk_state::Desk,
+    who: u32,
+    characteristic: u32,
+    offset: u32,
+    out: &mut [u8],
+) -> desk_replies::Outcome
+    ensures { λ r. ⌜ leftBy r ≡ readCall (tables (now (groups .entry)) (now (tracks .entry)) (now (segments .entry)) (now (text .entry))) d who characteristic offset (length (now (out .entry))) ⌝ }
+    ensures { λ r. ⌜ now (out .exit) ≡ outputAfter (saidOf (r .answer)) (readOctets (tables (now (groups .entry)) (now (tracks .entry)) (now (segments .entry)) (now (text .entry))) d who characteristic offset) (now (out .entry)) ⌝ }
+{
+    let g = read_gate(
+        groups,
+        tracks,
+        segments,
+        text,
+        d,
+        who,
+        characteristic,
+        offset,
+        out.len(),
+    );
+    if !g.passes {
+        return desk_replies::shut(g, d);
+    }
+    let p = d.player;
+    let c = desk_state::client_at(d, who);
+    let h = player_values::hold(tracks, text, p, characteristic);
+    let from = ground::wide_word(offset);
+    let most = ground::wide_word(c.mtu - 1);
+    let n = player_values::hand(out, h, from, most);
+    let next = after_read(c, characteristic, offset);
+    let e = desk_state::with_client(d, who, next);
+    desk_replies::left(desk_replies::Answer::Octets(n), e)
+}
+
+// Whether a write to 18 has as many octets as its opcode asks.
+fn control_length(value: &[u8]) -> bool
+    ensures { λ r. ⌜ r ≡ controlLength (now (value .entry)) ⌝ }
+{
+    let n = value.len();
+    let opcode = ground::octet_or_zero(value, 0);
+    let asked = player_opcodes::parameter_length(opcode);
+    (1 <= n) & (n <= 5) & ((asked == 0) | (asked == n))
+}
+
+// Whether a write has as many octets as its characteristic asks.
+fn length_right(characteristic: u32, value: &[u8]) -> bool
+    ensures { λ r. ⌜ r ≡ lengthRight characteristic (now (value .entry)) ⌝ }
+{
+    let n = value.len();
+    if characteristic == 7 {
+        return n == 4;
+    }
+    if characteristic == 18 {
+        return control_length(value);
+    }
+    n == 1
+}
+
+// The refusals of a write.
+fn write_gate(
+    groups: &[u32],
+    tracks: &[u32],
+    segments: &[u32],
+    text: &[u8],
+    d: desk_state::Desk,
+    who: u32,
+    characteristic: u32,
+    value: &[u8],
+) -> desk_replies::Gate
+    ensures { λ r. ⌜ Gated (writeRows (tables (now (groups .entry)) (now (tracks .entry)) (now (segments .entry)) (now (text .entry))) d who characteristic (now (value .entry))) r ⌝ }
+{
+    let g = desk_replies::client_gate(groups, tracks, segments, text, false, d, who);
+    if !g.passes {
+        return g;
+    }
+    if !desk_slots::is_characteristic(characteristic) {
+        return desk_replies::gate_at(false, desk_replies::Answer::NoCharacteristic);
+    }
+    if !desk_slots::may_write(characteristic) {
+        return desk_replies::gate_at(false, desk_replies::Answer::NotWritable);
+    }
+    let c = desk_state::client_at(d, who);
+    if !c.encrypted {
+        return desk_replies::gate_at(false, desk_replies::Answer::NotEncrypted);
+    }
+    if !length_right(characteristic, value) {
+        return desk_replies::gate_at(false, desk_replies::Answer::BadLength);
+    }
+    let first = ground::octet_or_zero(value, 0);
+    let order = (1 <= first) & (first <= 8);
+    if (characteristic == 15) & !order {
+        return desk_replies::gate_at(false, desk_replies::Answer::BadOrder);
+    }
+    if (characteristic == 18) & (desk_client::MOST_RESULTS <= c.waiting) {
+        return desk_replies::gate_at(false, desk_replies::Answer::TooManyResults);
+    }
+    desk_replies::gate_at(true, desk_replies::Answer::Done)
+}
+
+// The number that an opcode carries, where it does.
+fn number_of(value: &[u8]) -> u32
+    ensures { λ r. ⌜ r ≡ numberOf (now (value .entry)) ⌝ }
+{
+    if value.len() == 5 {
+        return ground::word_at(value, 1);
+    }
+    0
+}
+
+// An opcode is carried out, and the writer gets its result.
+fn control(
+    groups: &[u32],
+    tracks: &[u32],
+    segments: &[u32],
+    text: &[u8],
+    d: desk_state::Desk,
+    who: u32,
+    value: &[u8],
+) -> desk_state::Desk
+    requires { ⌜ Right (tables (now groups) (now tracks) (now segments) (now text)) ⌝ }
+    requires { ⌜ playerRule (now groups) (now tracks) (d .player) ≡ true ⌝ }
+    requires { ⌜ who < clientCount ⌝ }
+    ensures { λ r. ⌜ r ≡ controlWritten (tables (now (groups .entry)) (now (tracks .entry)) (now (segments .entry)) (now (text .entry))) d who (now (value .entry)) ⌝ }
+{
+    let p = d.player;
+    let opcode = ground::octet_or_zero(value, 0);
+    let number = number_of(value);
+    let done = player_moves::control(groups, tracks, segments, p, opcode, number);
+    let q = done.player;
+    let code = done.result;
+    let cause = desk_notices::by_writer(who, 18);
+    let e = desk_notices::settle(tracks, text, d, q, cause);
+    let c = desk_state::client_at(e, who);
+    let next = desk_client::note_result(c, opcode, code);
+    desk_state::with_client(e, who, next)
+}
+
+// What a write does.
+fn carry_out(
+    groups: &[u32],
+    tracks: &[u32],
+    segments: &[u32],
+    text: &[u8],
+    d: desk_state::Desk,
+    who: u32,
+    characteristic: u32,
+    value: &[u8],
+) -> desk_state::Desk
+    requires { ⌜ Right (tables (now groups) (now tracks) (now segments) (now text)) ⌝ }
+    requires { ⌜ playerRule (now groups) (now tracks) (d .player) ≡ true ⌝ }
+    requires { ⌜ who < clientCount ⌝ }
+    requires { ⌜ (characteristic ≡ 7 → 4 ≤ length (now value)) ⌝ }
+    ensures { λ r. ⌜ r ≡ written (tables (now (groups .entry)) (now (tracks .entry)) (now (segments .entry)) (now (text .entry))) d who characteristic (now (value .entry)) ⌝ }
+{
+    let p = d.player;
+    let first = ground::octet_or_zero(value, 0);
+    if characteristic == 7 {
+        let number = ground::word_at(value, 0);
+        let q = player_moves::write_position(tracks, p, number);
+        let cause = desk_notices::by_writer(who, 7);
+        return desk_notices::settle(tracks, text, d, q, cause);
+    }
+    if characteristic == 8 {
+        let q = player_state::with_speed(p, first);
+        let cause = desk_notices::by_writer(who, 8);
+        return desk_notices::settle(tracks, text, d, q, cause);
+    }
+    if characteristic == 15 {
+        let q = player_state::with_order(p, first);
+        let cause = desk_notices::by_writer(who, 15);
+        return desk_notices::settle(tracks, text, d, q, cause);
+    }
+    control(groups, tracks, segments, text, d, who, value)
+}
+
+// A client writes a characteristic.
+pub fn write(
+    groups: &[u32],
+    tracks: &[u32],
+    segments: &[u32],
+    text: &[u8],
+    d: desk_state::Desk,
+    who: u32,
+    characteristic: u32,
+    value: &[u8],
+) -> desk_replies::Outcome
+    ensures { λ r. ⌜ leftBy r ≡ writeCall (tables (now (groups .entry)) (now (tracks .entry)) (now (segments .entry)) (now (text .entry))) d who characteristic (now (value .entry)) ⌝ }
+{
+    let g = write_gate(
+        groups,
+        tracks,
+        segments,
+        text,
+        d,
+        who,
+        characteristic,
+        value,
+    );
+    if !g.passes {
+        return desk_replies::shut(g, d);
+    }
+    let e = carry_out(
+        groups,
+        tracks,
+        segments,
+        text,
+        d,
+        who,
+        characteristic,
+        value,
+    );
+    desk_replies::left(desk_replies::Answer::Done, e)
+}

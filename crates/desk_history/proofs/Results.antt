@@ -1,0 +1,221 @@
+-- What a call does to the results that wait for a client: it adds the result of the client's own write behind them, hands out the oldest, drops them, or
+-- leaves them. Assumes nothing.
+use mathlib.Core.Path.{_≡_, refl, sym, ap, _∙_, subst}
+use mathlib.Core.Bool.{Bool, true, false, not, _&&_, _||_, true≢false}
+use mathlib.Core.Option.{none, some}
+use mathlib.Core.List.{List, [], _∷_, _++_, map}
+use Prim.Native.Nat.{ℕ, _-_, _≤_, _<_}
+use native.Mathlib.Decide.{ℕ-discrete}
+use native.Mathlib.Omega.{arith}
+use borrow.Author.Tests.{eq-eqb, ne-eqb, eqb-true, eqb-false, leb-false}
+use lib.Dec.{eqb, leb, ltb}
+use lib.ListN.{length, take as firsts}
+use lib.Seq.{take-all}
+use Rattle.ground.specs.Cases.{pick, within}
+use Rattle.ground.specs.Words.{wordAt}
+use Rattle.ground.proofs.Cases.{past, here, clash, and-left, and-right}
+use Rattle.catalogue_tables.specs.Tables.{Tables}
+use Rattle.player_state.specs.declared.Player.{Player}
+use Rattle.player_state.specs.Player.{renamed, deactivated, withOrder, withSpeed}
+use Rattle.player_moves.specs.Clock.{advanced, positioned, activated}
+use Rattle.player_check.specs.Standing.{textRule, groupRule}
+use Rattle.desk_slots.specs.Slots.{clientCount, slotOf, characteristicOf}
+use Rattle.desk_slots.specs.Characteristics.{writables, isIn}
+use Rattle.player_values.specs.Values.{valueOf}
+use Rattle.desk_client.specs.declared.Entry.{Entry}
+use Rattle.desk_client.specs.Client.{mtuRight, controlSlot, mostResults}
+use Rattle.desk_notices.specs.declared.Cause.{Cause}
+use Rattle.desk_notices.specs.Owed.{noWriter, byWriter}
+use Rattle.desk_console.specs.Console.{quietAdvance}
+use Rattle.desk_exchange.specs.Write.{firstOctet, lengthRight}
+use Rattle.desk_take.specs.Serving.{resultOctets}
+use Rattle.desk_history.specs.Calls.{Call, setName, activate, deactivate, advance, connect, disconnect, subscribe, unsubscribe, read, write, take}
+use Rattle.desk_history.specs.Ledger.{Side, Ledger, linked, nobody, changing, becoming, joining, leaving, resulting, behind, serving, some as any, owes, nextIn, slotIn, servingNext, asks, mayJoin, mayWrite, outcome, resultOf, controlWriting, writing, after}
+use Rattle.desk_history.specs.Rounds.{prepend}
+use Rattle.desk_history.specs.History.{oldest, octetsIn, answerIn, dueOut, resultBy, handedTo}
+use Rattle.desk_history.proofs.LedgerLaws.{InRange, slot-near}
+
+-- results as they are handed out
+abbrev pub shown : List Entry → List (List ℕ)
+shown l = map resultOctets l
+
+-- W waited, R is the call's result, H was handed out, T waits
+pub data Turn (before later : Bool) (W R H T : List (List ℕ)) : Type 0 where
+  adds : H ≡ [] → T ≡ W ++ R → Turn before later W R H T
+  keeps : H ≡ [] → T ≡ W → (before ≡ true → R ≡ []) → Turn before later W R H T
+  drops : H ≡ [] → T ≡ [] → (later ≡ true → ⊥) → Turn before later W R H T
+  hands : R ≡ [] → W ≡ H ++ T → Turn before later W R H T
+
+shown-append : (l r : List Entry) → shown (l ++ r) ≡ shown l ++ shown r
+shown-append [] r = refl
+shown-append (e ∷ l) r = ap (λ (t : List (List ℕ)). resultOctets e ∷ t) (shown-append l r)
+
+-- what may be written is one of the four
+may-in : (L : Ledger) (who x : ℕ) (value : List ℕ) → mayWrite L who x value ≡ true → isIn writables x ≡ true
+may-in L who x value e =
+    and-right (asks L who) (isIn writables x)
+    (and-left (asks L who && isIn writables x) (L .side who .safe)
+    (and-left (asks L who && isIn writables x && L .side who .safe) (lengthRight x value)
+    (and-left (asks L who && isIn writables x && L .side who .safe && lengthRight x value) (not (eqb x 15 && not (within 1 8 (firstOctet value))))
+    (and-left (asks L who && isIn writables x && L .side who .safe && lengthRight x value && not (eqb x 15 && not (within 1 8 (firstOctet value)))) (not (eqb x 18 && leb mostResults (length (L .side who .waiting)))) e))))
+
+-- a side and what becomes of it, by a call that hands out nothing and has no result for it
+module _ (c : ℕ) where
+  abbrev Now : Ledger → Ledger → List (List ℕ) → Type 0
+  Now L M R = Turn (L .side c .wants controlSlot) (M .side c .wants controlSlot) (shown (L .side c .waiting)) R [] (shown (M .side c .waiting))
+
+  same : (L : Ledger) → Now L L []
+  same L = keeps refl refl (λ e. refl)
+
+  by-test : (t : Bool) (M L : Ledger) → Now L M [] → Now L (pick t M L) []
+  by-test true M L f = f
+  by-test false M L f = same L
+
+  becoming-turn : (k : Tables) (cause : Cause) (q : Player) (L : Ledger) → Now L (becoming k cause q L) []
+  becoming-turn k cause q L = keeps refl refl (λ e. refl)
+
+  abbrev OfSide : Side → Side → List (List ℕ) → Type 0
+  OfSide x y R = Turn (x .wants controlSlot) (y .wants controlSlot) (shown (x .waiting)) R [] (shown (y .waiting))
+
+  changing-turn : (who : ℕ) (f : Side → Side) (L : Ledger) → OfSide (L .side c) (f (L .side c)) [] → Now L (changing who f L) []
+  changing-turn who f L g = go (eqb c who)
+    where
+      go : (t : Bool) → OfSide (L .side c) (pick t (f (L .side c)) (L .side c)) []
+      go true = g
+      go false = keeps refl refl (λ e. refl)
+
+  gone : (x : Side) (on safe : Bool) (mtu : ℕ) → OfSide x (linked on safe mtu) []
+  gone x on safe mtu = drops refl refl (λ e. true≢false (sym e))
+
+  left-side : (x : Side) (s : ℕ) → OfSide x (leaving s x) []
+  left-side x s = go (eqb s controlSlot) refl
+    where
+      go : (t : Bool) → eqb s controlSlot ≡ t → Turn (x .wants controlSlot) (x .wants controlSlot && not (eqb s controlSlot)) (shown (x .waiting)) [] [] (shown (pick (eqb s controlSlot) [] (x .waiting)))
+      go true e = drops refl (ap (λ (b : Bool). shown (pick b [] (x .waiting))) e) (λ w. true≢false (sym (sym (λ i. x .wants controlSlot && not (e i)) ∙ w) ∙ never (x .wants controlSlot)))
+        where
+          never : (b : Bool) → (b && false) ≡ false
+          never true = refl
+          never false = refl
+      go false e = keeps refl (ap (λ (b : Bool). shown (pick b [] (x .waiting))) e) (λ w. refl)
+
+module _ (k : Tables) (c : ℕ) where
+  -- a control write: its result behind the others, for a writer that is subscribed
+  control-turn : (who : ℕ) (value : List ℕ) (L : Ledger) → Now c L (controlWriting k L who value) (pick (eqb c who) (resultOctets (resultOf k L value) ∷ []) [])
+  control-turn who value L = go (eqb c who) (L .side c .wants controlSlot) refl
+    where
+      go : (t w : Bool) → L .side c .wants controlSlot ≡ w
+          → Turn (L .side c .wants controlSlot) (pick t (resulting (resultOf k L value) (becoming k (byWriter who 18) (outcome k L value .player) L .side c)) (becoming k (byWriter who 18) (outcome k L value .player) L .side c) .wants controlSlot)
+          (shown (L .side c .waiting)) (pick t (resultOctets (resultOf k L value) ∷ []) []) []
+          (shown (pick t (resulting (resultOf k L value) (becoming k (byWriter who 18) (outcome k L value .player) L .side c)) (becoming k (byWriter who 18) (outcome k L value .player) L .side c) .waiting))
+      go true true e = adds refl (ap (λ (b : Bool). shown (pick b (L .side c .waiting ++ (resultOf k L value ∷ [])) (L .side c .waiting))) e ∙ shown-append (L .side c .waiting) (resultOf k L value ∷ []))
+      go true false e = keeps refl (ap (λ (b : Bool). shown (pick b (L .side c .waiting ++ (resultOf k L value ∷ [])) (L .side c .waiting))) e) (λ w. absurd (true≢false (sym w ∙ e)))
+      go false w e = keeps refl refl (λ v. refl)
+
+  -- the result of a write that is accepted
+  abbrev own : Ledger → ℕ → ℕ → List ℕ → List (List ℕ)
+  own L who x value = pick (eqb c who) (pick (eqb x 18) (resultOctets (resultOf k L value) ∷ []) []) []
+
+  not-18 : (L : Ledger) (who x : ℕ) (value : List ℕ) → eqb x 18 ≡ false → own L who x value ≡ []
+  not-18 L who x value e = (λ i. pick (eqb c who) (pick (e i) (resultOctets (resultOf k L value) ∷ []) []) []) ∙ nothing (eqb c who)
+    where
+      nothing : (t : Bool) → _≡_ {A = List (List ℕ)} (pick t [] []) []
+      nothing true = refl
+      nothing false = refl
+
+  -- a write that is accepted
+  written-turn : (who x : ℕ) (value : List ℕ) (L : Ledger) → isIn writables x ≡ true → Now c L (writing k L who x value) (own L who x value)
+  unfolding isIn
+  written-turn who x value L may = go (eqb x 7) refl (eqb x 8) refl (eqb x 15) refl
+    where
+      plain : (n : ℕ) → eqb x n ≡ true → (n ≡ 18 → ⊥) → (cause : Cause) (q : Player) → Now c L (becoming k cause q L) (own L who x value)
+      plain n e h cause q = keeps refl refl (λ w. not-18 L who x value (ne-eqb x 18 (λ f. h (sym (eqb-true x n e) ∙ f))))
+
+      flip : (n : ℕ) → eqb x n ≡ false → eqb n x ≡ false
+      flip n h = ne-eqb n x (λ e. eqb-false x n h (sym e))
+
+      only : (a b g t : Bool) → a ≡ false → b ≡ false → g ≡ false → (a || (b || (g || (t || false)))) ≡ true → t ≡ true
+      only true b g t u v w h = clash (sym u)
+      only false true g t u v w h = clash (sym v)
+      only false false true t u v w h = clash (sym w)
+      only false false false true u v w h = refl
+      only false false false false u v w h = h
+
+      go : (p : Bool) → eqb x 7 ≡ p → (q : Bool) → eqb x 8 ≡ q → (r : Bool) → eqb x 15 ≡ r
+          → Now c L (pick (eqb x 7) (becoming k (byWriter who 7) (positioned (k .tracks) (wordAt value 0) (L .player)) L)
+          (pick (eqb x 8) (becoming k (byWriter who 8) (withSpeed (firstOctet value) (L .player)) L)
+          (pick (eqb x 15) (becoming k (byWriter who 15) (withOrder (firstOctet value) (L .player)) L) (controlWriting k L who value)))) (own L who x value)
+      go true a q b r f =
+          subst (λ (M : Ledger). Now c L M (own L who x value)) (here _ a refl) (plain 7 a (λ z. omega arith) (byWriter who 7) (positioned (k .tracks) (wordAt value 0) (L .player)))
+      go false a true b r f =
+          subst (λ (M : Ledger). Now c L M (own L who x value)) (past _ a (here _ b refl)) (plain 8 b (λ z. omega arith) (byWriter who 8) (withSpeed (firstOctet value) (L .player)))
+      go false a false b true f =
+          subst (λ (M : Ledger). Now c L M (own L who x value)) (past _ a (past _ b (here _ f refl))) (plain 15 f (λ z. omega arith) (byWriter who 15) (withOrder (firstOctet value) (L .player)))
+      go false a false b false f =
+          let e : eqb x 18 ≡ true = eq-eqb x 18 (sym (eqb-true 18 x (only (eqb 7 x) (eqb 8 x) (eqb 15 x) (eqb 18 x) (flip 7 a) (flip 8 b) (flip 15 f) may))) in
+          subst (λ (M : Ledger). Now c L M (own L who x value)) (past _ a (past _ b (past _ f refl)))
+          (subst (Now c L (controlWriting k L who value)) (λ i. pick (eqb c who) (pick (sym e i) (resultOctets (resultOf k L value) ∷ []) []) []) (control-turn who value L))
+
+  -- a client that is served: the oldest result, where it is 18's turn
+  served-turn : (L : Ledger) (m : 23 ≤ L .side c .mtu) (s : ℕ) → (s ≡ controlSlot → any (L .side c .waiting) ≡ true)
+      → shown (L .side c .waiting) ≡ pick (eqb controlSlot s) (octetsIn k (L .player) (L .side c) s ∷ []) [] ++ shown (pick (eqb s controlSlot) (behind (L .side c .waiting)) (L .side c .waiting))
+  served-turn L m s f = at (ℕ-discrete s controlSlot)
+    where
+      W : List Entry
+      W = L .side c .waiting
+
+      oldest-shown : (l : List Entry) (n : ℕ) → 2 ≤ n → any l ≡ true → shown l ≡ firsts n (oldest l) ∷ shown (behind l)
+      oldest-shown [] n h e = clash e
+      oldest-shown (a ∷ l) n h e = ap (λ (o : List ℕ). o ∷ shown l) (sym (take-all n (resultOctets a) h))
+
+      at : Dec (s ≡ controlSlot) → shown W ≡ pick (eqb controlSlot s) (octetsIn k (L .player) (L .side c) s ∷ []) [] ++ shown (pick (eqb s controlSlot) (behind W) W)
+      at (yes e) =
+          oldest-shown W (L .side c .mtu - 3) (omega arith) (f e)
+          ∙ (λ i. pick (sym (eq-eqb controlSlot s (sym e)) i) (firsts (L .side c .mtu - 3) (pick (sym (eq-eqb s controlSlot e) i) (oldest W) (valueOf (k .tracks) (k .text) (L .player) (characteristicOf s))) ∷ []) [] ++ shown (pick (sym (eq-eqb s controlSlot e) i) (behind W) W))
+      at (no n) =
+          λ i. pick (sym (ne-eqb controlSlot s (λ e. n (sym e))) i) (octetsIn k (L .player) (L .side c) s ∷ []) [] ++ shown (pick (sym (ne-eqb s controlSlot n) i) (behind W) W)
+
+  -- every call
+  pub turn : (call : Call) (L : Ledger) → InRange L → 23 ≤ L .side c .mtu
+      → Turn (L .side c .wants controlSlot) (after k call L .side c .wants controlSlot) (shown (L .side c .waiting)) (resultBy k c call L) (handedTo c controlSlot (prepend (dueOut k call L) []))
+      (shown (after k call L .side c .waiting))
+  turn (setName name) L g m = by-test c (textRule name) (becoming k (noWriter false) (renamed name (L .player)) L) L (becoming-turn c k (noWriter false) (renamed name (L .player)) L)
+  turn (activate n) L g m =
+      by-test c (groupRule (k .groups) n) (becoming k (noWriter false) (activated (k .groups) (k .tracks) n (L .player)) L) L
+      (becoming-turn c k (noWriter false) (activated (k .groups) (k .tracks) n (L .player)) L)
+  turn deactivate L g m = becoming-turn c k (noWriter false) (deactivated (L .player)) L
+  turn (advance step) L g m = becoming-turn c k (noWriter (quietAdvance (k .tracks) step (L .player))) (advanced (k .groups) (k .tracks) step (L .player)) L
+  turn (connect who mtu encrypted) L g m =
+      by-test c (ltb who clientCount && not (L .side who .on) && mtuRight mtu) (changing who (λ x. linked true encrypted mtu) L) L
+      (changing-turn c who (λ x. linked true encrypted mtu) L (gone c (L .side c) true encrypted mtu))
+  turn (disconnect who) L g m = by-test c (asks L who) (changing who (λ x. nobody) L) L (changing-turn c who (λ x. nobody) L (gone c (L .side c) false false 23))
+  turn (subscribe who x) L g m = by-test c (mayJoin L who x) (changing who (joining (slotOf x)) L) L (changing-turn c who (joining (slotOf x)) L (keeps refl refl (λ e. refl)))
+  turn (unsubscribe who x) L g m = by-test c (mayJoin L who x) (changing who (leaving (slotOf x)) L) L (changing-turn c who (leaving (slotOf x)) L (left-side c (L .side c) (slotOf x)))
+  turn (read who x offset room) L g m = same c L
+  turn (write who x value) L g m = go (mayWrite L who x value) refl
+    where
+      go : (t : Bool) → mayWrite L who x value ≡ t → Now c L (pick t (writing k L who x value) L) (pick t (own L who x value) [])
+      go true e = written-turn who x value L (may-in L who x value e)
+      go false e = same c L
+  turn (take room) L g m = go (leb 128 room) (leb clientCount (nextIn L)) refl
+    where
+      go : (t u : Bool) → leb clientCount (nextIn L) ≡ u
+          → Turn (L .side c .wants controlSlot) (pick t (pick u L (servingNext L (nextIn L))) L .side c .wants controlSlot) (shown (L .side c .waiting)) []
+          (handedTo c controlSlot (prepend (pick t (pick u none (some (answerIn k L (nextIn L)))) none) [])) (shown (pick t (pick u L (servingNext L (nextIn L))) L .side c .waiting))
+      go true true e = same c L
+      go true false e = hands refl (who (ℕ-discrete c (nextIn L)))
+        where
+          inside : nextIn L < clientCount
+          inside = leb-false clientCount (nextIn L) e
+
+          waits : (s : ℕ) → s ≡ slotIn (L .side (nextIn L)) → s ≡ controlSlot → any (L .side (nextIn L) .waiting) ≡ true
+          waits s q z = here (L .side (nextIn L) .due s) (eq-eqb s controlSlot z) refl ∙ ap (owes (L .side (nextIn L))) q ∙ slot-near L g inside .holds
+
+          who : Dec (c ≡ nextIn L)
+              → shown (L .side c .waiting)
+              ≡ pick (eqb c (nextIn L) && eqb controlSlot (slotIn (L .side (nextIn L)))) (octetsIn k (L .player) (L .side (nextIn L)) (slotIn (L .side (nextIn L))) ∷ []) []
+              ++ shown (pick (eqb c (nextIn L)) (serving (slotIn (L .side c)) (L .side c)) (L .side c) .waiting)
+          who (no n) = λ i. pick (sym (ne-eqb c (nextIn L) n) i && eqb controlSlot (slotIn (L .side (nextIn L)))) (octetsIn k (L .player) (L .side (nextIn L)) (slotIn (L .side (nextIn L))) ∷ []) [] ++ shown (pick (sym (ne-eqb c (nextIn L) n) i) (serving (slotIn (L .side c)) (L .side c)) (L .side c) .waiting)
+          who (yes q) =
+              served-turn L m (slotIn (L .side c)) (λ z. subst (λ (n : ℕ). any (L .side n .waiting) ≡ true) (sym q) (waits (slotIn (L .side c)) (ap (λ (n : ℕ). slotIn (L .side n)) q) z))
+              ∙ (λ i. pick (sym (eq-eqb c (nextIn L) q) i && eqb controlSlot (slotIn (L .side (q i)))) (octetsIn k (L .player) (L .side (q i)) (slotIn (L .side (q i))) ∷ []) [] ++ shown (pick (sym (eq-eqb c (nextIn L) q) i) (serving (slotIn (L .side c)) (L .side c)) (L .side c) .waiting))
+      go false u e = same c L

@@ -1,0 +1,85 @@
+-- The ledger is served fairly: it obeys the laws of `Rounds`. Assumes nothing.
+use mathlib.Core.Path.{_≡_, refl, sym, ap, _∙_, subst}
+use mathlib.Core.Bool.{Bool, true, false, _||_}
+use mathlib.Core.Logic.{_⊎_, inl, inr, ⊎-elim}
+use mathlib.Core.List.{map, List, [], _∷_}
+use Prim.Native.Nat.{ℕ, zero, suc, _-_, _≤_, _<_, zero-le, suc-le-suc}
+use native.Mathlib.Nat.{le-refl, not-suc-le-zero}
+use native.Mathlib.Decide.{ℕ-discrete}
+use native.Mathlib.Omega.{arith}
+use lib.Dec.{eqb}
+use lib.ListN.{length}
+use Rattle.ground.specs.Cases.{pick}
+use Rattle.ground.proofs.Cases.{clash}
+use Rattle.desk_slots.specs.Slots.{slotCount}
+use Rattle.desk_client.specs.declared.Entry.{Entry}
+use Rattle.desk_client.specs.Client.{controlSlot}
+use Rattle.desk_take.specs.Serving.{resultOctets}
+use Rattle.desk_history.specs.Ledger.{Side, some as any, owes, anyBelow, owedAny}
+
+-- how many things wait at a slot
+abbrev pub backlog : Side → ℕ → ℕ
+backlog x s = pick (eqb s controlSlot) (length (x .waiting)) (pick (x .due s) 1 0)
+
+any-of : {A : Type 0} (l : List A) → 1 ≤ length l → any l ≡ true
+any-of [] h = absurd (not-suc-le-zero h)
+any-of (x ∷ l) h = refl
+
+pub owes-of : (x : Side) (s : ℕ) → 1 ≤ backlog x s → owes x s ≡ true
+owes-of x s = go (eqb s controlSlot) (x .due s)
+  where
+    go : (t b : Bool) → 1 ≤ pick t (length (x .waiting)) (pick b 1 0) → pick t (any (x .waiting)) b ≡ true
+    go true b h = any-of (x .waiting) h
+    go false true h = refl
+    go false false h = absurd (not-suc-le-zero h)
+
+pub owes-to : (x : Side) (s : ℕ) → owes x s ≡ true → 1 ≤ backlog x s
+owes-to x s = go (eqb s controlSlot) (x .due s) (x .waiting)
+  where
+    go : (t b : Bool) (l : List Entry) → pick t (any l) b ≡ true → 1 ≤ pick t (length l) (pick b 1 0)
+    go true b [] h = clash h
+    go true b (e ∷ l) h = suc-le-suc zero-le
+    go false true l h = le-refl 1
+    go false false l h = clash h
+
+-- something is owed where a slot is, and then a slot is
+any-below : (n : ℕ) (test : ℕ → Bool) (i : ℕ) → i < n → test i ≡ true → anyBelow n test ≡ true
+unfolding anyBelow
+any-below zero test i h e = absurd (not-suc-le-zero h)
+any-below (suc n) test i h e = at (anyBelow n test) (test n) refl refl (any-below n test i)
+  where
+    at : (a b : Bool) → anyBelow n test ≡ a → test n ≡ b → (i < n → test i ≡ true → anyBelow n test ≡ true) → (a || b) ≡ true
+    at true b p q ih = refl
+    at false true p q ih = refl
+    at false false p q ih =
+        ⊎-elim (λ (w : i ≡ n). clash (sym (ap test w ∙ q) ∙ e)) (λ (w : i < n). clash (sym p ∙ ih w e)) (split i n h)
+      where
+        split : (x y : ℕ) → x < suc y → (x ≡ y) ⊎ (x < y)
+        split x y l = elim (ℕ-discrete x y) [ yes z ↦ inl z | no z ↦ inr (omega arith) ]
+
+below-any : (n : ℕ) (test : ℕ → Bool) → anyBelow n test ≡ true → (i : ℕ) × (i < n) × (test i ≡ true)
+unfolding anyBelow
+below-any zero test e = clash e
+below-any (suc n) test e = at (anyBelow n test) (test n) refl refl e (below-any n test)
+  where
+    at : (a b : Bool) → anyBelow n test ≡ a → test n ≡ b → (a || b) ≡ true → (anyBelow n test ≡ true → (i : ℕ) × (i < n) × (test i ≡ true))
+        → (i : ℕ) × (i < suc n) × (test i ≡ true)
+    at true b p q h ih = let w = ih p in (w .0, omega (arith, w .1), w .2)
+    at false true p q h ih = (n, omega arith, q)
+    at false false p q h ih = clash h
+
+pub owed-any : (x : Side) (s : ℕ) → s < slotCount → owes x s ≡ true → owedAny x ≡ true
+unfolding owedAny
+owed-any x s h e = any-below slotCount (owes x) s h e
+
+pub any-owed : (x : Side) → owedAny x ≡ true → (s : ℕ) × (s < slotCount) × (owes x s ≡ true)
+unfolding owedAny
+any-owed x e = below-any slotCount (owes x) e
+
+-- as many results wait as the list has
+pub results-backlog : (x : Side) (j : ℕ) → j ≤ length (map resultOctets (x .waiting)) → j ≤ backlog x controlSlot
+results-backlog x j h = subst (λ (n : ℕ). j ≤ n) (long (x .waiting)) h
+  where
+    long : (l : List Entry) → length (map resultOctets l) ≡ length l
+    long [] = refl
+    long (e ∷ l) = ap suc (long l)

@@ -1,0 +1,254 @@
+-- A take: the desk serves whom the ledger serves, hands out what the ledger says, and stands and agrees afterwards. Assumes nothing.
+use mathlib.Core.Path.{_≡_, refl, sym, ap, _∙_, subst}
+use mathlib.Core.Bool.{Bool, true, false, not, _&&_, true≢false}
+use mathlib.Core.Logic.{⊎-elim, _⊎_}
+use mathlib.Core.Option.{none, some}
+use mathlib.Core.List.{List, [], _∷_}
+use Prim.Native.Nat.{ℕ, zero, suc, _-_, _≤_, _<_}
+use native.Mathlib.Decide.{ℕ-discrete}
+use native.Mathlib.Nat.{not-suc-le-zero}
+use native.Mathlib.Omega.{arith}
+use borrow.Author.Tests.{eq-eqb, ne-eqb, lt-ltb, le-ltb, ltb-true, le-leb, lt-leb, leb-false}
+use lib.Dec.{eqb, ltb, leb}
+use lib.ListN.{length, getD, set, length-set, take as firsts}
+use lib.Seq.{getD-set-same, getD-set-other}
+use Rattle.ground.specs.Cases.{pick, has, Said, granted, refused}
+use Rattle.ground.proofs.Bounded.{all-intro}
+use Rattle.ground.proofs.Cases.{past, here, clash, le-or, true-or, and-both}
+use Rattle.catalogue_tables.specs.Tables.{Tables}
+use Rattle.catalogue_check.specs.Catalogue.{catalogueRule}
+use Rattle.player_state.specs.declared.Player.{Player}
+use Rattle.player_values.specs.Values.{valueOf}
+use Rattle.desk_slots.specs.Slots.{slotCount, clientCount, owing, slotOf, characteristicOf}
+use Rattle.desk_slots.specs.Round.{next}
+use Rattle.desk_slots.proofs.Bits.{has-zero, no-slot}
+use Rattle.desk_slots.proofs.NextLaws.{Nearest, next-hit, next-nearest, next-same}
+use Rattle.desk_slots.proofs.TableLaws.{slot-back}
+use Rattle.admission.specs.Refusals.{leaves, Row, saidBy}
+use Rattle.desk_client.specs.declared.Entry.{Entry}
+use Rattle.desk_client.specs.declared.Client.{Client}
+use Rattle.desk_client.specs.Client.{controlSlot, blankEntry, clientRule}
+use Rattle.desk_client.specs.Duties.{served}
+use Rattle.desk_client.proofs.Rule.{connected-sound, sound-connected, owed-within, mark-within, waits-when-owed, few-results, owed-connected}
+use Rattle.desk_client.proofs.Kept.{kept-served}
+use Rattle.desk_state.specs.declared.Desk.{Desk}
+use Rattle.desk_state.specs.Desk.{noClient, clientAt, clientsRule, deskRule}
+use Rattle.desk_state.proofs.Laws.{player-stands, turn-there}
+use Rattle.desk_take.specs.Serving.{nextSlot, resultOctets, presentOctets, handedOctets, handedTo}
+use Rattle.desk_take.specs.Take.{owedSets, nextClient, withServed, servedAt, takenBy, takeRows, takeCall, takeOctets}
+use Rattle.desk_take.proofs.Laws.{set-of}
+use Rattle.desk_history.specs.Ledger.{Side, Ledger, serving, some as any, owes, owedAny, nextIn, slotIn, servingNext, taking}
+use Rattle.desk_history.specs.History.{oldest, octetsIn, answerIn, spoken}
+use Rattle.desk_history.proofs.Accepted.{accepted, said-of}
+use Rattle.desk_history.proofs.Likeness.{Like, like-served}
+use Rattle.desk_history.proofs.Steps.{Ok, ok-call, like, rule}
+use Rattle.desk_history.proofs.Exchanges.{as-many}
+use Rattle.desk_history.proofs.Serving.{owed-any, any-owed}
+
+-- ---- one client: what is stored as owed is what the ledger owes
+module _ (x : Side) (c : Client) (l : Like x c) (r : clientRule c ≡ true) where
+  some-waits : (w : List Entry) → ltb 0 (length w) ≡ any w
+  some-waits [] = refl
+  some-waits (e ∷ w) = lt-ltb 0 (suc (length w)) (omega arith)
+
+  pub owed-bit : (s : ℕ) → s < slotCount → has (c .owed) s ≡ owes x s
+  owed-bit s h =
+      elim (ℕ-discrete s controlSlot) [
+        | yes e ↦
+            ap (has (c .owed)) e ∙ waits-when-owed c r ∙ ap (ltb 0) (sym (as-many x c l r)) ∙ some-waits (x .waiting) ∙ here (x .due s) (eq-eqb s controlSlot e) refl
+        | no n ↦ l .due s h n ∙ past (any (x .waiting)) (ne-eqb s controlSlot n) refl
+      ]
+
+  -- the client is owed something
+  pub owing-any : not (eqb (c .owed) 0) ≡ owedAny x
+  owing-any = go (owedAny x) refl
+    where
+      go : (t : Bool) → owedAny x ≡ t → not (eqb (c .owed) 0) ≡ t
+      go true e =
+          let w = any-owed x e in
+          ap not (ne-eqb (c .owed) 0 (λ z. true≢false (sym (owed-bit (w .0) (w .1) ∙ w .2) ∙ ap (λ (v : ℕ). has v (w .0)) z ∙ has-zero (w .0))))
+      go false e =
+          ap not (eq-eqb (c .owed) 0 (no-slot slotCount (c .owed) (owed-within c r)
+          (λ s h. ⊎-elim (λ (o : owes x s ≡ true). clash (sym e ∙ owed-any x s h o)) (λ o. owed-bit s h ∙ o) (true-or (owes x s)))))
+
+  -- and the slot that comes next
+  pub slot-same : nextSlot c ≡ slotIn x
+  unfolding slotIn
+  slot-same = next-same slotCount (has (c .owed)) (owes x) (c .mark) (mark-within c r) owed-bit ∙ ap (next slotCount (owes x)) (l .last)
+
+-- ---- the whole
+module _ (k : Tables) (right : catalogueRule k ≡ true) (L : Ledger) (d : Desk) (ok : Ok k L d) where
+  turned : d .turn < clientCount
+  turned = turn-there (k .groups) (k .tracks) d (ok .1)
+
+  -- the same client comes next
+  pub next-agrees : nextClient d ≡ nextIn L
+  unfolding nextClient nextIn owing
+  next-agrees =
+      next-same clientCount (owing (owedSets (d .clients))) (λ c. owedAny (L .side c)) (d .turn) turned
+      (λ c h. ap (λ (w : ℕ). not (eqb w 0)) (set-of (d .clients) c) ∙ owing-any (L .side c) (clientAt (d .clients) c) (like k right L d ok c h) (rule k right L d ok c h))
+      ∙ ap (next clientCount (λ c. owedAny (L .side c))) (ok .0 .turn)
+
+  module _ (inside : nextIn L < clientCount) where
+    abbrev who : ℕ
+    who = nextIn L
+
+    abbrev own : Client
+    own = clientAt (d .clients) (nextIn L)
+
+    abbrev x : Side
+    x = L .side (nextIn L)
+
+    l : Like x own
+    l = like k right L d ok who inside
+
+    r : clientRule own ≡ true
+    r = rule k right L d ok who inside
+
+    near : Nearest clientCount (λ c. owedAny (L .side c)) (L .turn) who
+    unfolding nextIn
+    near = next-hit clientCount (λ c. owedAny (L .side c)) (L .turn) (subst (λ (n : ℕ). n < clientCount) (ok .0 .turn) turned) inside
+
+    -- the slot that is served is owed
+    slot : Nearest slotCount (owes x) (x .last) (slotIn x)
+    unfolding slotIn
+    slot =
+        let w = any-owed x (near .holds) in
+        next-nearest slotCount (owes x) (x .last) (subst (λ (n : ℕ). n < slotCount) (l .last) (mark-within own r)) (w .0) (w .1) (w .2)
+
+    is-owed : has (own .owed) (slotIn x) ≡ true
+    is-owed = owed-bit x own l r (slotIn x) (slot .inside) ∙ slot .holds
+
+    waits : slotIn x ≡ controlSlot → 0 < own .waiting
+    waits e = ltb-true 0 (own .waiting) (sym (waits-when-owed own r) ∙ ap (has (own .owed)) (sym e) ∙ is-owed)
+
+    connected : own .connected ≡ true
+    connected = owed-connected own r (slotIn x) is-owed
+
+    served-like : Like (serving (slotIn x) x) (served (slotIn x) own)
+    served-like = like-served x own l (slotIn x) (few-results own r) waits
+
+    served-rule : clientRule (served (slotIn x) own) ≡ true
+    served-rule =
+        sound-connected (served (slotIn x) own) (served-like .on ∙ sym (l .on) ∙ connected)
+        (kept-served own (connected-sound own r connected) (slotIn x) (l .long) (slot .inside) is-owed)
+
+    pub served-ok : Ok k (servingNext L who) (withServed who (served (slotIn x) own) d)
+    unfolding deskRule clientsRule
+    served-ok = (
+      record {
+        player = ok .0 .player;
+        turn = refl;
+        long = length-set (d .clients) who (served (slotIn x) own) ∙ ok .0 .long;
+        side = λ c h. at c h (ℕ-discrete c who);
+      },
+      and-both (and-both (player-stands (k .groups) (k .tracks) d (ok .1)) (all-intro (λ c. clientRule (clientAt (set (d .clients) who (served (slotIn x) own)) c)) clientCount each)) (lt-ltb who clientCount inside),
+    )
+      where
+        stored : clientAt (set (d .clients) who (served (slotIn x) own)) who ≡ served (slotIn x) own
+        stored = getD-set-same (d .clients) who (served (slotIn x) own) noClient (subst (λ (n : ℕ). who < n) (sym (ok .0 .long)) inside)
+
+        at : (c : ℕ) → c < clientCount → Dec (c ≡ who) → Like (pick (eqb c who) (serving (slotIn (L .side c)) (L .side c)) (L .side c)) (clientAt (set (d .clients) who (served (slotIn x) own)) c)
+        at c h (yes e) =
+            subst (λ (n : ℕ). Like (pick (eqb n who) (serving (slotIn (L .side n)) (L .side n)) (L .side n)) (clientAt (set (d .clients) who (served (slotIn x) own)) n)) (sym e)
+            (subst (λ (b : Bool). Like (pick b (serving (slotIn x) x) x) (clientAt (set (d .clients) who (served (slotIn x) own)) who)) (sym (eq-eqb who who refl))
+            (subst (Like (serving (slotIn x) x)) (sym stored) served-like))
+        at c h (no n) =
+            subst (λ (b : Bool). Like (pick b (serving (slotIn (L .side c)) (L .side c)) (L .side c)) (clientAt (set (d .clients) who (served (slotIn x) own)) c)) (sym (ne-eqb c who n))
+            (subst (Like (L .side c)) (sym (getD-set-other (d .clients) who c (served (slotIn x) own) noClient n)) (ok .0 .side c h))
+
+        each : (c : ℕ) → c < clientCount → clientRule (clientAt (set (d .clients) who (served (slotIn x) own)) c) ≡ true
+        each c h =
+            elim (ℕ-discrete c who) [
+              | yes e ↦ ap (λ (n : ℕ). clientRule (clientAt (set (d .clients) who (served (slotIn x) own)) n)) e ∙ ap clientRule stored ∙ served-rule
+              | no n ↦ ap clientRule (getD-set-other (d .clients) who c (served (slotIn x) own) noClient n) ∙ rule k right L d ok c h
+            ]
+
+    -- what is handed out is what the ledger says
+    first-result : (n : ℕ) (rs : List Entry) → 0 < n → 0 < length rs → resultOctets (getD rs 0 blankEntry) ≡ oldest (firsts n rs)
+    first-result zero rs h m = absurd (not-suc-le-zero h)
+    first-result (suc n) [] h m = absurd (not-suc-le-zero m)
+    first-result (suc n) (e ∷ rs) h m = refl
+
+    present : presentOctets k (d .player) own (nextSlot own)
+        ≡ pick (eqb (slotIn x) controlSlot) (oldest (x .waiting)) (valueOf (k .tracks) (k .text) (L .player) (characteristicOf (slotIn x)))
+    present = ap (presentOctets k (d .player) own) (slot-same x own l r) ∙ at (ℕ-discrete (slotIn x) controlSlot)
+      where
+        value : valueOf (k .tracks) (k .text) (d .player) (characteristicOf (slotIn x)) ≡ valueOf (k .tracks) (k .text) (L .player) (characteristicOf (slotIn x))
+        value = ap (λ (p : Player). valueOf (k .tracks) (k .text) p (characteristicOf (slotIn x))) (ok .0 .player)
+
+        at : Dec (slotIn x ≡ controlSlot) → presentOctets k (d .player) own (slotIn x) ≡ pick (eqb (slotIn x) controlSlot) (oldest (x .waiting)) (valueOf (k .tracks) (k .text) (L .player) (characteristicOf (slotIn x)))
+        at (yes e) =
+            sym (here _ (eq-eqb (slotIn x) controlSlot e) refl)
+            ∙ first-result (own .waiting) (own .results) (waits e) (omega (arith, l .long)) ∙ ap oldest (l .waiting)
+            ∙ here _ (eq-eqb (slotIn x) controlSlot e) refl
+        at (no n) = sym (past _ (ne-eqb (slotIn x) controlSlot n) refl) ∙ value ∙ past _ (ne-eqb (slotIn x) controlSlot n) refl
+
+    pub octets-agree : handedOctets k (d .player) own ≡ octetsIn k (L .player) x (slotIn x)
+    unfolding handedOctets
+    octets-agree = λ i. firsts (l .mtu i - 3) (present i)
+
+  -- a take is accepted where its room suffices
+  not-ltb : (a b : ℕ) → not (ltb a b) ≡ leb b a
+  not-ltb a b = ⊎-elim (λ (h : b ≤ a). ap not (le-ltb a b h) ∙ sym (le-leb b a h)) (λ (h : a < b). ap not (lt-ltb a b h) ∙ sym (lt-leb b a h)) (le-or b a)
+
+  take-rows : (room : ℕ) → accepted (takeRows k d room) ≡ leb 128 room
+  take-rows room = (λ i. not (not (right i)) && (not (ltb room 128) && (not (not (ok .1 i)) && true))) ∙ end (not (ltb room 128)) ∙ not-ltb room 128
+    where
+      end : (b : Bool) → (b && true) ≡ b
+      end true = refl
+      end false = refl
+
+  taken-ok : Ok k (taking L (nextIn L)) (takenBy k d (nextIn L) .state)
+  unfolding handedTo
+  taken-ok = go (leb clientCount (nextIn L)) refl
+    where
+      go : (t : Bool) → leb clientCount (nextIn L) ≡ t
+          → Ok k (pick t L (servingNext L (nextIn L))) (pick t (leaves (granted []) d) (servedAt d (nextIn L) (handedTo k (d .player) (nextIn L) (clientAt (d .clients) (nextIn L)))) .state)
+      go true e = ok
+      go false e =
+          let h = leb-false clientCount (nextIn L) e in
+          let own = clientAt (d .clients) (nextIn L) in
+          subst (λ (s : ℕ). Ok k (servingNext L (nextIn L)) (withServed (nextIn L) (served s own) d))
+          (sym (slot-same (L .side (nextIn L)) own (like k right L d ok (nextIn L) h) (rule k right L d ok (nextIn L) h))) (served-ok h)
+
+  pub take-step : (room : ℕ) → Ok k (pick (leb 128 room) (taking L (nextIn L)) L) (takeCall k d room .state)
+  unfolding takeCall
+  take-step room =
+      ok-call k right L d ok (leb 128 room) (takeRows k d room) _ (taking L (nextIn L)) (take-rows room)
+      (λ e. subst (λ (n : ℕ). Ok k (taking L (nextIn L)) (takenBy k d n .state)) (sym next-agrees) taken-ok)
+
+  -- a refusal has no values
+  no-values : (rows : List Row) → saidBy rows .values ≡ []
+  no-values [] = refl
+  no-values (r ∷ rows) = go (r .applies) (no-values rows)
+    where
+      go : (t : Bool) → saidBy rows .values ≡ [] → pick t (refused (r .number)) (saidBy rows) .values ≡ []
+      go true h = refl
+      go false h = h
+
+  -- what the desk says of a take, and what it hands out
+  pub take-agrees : (room : ℕ) → spoken (takeCall k d room .said .values) (takeOctets k d) ≡ pick (leb 128 room) (pick (leb clientCount (nextIn L)) none (some (answerIn k L (nextIn L)))) none
+  unfolding takeCall takeOctets handedTo
+  take-agrees room =
+      ap (λ (s : Said). spoken (s .values) (takeOctets k d)) (said-of d (takeRows k d room) (takenBy k d (nextClient d)) ∙ (λ i. pick (take-rows room i) (takenBy k d (next-agrees i) .said) (saidBy (takeRows k d room))))
+      ∙ enough (leb 128 room)
+    where
+      octets : ℕ → List ℕ
+      octets n = pick (leb clientCount n) [] (handedOctets k (d .player) (clientAt (d .clients) n))
+
+      serves : (u : Bool) → leb clientCount (nextIn L) ≡ u
+          → spoken (pick u (leaves (granted []) d) (servedAt d (nextIn L) (handedTo k (d .player) (nextIn L) (clientAt (d .clients) (nextIn L)))) .said .values) (pick u [] (handedOctets k (d .player) (clientAt (d .clients) (nextIn L))))
+          ≡ pick u none (some (answerIn k L (nextIn L)))
+      serves true e = refl
+      serves false e =
+          let h = leb-false clientCount (nextIn L) e in
+          let own = clientAt (d .clients) (nextIn L) in
+          let same = slot-same (L .side (nextIn L)) own (like k right L d ok (nextIn L) h) (rule k right L d ok (nextIn L) h) in
+          let back = ap (λ (s : ℕ). slotOf (characteristicOf s)) same ∙ slot-back (slotIn (L .side (nextIn L))) (slot h .inside) in
+          λ i. some (record { client = nextIn L; slot = back i; octets = octets-agree h i })
+
+      enough : (t : Bool) → spoken (pick t (takenBy k d (nextIn L) .said) (saidBy (takeRows k d room)) .values) (octets (nextClient d))
+          ≡ pick t (pick (leb clientCount (nextIn L)) none (some (answerIn k L (nextIn L)))) none
+      enough true = (λ i. spoken (takenBy k d (nextIn L) .said .values) (octets (next-agrees i))) ∙ serves (leb clientCount (nextIn L)) refl
+      enough false = ap (λ (v : List ℕ). spoken v (octets (nextClient d))) (no-values (takeRows k d room))

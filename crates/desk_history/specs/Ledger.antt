@@ -1,0 +1,225 @@
+-- What document 01 says of the player and of each client after a call, from the call and its rules alone ("What is owed", "Refusal numbers"). Nothing
+-- here knows how the desk stores it: sets of slots are questions, results are a list.
+-- Assumes nothing.
+use mathlib.Core.Bool.{Bool, true, false, not, _&&_, _||_}
+use mathlib.Core.List.{List, [], _∷_, _++_}
+use Prim.Native.Nat.{ℕ, zero, suc, _-_}
+use lib.Dec.{eqb, leb, ltb}
+use lib.ListN.{length}
+use Rattle.ground.specs.Cases.{pick, within}
+use Rattle.ground.specs.Words.{wordAt}
+use Rattle.catalogue_tables.specs.Tables.{Tables}
+use Rattle.player_state.specs.declared.Player.{Player}
+use Rattle.player_state.specs.Player.{renamed, deactivated, withOrder, withSpeed}
+use Rattle.player_check.specs.Standing.{textRule, groupRule}
+use Rattle.player_moves.specs.declared.Controlled.{Controlled}
+use Rattle.player_moves.specs.Control.{controlled}
+use Rattle.player_moves.specs.Clock.{advanced, positioned, activated}
+use Rattle.desk_slots.specs.Slots.{slotCount, clientCount, slotOf, characteristicOf}
+use Rattle.desk_slots.specs.Characteristics.{writables, isIn}
+use Rattle.desk_slots.specs.Round.{next}
+use Rattle.desk_client.specs.declared.Entry.{Entry}
+use Rattle.desk_client.specs.Client.{mtuRight, controlSlot, mostResults}
+use Rattle.desk_notices.specs.Changes.{changed, trackChanged}
+use Rattle.desk_notices.specs.declared.Cause.{Cause}
+use Rattle.desk_notices.specs.Owed.{fallsDue, spared, noWriter, byWriter}
+use Rattle.desk_console.specs.Console.{quietAdvance}
+use Rattle.desk_exchange.specs.Write.{firstOctet, lengthRight, numberOf}
+use Rattle.desk_history.specs.Calls.{Call, setName, activate, deactivate, advance, connect, disconnect, subscribe, unsubscribe, read, write, take}
+
+-- of a client: whether it is connected, encrypted, its ATT_MTU, the slots that it is subscribed to, the values that are owed, the results that wait,
+-- oldest first, and the slot that was served last
+pub record Side : Type 0 where
+  pub on : Bool
+  pub safe : Bool
+  pub mtu : ℕ
+  pub wants : ℕ → Bool
+  pub due : ℕ → Bool
+  pub waiting : List Entry
+  pub last : ℕ
+
+-- of the whole: the player, the clients by number, and the client that was served last
+pub record Ledger : Type 0 where
+  pub player : Player
+  pub side : ℕ → Side
+  pub turn : ℕ
+
+-- a client that is not connected; one that has just connected: the slot round begins at the lowest
+abbrev pub linked : Bool → Bool → ℕ → Side
+linked on safe mtu =
+    record { on = on; safe = safe; mtu = mtu; wants = λ s. false; due = λ s. false; waiting = []; last = slotCount - 1 }
+
+abbrev pub nobody : Side
+nobody = linked false false 23
+
+-- "After start the round of clients begins at 0"
+abbrev pub opening : Player → Ledger
+opening p = record { player = p; side = λ c. nobody; turn = clientCount - 1 }
+
+-- one client's part becomes f of it
+abbrev pub changing : ℕ → (Side → Side) → Ledger → Ledger
+changing who f L =
+    record { player = L .player; side = λ c. pick (eqb c who) (f (L .side c)) (L .side c); turn = L .turn }
+
+-- "A slot is owed to a subscribed client when a call changes its value": whatever was owed stays owed
+abbrev pub told : Tables → Player → Player → Cause → ℕ → Side → Side
+told k p q cause who x =
+    record {
+      on = x .on;
+      safe = x .safe;
+      mtu = x .mtu;
+      wants = x .wants;
+      due = λ s.
+          x .due s
+          || (x .wants s
+          && (fallsDue (changed (k .tracks) (k .text) p q (characteristicOf s)) (trackChanged p q) (characteristicOf s)
+          && not (spared cause who (characteristicOf s))));
+      waiting = x .waiting;
+      last = x .last;
+    }
+
+abbrev pub becoming : Tables → Cause → Player → Ledger → Ledger
+becoming k cause q L = record { player = q; side = λ c. told k (L .player) q cause c (L .side c); turn = L .turn }
+
+-- subscribing and unsubscribing: "Unsubscribing drops what the slot owes"
+abbrev pub joining : ℕ → Side → Side
+joining s x =
+    record {
+      on = x .on;
+      safe = x .safe;
+      mtu = x .mtu;
+      wants = λ t. x .wants t || eqb s t;
+      due = x .due;
+      waiting = x .waiting;
+      last = x .last;
+    }
+
+abbrev pub leaving : ℕ → Side → Side
+leaving s x =
+    record {
+      on = x .on;
+      safe = x .safe;
+      mtu = x .mtu;
+      wants = λ t. x .wants t && not (eqb s t);
+      due = λ t. x .due t && not (eqb s t);
+      waiting = pick (eqb s controlSlot) [] (x .waiting);
+      last = x .last;
+    }
+
+-- "one for each accepted control write by a client subscribed to 18 at the time"
+abbrev pub resulting : Entry → Side → Side
+resulting e x =
+    record {
+      on = x .on;
+      safe = x .safe;
+      mtu = x .mtu;
+      wants = x .wants;
+      due = x .due;
+      waiting = pick (x .wants controlSlot) (x .waiting ++ (e ∷ [])) (x .waiting);
+      last = x .last;
+    }
+
+-- the oldest goes
+abbrev pub behind : {A : Type 0} → List A → List A
+behind [] = []
+behind (e ∷ l) = l
+
+-- a slot is served
+abbrev pub serving : ℕ → Side → Side
+serving s x =
+    record {
+      on = x .on;
+      safe = x .safe;
+      mtu = x .mtu;
+      wants = x .wants;
+      due = λ u. x .due u && not (eqb s u);
+      waiting = pick (eqb s controlSlot) (behind (x .waiting)) (x .waiting);
+      last = s;
+    }
+
+-- a slot is owed: 18 when results wait, another when its value is
+abbrev pub some : {A : Type 0} → List A → Bool
+some [] = false
+some (e ∷ l) = true
+
+abbrev pub owes : Side → ℕ → Bool
+owes x s = pick (eqb s controlSlot) (some (x .waiting)) (x .due s)
+
+unfoldable pub anyBelow : ℕ → (ℕ → Bool) → Bool
+anyBelow zero test = false
+anyBelow (suc n) test = anyBelow n test || test n
+
+unfoldable pub owedAny : Side → Bool
+owedAny x = anyBelow slotCount (owes x)
+
+-- "Take starts after the client last served, in number order round the four, and serves the first that is owed something; within it, the first owed
+-- slot after its last served, round the ten."
+unfoldable pub nextIn : Ledger → ℕ
+nextIn L = next clientCount (λ c. owedAny (L .side c)) (L .turn)
+
+unfoldable pub slotIn : Side → ℕ
+slotIn x = next slotCount (owes x) (x .last)
+
+abbrev pub servingNext : Ledger → ℕ → Ledger
+servingNext L who =
+    record {
+      player = L .player;
+      side = λ c. pick (eqb c who) (serving (slotIn (L .side c)) (L .side c)) (L .side c);
+      turn = who;
+    }
+
+abbrev pub taking : Ledger → ℕ → Ledger
+taking L who = pick (leb clientCount who) L (servingNext L who)
+
+-- a client that may ask: 202, 203
+abbrev pub asks : Ledger → ℕ → Bool
+asks L who = ltb who clientCount && L .side who .on
+
+-- 0x01, 209, 0x0F
+abbrev pub mayJoin : Ledger → ℕ → ℕ → Bool
+mayJoin L who c = asks L who && ltb (slotOf c) slotCount && L .side who .safe
+
+-- 0x01, 0x03, 0x0F, 0x0D, 0x13, 0x11
+abbrev pub mayWrite : Ledger → ℕ → ℕ → List ℕ → Bool
+mayWrite L who c value =
+    asks L who
+    && isIn writables c
+    && L .side who .safe
+    && lengthRight c value
+    && not (eqb c 15 && not (within 1 8 (firstOctet value)))
+    && not (eqb c 18 && leb mostResults (length (L .side who .waiting)))
+
+-- a control write: the requested opcode and the result
+abbrev pub outcome : Tables → Ledger → List ℕ → Controlled
+outcome k L value = controlled (k .groups) (k .tracks) (k .segments) (firstOctet value) (numberOf value) (L .player)
+
+abbrev pub resultOf : Tables → Ledger → List ℕ → Entry
+resultOf k L value = record { opcode = firstOctet value; code = outcome k L value .result }
+
+abbrev pub controlWriting : Tables → Ledger → ℕ → List ℕ → Ledger
+controlWriting k L who value =
+    changing who (resulting (resultOf k L value)) (becoming k (byWriter who 18) (outcome k L value .player) L)
+
+-- "7, 8, 15, 18 may be written"
+abbrev pub writing : Tables → Ledger → ℕ → ℕ → List ℕ → Ledger
+writing k L who c value =
+    pick (eqb c 7) (becoming k (byWriter who 7) (positioned (k .tracks) (wordAt value 0) (L .player)) L)
+    (pick (eqb c 8) (becoming k (byWriter who 8) (withSpeed (firstOctet value) (L .player)) L)
+    (pick (eqb c 15) (becoming k (byWriter who 15) (withOrder (firstOctet value) (L .player)) L)
+    (controlWriting k L who value)))
+
+-- a call that is refused alters nothing
+abbrev pub after : Tables → Call → Ledger → Ledger
+after k (setName name) L = pick (textRule name) (becoming k (noWriter false) (renamed name (L .player)) L) L
+after k (activate g) L = pick (groupRule (k .groups) g) (becoming k (noWriter false) (activated (k .groups) (k .tracks) g (L .player)) L) L
+after k deactivate L = becoming k (noWriter false) (deactivated (L .player)) L
+after k (advance step) L =
+    becoming k (noWriter (quietAdvance (k .tracks) step (L .player))) (advanced (k .groups) (k .tracks) step (L .player)) L
+after k (connect who mtu encrypted) L =
+    pick (ltb who clientCount && not (L .side who .on) && mtuRight mtu) (changing who (λ x. linked true encrypted mtu) L) L
+after k (disconnect who) L = pick (asks L who) (changing who (λ x. nobody) L) L
+after k (subscribe who c) L = pick (mayJoin L who c) (changing who (joining (slotOf c)) L) L
+after k (unsubscribe who c) L = pick (mayJoin L who c) (changing who (leaving (slotOf c)) L) L
+after k (read who c offset room) L = L
+after k (write who c value) L = pick (mayWrite L who c value) (writing k L who c value) L
+after k (take room) L = pick (leb 128 room) (taking L (nextIn L)) L

@@ -1,0 +1,130 @@
+-- `desk_notices::changed_word`: each bit is put for the characteristic whose value differs, from the last to the first.
+use mathlib.Core.Path.{refl}
+use Rattle.player_values.specs.Values.{valueOf, opcodesValue}
+use Rattle.desk_notices.specs.Changes.{sameOctets, changed}
+use Rattle.desk_notices.proofs.Differing.{gathered, gathers-none, gathers-bit, gathers-past}
+use borrow.Author.Needs.{needs}
+use Rattle.desk_notices.proofs.changed_word.Statement.{statement}
+use Rattle.desk_notices.proofs.changed_word.Tie as tie
+
+title-changed-requires : tie.Need-title-changed-requires
+title-changed-requires c κs = search needs
+
+duration-changed-requires : tie.Need-duration-changed-requires
+duration-changed-requires c κs = search needs
+
+name-changed-requires : tie.Need-name-changed-requires
+name-changed-requires c κs = search needs
+
+position-changed-requires : tie.Need-position-changed-requires
+position-changed-requires c κs = search needs
+
+octets-differ-requires : tie.Need-octets-differ-requires
+octets-differ-requires c κs = search needs
+
+octets-differ-requires-2 : tie.Need-octets-differ-requires-2
+octets-differ-requires-2 c κs = search needs
+
+octets-differ-requires-3 : tie.Need-octets-differ-requires-3
+octets-differ-requires-3 c κs = search needs
+
+octets-differ-requires-4 : tie.Need-octets-differ-requires-4
+octets-differ-requires-4 c κs = search needs
+
+words-differ-requires : tie.Need-words-differ-requires
+words-differ-requires c κs = search needs
+
+octets-differ-requires-5 : tie.Need-octets-differ-requires-5
+octets-differ-requires-5 c κs = search needs
+
+with-if-requires : tie.Need-with-if-requires
+with-if-requires c κs = search needs
+
+with-if-requires-2 : tie.Need-with-if-requires-2
+with-if-requires-2 c κs = search needs
+
+with-if-requires-3 : tie.Need-with-if-requires-3
+with-if-requires-3 c κs = search needs
+
+with-if-requires-4 : tie.Need-with-if-requires-4
+with-if-requires-4 c κs = search needs
+
+with-if-requires-5 : tie.Need-with-if-requires-5
+with-if-requires-5 c κs = search needs
+
+with-if-requires-6 : tie.Need-with-if-requires-6
+with-if-requires-6 c κs = search needs
+
+with-if-requires-7 : tie.Need-with-if-requires-7
+with-if-requires-7 c κs = search needs
+
+with-if-requires-8 : tie.Need-with-if-requires-8
+with-if-requires-8 c κs = search needs
+
+with-if-requires-9 : tie.Need-with-if-requires-9
+with-if-requires-9 c κs = search needs
+
+with-if-requires-10 : tie.Need-with-if-requires-10
+with-if-requires-10 c κs = search needs
+
+returns : tie.Need-returns
+unfolding changed valueOf opcodesValue sameOctets
+returns c =
+    let w5 = c .before in
+    let w6 = w5 .before in
+    let w7 = w6 .before in
+    let w8 = w7 .before in
+    let w9 = w8 .before in
+    let w15 = w9 .before in
+    let w17 = w15 .before in
+    let w19 = w17 .before in
+    let w22 = w19 .before in
+    let ccid = w22 .before in
+    let opcodes = ccid .before in
+    let media = opcodes .before .before .before in
+    let order = media .before in
+    let seeking = order .before in
+    let speed = seeking .before in
+    let position = speed .before in
+    let name = position .before in
+    let duration = name .before in
+    let title = duration .before in
+    let a = title .before .before .before .args in
+    let f = changed (a .tracks .now) (a .text .now) (a .p) (a .q) in
+    let g22 = gathers-bit f 22 (gathers-none f) (ccid .octets-differ5 .ensures) (w22 .with-if .ensures) in
+    let g19 = gathers-bit f 19 g22 (opcodes .words-differ .ensures) (w19 .with-if2 .ensures) in
+    let g17 = gathers-bit f 17 g19 (media .octets-differ4 .ensures) (w17 .with-if3 .ensures) in
+    let g16 = gathers-past f 16 g17 refl in
+    let g15 = gathers-bit f 15 g16 (order .octets-differ3 .ensures) (w15 .with-if4 .ensures) in
+    let g9 = gathers-bit f 9 g15 (seeking .octets-differ2 .ensures) (w9 .with-if5 .ensures) in
+    let g8 = gathers-bit f 8 g9 (speed .octets-differ .ensures) (w8 .with-if6 .ensures) in
+    let g7 = gathers-bit f 7 g8 (position .position-changed .ensures) (w7 .with-if7 .ensures) in
+    let g6 = gathers-bit f 6 g7 (duration .duration-changed .ensures) (w6 .with-if8 .ensures) in
+    let g5 = gathers-bit f 5 g6 (title .title-changed .ensures) (w5 .with-if9 .ensures) in
+    gathered (a .tracks .now) (a .text .now) (a .p) (a .q) _ (search needs) (gathers-bit f 1 g5 (name .name-changed .ensures) (c .with-if10 .ensures))
+
+pub changed-word-spec : {M : Type 1} → statement M
+changed-word-spec =
+    tie.close
+    (tie.spec
+    title-changed-requires
+    duration-changed-requires
+    name-changed-requires
+    position-changed-requires
+    octets-differ-requires
+    octets-differ-requires-2
+    octets-differ-requires-3
+    octets-differ-requires-4
+    words-differ-requires
+    octets-differ-requires-5
+    with-if-requires
+    with-if-requires-2
+    with-if-requires-3
+    with-if-requires-4
+    with-if-requires-5
+    with-if-requires-6
+    with-if-requires-7
+    with-if-requires-8
+    with-if-requires-9
+    with-if-requires-10
+    returns)

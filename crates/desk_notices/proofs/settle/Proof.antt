@@ -1,0 +1,37 @@
+-- `desk_notices::settle`: what the two players differ in is what each record is told.
+use mathlib.Core.Path.{_≡_, _∙_}
+use Rattle.ground.specs.Lists.{mapFrom}
+use Rattle.desk_client.specs.Duties.{noted}
+use Rattle.desk_notices.specs.Owed.{told, dueTo, alteredOf, settled}
+use Rattle.desk_notices.proofs.Laws.{due-is}
+use borrow.Author.Needs.{needs}
+use Rattle.desk_notices.proofs.settle.Statement.{statement}
+use Rattle.desk_notices.proofs.settle.Tie as tie
+
+changed-word-requires : tie.Need-changed-word-requires
+changed-word-requires c κs = search needs
+
+track-changed-requires : tie.Need-track-changed-requires
+track-changed-requires c κs = search needs
+
+note-all-requires : tie.Need-note-all-requires
+note-all-requires c κs = search needs
+
+returns : tie.Need-returns
+unfolding settled alteredOf
+returns c =
+    let t = c .before .before in
+    let w = t .before in
+    let a = w .before .before .before .before .args in
+    let altered = w .changed-word .ensures in
+    let track = t .track-changed .ensures in
+    let p = a .d .player in
+    let records : c .note-all .result ≡ mapFrom (λ who r. noted (dueTo (a .tracks .now) (a .text .now) p (a .q) (a .cause) who) (alteredOf (a .tracks .now) (a .text .now) p (a .q)) r) 0 (a .d .clients) =
+    c .note-all .ensures
+    ∙ (λ k. mapFrom (told (altered k) (track k) (a .cause)) 0 (a .d .clients))
+    ∙ (λ k. mapFrom (λ who r. noted (due-is (a .tracks .now) (a .text .now) p (a .q) (a .cause) who k) (alteredOf (a .tracks .now) (a .text .now) p (a .q)) r) 0 (a .d .clients)) in
+    λ k. record { player = a .q; clients = records k; turn = a .d .turn }
+
+pub settle-spec : {M : Type 1} → statement M
+settle-spec =
+    tie.close (tie.spec changed-word-requires track-changed-requires note-all-requires returns)

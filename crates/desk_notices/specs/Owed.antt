@@ -1,0 +1,62 @@
+-- What falls due when a call has changed the player (document 01, "What is owed").
+-- Assumes nothing.
+use mathlib.Core.Bool.{Bool, false, not, _&&_, _||_}
+use mathlib.Core.List.{List}
+use Prim.Native.Nat.{ℕ}
+use lib.Dec.{eqb}
+use Rattle.ground.specs.Cases.{has}
+use Rattle.ground.specs.Lists.{mapFrom}
+use Rattle.player_state.specs.declared.Player.{Player}
+use Rattle.desk_slots.specs.Slots.{slotCount, clientCount, characteristicOf}
+use Rattle.desk_slots.specs.Characteristics.{setOf}
+use Rattle.desk_client.specs.declared.Client.{Client}
+use Rattle.desk_client.specs.Duties.{noted}
+use Rattle.desk_notices.specs.Changes.{changed, trackChanged}
+use Rattle.desk_state.specs.declared.Desk.{Desk}
+use Rattle.desk_notices.specs.declared.Cause.{Cause}
+
+-- "A slot is owed to a subscribed client when a call changes its value. Added: 4 and 7 whenever the track number changes, to or from none too."
+abbrev pub fallsDue : Bool → Bool → ℕ → Bool
+fallsDue altered track characteristic = altered || (track && (eqb characteristic 4 || eqb characteristic 7))
+
+-- "Not owed: 7 when an advance in Playing stays below D; 8 and 15 to the client that wrote them."
+unfoldable pub spared : Cause → ℕ → ℕ → Bool
+spared cause who characteristic =
+    (cause .quiet && eqb characteristic 7)
+    || (eqb who (cause .writer) && eqb characteristic (cause .wrote) && (eqb characteristic 8 || eqb characteristic 15))
+
+-- the slots that fall due to a client, when the call found the player p and left q
+unfoldable pub dueTo : List ℕ → List ℕ → Player → Player → Cause → ℕ → ℕ
+dueTo tracks text p q cause who =
+    setOf slotCount (λ s.
+    fallsDue (changed tracks text p q (characteristicOf s)) (trackChanged p q) (characteristicOf s) && not (spared cause who (characteristicOf s)))
+
+-- the same, by the word of the characteristics that changed
+abbrev pub falls : ℕ → Bool → Cause → ℕ → ℕ → Bool
+falls altered track cause who s =
+    fallsDue (has altered (characteristicOf s)) track (characteristicOf s) && not (spared cause who (characteristicOf s))
+
+-- a record is told what changed
+abbrev pub told : ℕ → Bool → Cause → ℕ → Client → Client
+told altered track cause who c = noted (setOf slotCount (falls altered track cause who)) altered c
+
+-- "some call changed the value": for the changed marks, whoever is spared
+unfoldable pub alteredOf : List ℕ → List ℕ → Player → Player → ℕ
+alteredOf tracks text p q = setOf 32 (changed tracks text p q)
+
+-- the state after a call that leaves the player q: each client record is noted, the round stays
+unfoldable pub settled : List ℕ → List ℕ → Cause → Player → Desk → Desk
+settled tracks text cause q d =
+    record {
+      player = q;
+      clients = mapFrom (λ who c. noted (dueTo tracks text (d .player) q cause who) (alteredOf tracks text (d .player) q) c) 0 (d .clients);
+      turn = d .turn;
+    }
+
+-- a call by no client
+abbrev pub noWriter : Bool → Cause
+noWriter quiet = record { quiet = quiet; writer = clientCount; wrote = 0 }
+
+-- a write by a client
+abbrev pub byWriter : ℕ → ℕ → Cause
+byWriter who characteristic = record { quiet = false; writer = who; wrote = characteristic }

@@ -1,0 +1,127 @@
+-- `mcs_state::client_of`: each part at its place.
+use lib.Dec.{eqb}
+use lib.ListN.{getD}
+use mathlib.Core.Bool.{not}
+use Rattle.mcs_state.specs.Codec.{flag, entriesAt, clientOf}
+use borrow.Author.Needs.{needs}
+use Rattle.mcs_state.proofs.client_of.Statement.{statement}
+use Rattle.mcs_state.proofs.client_of.Tie as tie
+
+shared-slice-read-t11 : tie.Need-shared-slice-read-t11
+shared-slice-read-t11 c = search needs
+
+shared-slice-read-t13 : tie.Need-shared-slice-read-t13
+shared-slice-read-t13 c = search needs
+
+shared-slice-read-t11-2 : tie.Need-shared-slice-read-t11-2
+shared-slice-read-t11-2 c = search needs
+
+shared-slice-read-t13-2 : tie.Need-shared-slice-read-t13-2
+shared-slice-read-t13-2 c = search needs
+
+shared-slice-read-t11-3 : tie.Need-shared-slice-read-t11-3
+shared-slice-read-t11-3 c = search needs
+
+shared-slice-read-t13-3 : tie.Need-shared-slice-read-t13-3
+shared-slice-read-t13-3 c = search needs
+
+shared-slice-read-t11-4 : tie.Need-shared-slice-read-t11-4
+shared-slice-read-t11-4 c = search needs
+
+shared-slice-read-t13-4 : tie.Need-shared-slice-read-t13-4
+shared-slice-read-t13-4 c = search needs
+
+shared-slice-read-t11-5 : tie.Need-shared-slice-read-t11-5
+shared-slice-read-t11-5 c = search needs
+
+shared-slice-read-t13-5 : tie.Need-shared-slice-read-t13-5
+shared-slice-read-t13-5 c = search needs
+
+shared-slice-read-t11-6 : tie.Need-shared-slice-read-t11-6
+shared-slice-read-t11-6 c = search needs
+
+shared-slice-read-t13-6 : tie.Need-shared-slice-read-t13-6
+shared-slice-read-t13-6 c = search needs
+
+shared-slice-read-t11-7 : tie.Need-shared-slice-read-t11-7
+shared-slice-read-t11-7 c = search needs
+
+shared-slice-read-t13-7 : tie.Need-shared-slice-read-t13-7
+shared-slice-read-t13-7 c = search needs
+
+shared-slice-read-t11-8 : tie.Need-shared-slice-read-t11-8
+shared-slice-read-t11-8 c = search needs
+
+shared-slice-read-t13-8 : tie.Need-shared-slice-read-t13-8
+shared-slice-read-t13-8 c = search needs
+
+shared-slice-read-t11-9 : tie.Need-shared-slice-read-t11-9
+shared-slice-read-t11-9 c = search needs
+
+shared-slice-read-t13-9 : tie.Need-shared-slice-read-t13-9
+shared-slice-read-t13-9 c = search needs
+
+word-at-requires : tie.Need-word-at-requires
+word-at-requires c κs = search needs
+
+word-at-requires-2 : tie.Need-word-at-requires-2
+word-at-requires-2 c κs = search needs
+
+word-at-requires-3 : tie.Need-word-at-requires-3
+word-at-requires-3 c κs = search needs
+
+word-at-requires-4 : tie.Need-word-at-requires-4
+word-at-requires-4 c κs = search needs
+
+word-at-requires-5 : tie.Need-word-at-requires-5
+word-at-requires-5 c κs = search needs
+
+wide-at-requires : tie.Need-wide-at-requires
+wide-at-requires c κs = search needs
+
+returns : tie.Need-returns
+unfolding clientOf
+returns c =
+    let s = c .before .before .before .before .before .before .before .before .before .before .before .before .before .before .before .before .before .before .before .before .before .before .before .before .before .args .s .now in
+    λ i.
+    record {
+      connected = flag (getD s 0 0);
+      encrypted = flag (getD s 1 0);
+      mtu = c .before .before .before .before .before .word-at .ensures i;
+      subscribed = c .before .before .before .before .word-at2 .ensures i;
+      owed = c .before .before .before .word-at3 .ensures i;
+      fresh = c .before .before .word-at4 .ensures i;
+      mark = c .before .word-at5 .ensures i;
+      waiting = c .wide-at .ensures i;
+      results = entriesAt s 30 8;
+    }
+
+pub client-of-spec : {M : Type 1} → statement M
+client-of-spec =
+    tie.close
+    (tie.spec
+    shared-slice-read-t11
+    shared-slice-read-t13
+    shared-slice-read-t11-2
+    shared-slice-read-t13-2
+    shared-slice-read-t11-3
+    shared-slice-read-t13-3
+    shared-slice-read-t11-4
+    shared-slice-read-t13-4
+    shared-slice-read-t11-5
+    shared-slice-read-t13-5
+    shared-slice-read-t11-6
+    shared-slice-read-t13-6
+    shared-slice-read-t11-7
+    shared-slice-read-t13-7
+    shared-slice-read-t11-8
+    shared-slice-read-t13-8
+    shared-slice-read-t11-9
+    shared-slice-read-t13-9
+    word-at-requires
+    word-at-requires-2
+    word-at-requires-3
+    word-at-requires-4
+    word-at-requires-5
+    wide-at-requires
+    returns)

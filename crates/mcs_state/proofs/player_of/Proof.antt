@@ -1,0 +1,81 @@
+-- `mcs_state::player_of`: each part at its place; the name covers the zeros.
+use mathlib.Core.Path.{_≡_, _∙_, ap}
+use mathlib.Core.List.{List, _++_, append-nil}
+use Prim.Native.Nat.{ℕ}
+use native.Mathlib.Omega.{arith}
+use lib.ListN.{getD, drop, length, replicate, drop-of-length-le}
+use Rattle.mcs_state.specs.Codec.{playerOf}
+use borrow.Author.Needs.{needs}
+use Rattle.mcs_state.proofs.player_of.Statement.{statement}
+use Rattle.mcs_state.proofs.player_of.Tie as tie
+
+fill-requires : tie.Need-fill-requires
+fill-requires c κs = search needs
+
+shared-slice-read-t13 : tie.Need-shared-slice-read-t13
+shared-slice-read-t13 c = search needs
+
+word-at-requires : tie.Need-word-at-requires
+word-at-requires c κs = search needs
+
+shared-slice-read-t13-2 : tie.Need-shared-slice-read-t13-2
+shared-slice-read-t13-2 c = search needs
+
+shared-slice-read-t13-3 : tie.Need-shared-slice-read-t13-3
+shared-slice-read-t13-3 c = search needs
+
+shared-slice-read-t18 : tie.Need-shared-slice-read-t18
+shared-slice-read-t18 c = search needs
+
+shared-slice-read-t20 : tie.Need-shared-slice-read-t20
+shared-slice-read-t20 c = search needs
+
+shared-slice-read-t22 : tie.Need-shared-slice-read-t22
+shared-slice-read-t22 c = search needs
+
+word-at-requires-2 : tie.Need-word-at-requires-2
+word-at-requires-2 c κs = search needs
+
+word-at-requires-3 : tie.Need-word-at-requires-3
+word-at-requires-3 c κs = search needs
+
+word-at-requires-4 : tie.Need-word-at-requires-4
+word-at-requires-4 c κs = search needs
+
+returns : tie.Need-returns
+unfolding playerOf
+returns c =
+    let a = c .before .before .before .before .before .before .before .before .before .before .before .before .before in
+    let h = a .args .h .now in
+    let name = a .args .name .now in
+    let called : c .before .before .before .before .before .before .before .before .before .before .fill .result ≡ name =
+    c .before .before .before .before .before .before .before .before .before .before .fill .ensures ∙ ap (λ (l : List ℕ). name ++ l) (drop-of-length-le (replicate 128 0) {i = length name} (omega (arith, a .pre .0))) ∙ append-nil name in
+    λ i.
+    record {
+      name = record { octets = called i; len = getD h 0 0 };
+      offer = record { mask = c .before .before .before .before .before .before .before .before .word-at .ensures i; ccid = getD h 1 0 };
+      mode = record { media = getD h 2 0; order = getD h 3 0; speed = getD h 4 0; seeking = getD h 5 0 };
+      place =
+          record {
+            group = record { 0 = c .before .before .word-at2 .ensures i };
+            track = record { 0 = c .before .word-at3 .ensures i };
+            position = record { 0 = c .word-at4 .ensures i };
+          };
+    }
+
+pub player-of-spec : {M : Type 1} → statement M
+player-of-spec =
+    tie.close
+    (tie.spec
+    fill-requires
+    shared-slice-read-t13
+    word-at-requires
+    shared-slice-read-t13-2
+    shared-slice-read-t13-3
+    shared-slice-read-t18
+    shared-slice-read-t20
+    shared-slice-read-t22
+    word-at-requires-2
+    word-at-requires-3
+    word-at-requires-4
+    returns)

@@ -1,0 +1,25 @@
+-- `mcs_state::put_name`: 128 octets at 0.
+use mathlib.Core.Path.{_≡_, _∙_, ap}
+use lib.ListN.{length}
+use lib.Seq.{paste}
+use borrow.Author.Needs.{needs}
+use Rattle.mcs_state.proofs.put_name.Statement.{statement}
+use Rattle.mcs_state.proofs.put_name.Tie as tie
+
+slice-aggregate-put : tie.Need-slice-aggregate-put
+slice-aggregate-put c = search needs
+
+put-requires : tie.Need-put-requires
+put-requires c κs = search needs
+
+same-length : tie.Need-same-length
+same-length c = search needs
+
+returns : tie.Need-returns
+returns c =
+    let a = c .before .before .before .before .before .before .args in
+    let e : length (a .t2) ≡ 128 = search needs in
+    (c .before .before .put .ensures ∙ ap (paste (a .s .now) 0 (a .t2)) e, e)
+
+pub put-name-spec : {M : Type 1} → statement M
+put-name-spec = tie.close (tie.spec slice-aggregate-put put-requires same-length returns)

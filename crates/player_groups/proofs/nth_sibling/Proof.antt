@@ -1,0 +1,67 @@
+-- `player_groups::nth_sibling`: what is sought among the rest is what is sought among all.
+use mathlib.Core.Path.{_≡_, sym, _∙_}
+use mathlib.Core.Logic.{⊎-elim}
+use Prim.Native.Nat.{_-_, _≤_}
+use Rattle.ground.specs.Lists.{span, those}
+use Rattle.player_walk.specs.Steps.{at}
+use Rattle.player_groups.specs.Family.{isSibling}
+use Rattle.player_groups.proofs.Scan.{all-left, found, nearer, skipped, search-ends}
+use borrow.Author.Needs.{needs}
+use Rattle.player_groups.proofs.nth_sibling.Statement.{statement}
+use Rattle.player_groups.proofs.nth_sibling.Tie as tie
+
+abbrev Inv-loop : tie.InvT-loop
+Inv-loop groups g bound k left₀ i₀ left i = (i ≤ bound) × (at (those (isSibling groups (g .0)) (span i (bound - i))) left ≡ at (those (isSibling groups (g .0)) (span 0 bound)) k)
+
+abbrev μ-loop : tie.MeasureT-loop
+μ-loop groups g bound k left₀ i₀ left i = bound - i
+
+loop-holds : tie.Need-loop-holds Inv-loop μ-loop
+loop-holds c = (search needs, rw all-left)
+
+is-sibling-requires : tie.Need-is-sibling-requires Inv-loop μ-loop
+is-sibling-requires c κs = search needs
+
+returns : tie.Need-returns Inv-loop μ-loop
+returns c =
+    let l = c .before .before .before .before .loop in
+    found _ _ _ _ _ (l .inv .1) (c .before .before .before .loop-test .taken) (sym (c .before .before .is-sibling .ensures) ∙ c .before .if1 .taken) (c .if2 .taken)
+
+sub-left : tie.Need-sub-left Inv-loop μ-loop
+sub-left c = search needs
+
+add-i : tie.Need-add-i Inv-loop μ-loop
+add-i c = search needs
+
+loop-less : tie.Need-loop-less Inv-loop μ-loop
+loop-less c = search needs
+
+loop-again : tie.Need-loop-again Inv-loop μ-loop
+loop-again c =
+    let l = c .before .before .before .loop in
+    let test = isSibling (c .before .before .before .before .before .args .groups .now) (c .before .before .before .before .before .args .g .0) in
+    let h = c .before .before .loop-test .taken in (
+      search needs,
+      ⊎-elim
+          (λ w. nearer test _ (l .i) (l .left) _ (l .inv .1) h (c .if1 .left) (sym (c .before .is-sibling .ensures) ∙ w .0 .taken) (w .1 .left) (w .2))
+          (λ w. skipped test _ (l .i) (l .left) _ (l .inv .1) h (c .if1 .left) (sym (c .before .is-sibling .ensures) ∙ w .0 .left) (w .1))
+          (c .if1 .came),
+    )
+
+returns-2 : tie.Need-returns-2 Inv-loop μ-loop
+returns-2 c = search-ends _ _ _ _ _ (c .before .loop .inv .1) (c .loop-test .left)
+
+pub nth-sibling-spec : {M : Type 1} → statement M
+nth-sibling-spec =
+    tie.close
+    (tie.spec
+    Inv-loop
+    μ-loop
+    loop-holds
+    is-sibling-requires
+    returns
+    sub-left
+    add-i
+    loop-less
+    loop-again
+    returns-2)

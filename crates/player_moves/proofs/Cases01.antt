@@ -1,0 +1,56 @@
+-- The sample catalogue of document 01 is right, and its cases come out as the document says, all in one statement. Assumes nothing.
+use mathlib.Core.Path.{_≡_, refl, sym, _∙_}
+use mathlib.Core.Bool.{true}
+use mathlib.Core.List.{[], _∷_}
+use Prim.Native.Nat.{ℕ, zero, suc, _<_}
+use native.Mathlib.Omega.{arith}
+use lib.ListN.{getD}
+use Rattle.ground.specs.Lists.{allBelow, sumBelow}
+use Rattle.text.specs.Utf8.{textOf, textFrom}
+use Rattle.catalogue_tables.specs.Tables.{tables, startsOf, titleOf}
+use Rattle.catalogue_rules.specs.Rules.{sizesRule, parentsRule, follow, trackRunsRule, segmentRunsRule, durationsRule, beginRule, riseRule, belowRule, startsRule, titlesPlacedRule, titlesTextRule}
+use Rattle.catalogue_check.specs.Catalogue.{catalogueRule, checkSaid, Right}
+use Rattle.player_walk.specs.Signed.{signedWord}
+use Rattle.player_walk.specs.Steps.{place, goto, moveIn}
+use Rattle.player_walk.specs.Places.{placeAfter}
+use Rattle.player_walk.specs.declared.Near.the-variants.{At}
+use Rattle.player_walk.specs.declared.Step.the-variants.{Goto}
+use Rattle.player_walk.proofs.Walk.{move-is}
+use Rattle.player_walk.proofs.Ways.{back}
+use Rattle.player_orders.specs.Order.{ordered, tracksInOrder}
+use Rattle.player_groups.specs.Family.{siblings}
+use Rattle.player_segments.specs.Segments.{segmentStarts, previousStart, nextStart, moveAlong}
+use Rattle.player_segments.proofs.Steps.{goes-back}
+use Rattle.player_segments.proofs.Whole.{back-past}
+use Rattle.player_state.specs.Positions.{heldSum, written}
+use Rattle.player_moves.specs.Moves.{segmentAfter, trackAfter, groupAfter, entryOf}
+use Rattle.player_moves.specs.Cases01.{sampleGroups, sampleTracks, sampleSegments, minus, bySegment, byTrack, cases, AllHold}
+use Rattle.player_moves.proofs.Ready.{shaped}
+
+pub sample-right : Right (tables sampleGroups sampleTracks sampleSegments [])
+unfolding checkSaid catalogueRule sizesRule parentsRule trackRunsRule follow segmentRunsRule durationsRule startsRule beginRule riseRule belowRule titlesPlacedRule titlesTextRule allBelow sumBelow startsOf titleOf textOf textFrom
+sample-right = refl
+
+-- −2147483648 is too far to walk: by the closed forms, 2147483647 steps from the last
+far-segment : bySegment 1500 (Goto (minus 2147483648)) ≡ At 0
+unfolding segmentAfter startsOf
+far-segment =
+    sym
+    (goes-back sampleSegments 6000 1500 (minus 2147483648) (shaped _ sample-right .rising 0 (omega arith)) 2147483647 2147483647 0
+    (back (minus 2147483648) (omega arith)) refl (back-past sampleSegments 2147483647 (omega arith)))
+
+apart : (k : ℕ) → k < 3 → place (getD (0 ∷ 1 ∷ 2 ∷ []) k 0) (0 ∷ 1 ∷ 2 ∷ []) ≡ k
+apart zero h = refl
+apart (suc zero) h = refl
+apart (suc (suc zero)) h = refl
+apart (suc (suc (suc k))) h = absurd (let z : ⊥ = omega arith in z)
+
+far-track : byTrack 4 0 (Goto (minus 2147483648)) ≡ At 1
+unfolding trackAfter tracksInOrder ordered placeAfter
+far-track =
+    move-is (0 ∷ 1 ∷ 2 ∷ []) apart (Goto (minus 2147483648)) true 0 (omega arith)
+    ∙ rw (sym (back (minus 2147483648) (omega arith)))
+
+pub cases-hold : AllHold cases
+unfolding segmentAfter startsOf segmentStarts moveAlong previousStart nextStart goto signedWord heldSum written trackAfter tracksInOrder ordered moveIn groupAfter siblings entryOf
+cases-hold = (refl, (refl, (refl, (refl, (refl, (refl, (far-segment, (refl, (refl, (refl, (refl, (refl, (refl, (far-track, (refl, (refl, (refl, tt)))))))))))))))))

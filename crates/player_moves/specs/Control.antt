@@ -1,0 +1,56 @@
+-- The control point (document 01, "Player rules"): "First that applies: 2, 3, 4, 1. After 2, 3, 4 the player is as before."
+-- Assumes nothing.
+use mathlib.Core.Bool.{not}
+use mathlib.Core.List.{List}
+use Prim.Native.Nat.{ℕ}
+use Rattle.ground.specs.Cases.{pick}
+use Rattle.player_walk.specs.Signed.{signedWord}
+use Rattle.player_walk.specs.declared.Near.{Near}
+use Rattle.player_walk.specs.declared.Near.the-variants.{At, Nothing}
+use Rattle.player_opcodes.specs.Opcodes.{offered, actionOf}
+use Rattle.player_opcodes.specs.declared.Action.{Action}
+use Rattle.player_opcodes.specs.declared.Action.the-variants.{Play, Pause, Rewind, Forward, Stop, Relative, Segment, Track, Group, Unknown}
+use Rattle.player_state.specs.declared.Player.{Player}
+use Rattle.player_state.specs.Player.{paused, isActive, inMode, atPosition}
+use Rattle.player_state.specs.Modes.{played, pausedAt, forwarded, rewound, movedTo}
+use Rattle.player_state.specs.Positions.{heldSum}
+use Rattle.player_moves.specs.Moves.{durationNow, segmentAfter, trackAfter, groupAfter, entryOf}
+use Rattle.player_moves.specs.declared.Controlled.{Controlled}
+
+-- "1 Success; 2 opcode unknown or not in the mask; 3 Inactive; 4 cannot be completed"
+abbrev pub success : Player → Controlled
+success p = record { result = 1; player = p }
+
+abbrev pub failed : ℕ → Player → Controlled
+failed result p = record { result = result; player = p }
+
+-- on from what was found, or result 4
+abbrev pub onward : Near → (ℕ → Controlled) → Player → Controlled
+onward (At x) f p = f x
+onward Nothing f p = failed 4 p
+
+-- "Then the group's first track, position 0."
+abbrev pub entered : List ℕ → List ℕ → Player → ℕ → Controlled
+entered groups tracks p g = onward (entryOf groups tracks (p .mode .order) g) (λ t. success (movedTo g t p)) p
+
+-- what each action does to an active player
+unfoldable pub acted : List ℕ → List ℕ → List ℕ → Action → Player → Controlled
+acted groups tracks segments Play p = success (played p)
+acted groups tracks segments Pause p = success (inMode paused 0 p)
+acted groups tracks segments Rewind p = success (rewound p)
+acted groups tracks segments Forward p = success (forwarded p)
+acted groups tracks segments Stop p = success (pausedAt 0 p)
+acted groups tracks segments (Relative n) p =
+    success (atPosition (heldSum (durationNow tracks p) (p .place .position .0) (signedWord n)) p)
+acted groups tracks segments (Segment step) p =
+    onward (segmentAfter tracks segments step p) (λ x. success (atPosition x p)) p
+acted groups tracks segments (Track step) p =
+    onward (trackAfter groups tracks step p) (λ t. success (movedTo (p .place .group .0) t p)) p
+acted groups tracks segments (Group step) p = onward (groupAfter groups step p) (entered groups tracks p) p
+acted groups tracks segments Unknown p = failed 2 p
+
+unfoldable pub controlled : List ℕ → List ℕ → List ℕ → ℕ → ℕ → Player → Controlled
+controlled groups tracks segments opcode number p =
+    pick (not (offered (p .offer .mask) opcode)) (failed 2 p)
+    (pick (not (isActive p)) (failed 3 p)
+    (acted groups tracks segments (actionOf opcode number) p))

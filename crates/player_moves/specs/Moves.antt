@@ -1,0 +1,53 @@
+-- Where moves lead (document 01, "Player rules"): along the segments, the tracks in their order, and the groups.
+-- Assumes nothing.
+use mathlib.Core.Bool.{false}
+use mathlib.Core.List.{List}
+use Prim.Native.Nat.{ℕ, _+_, _<_, _≤_}
+use lib.ListN.{length}
+use Rattle.ground.specs.Limits.{mostGroups, mostTracks}
+use Rattle.catalogue_tables.specs.Tables.{groupCount, trackCount, firstTrackOf, tracksIn, durationOf, startsOf}
+use Rattle.player_walk.specs.Steps.{firstOf, moveIn}
+use Rattle.player_walk.specs.declared.Near.{Near}
+use Rattle.player_walk.specs.declared.Step.{Step}
+use Rattle.player_orders.specs.Order.{tracksInOrder, repeats, Run, InRun}
+use Rattle.player_groups.specs.Family.{siblings}
+use Rattle.player_segments.specs.Segments.{segmentMove, Rising}
+use Rattle.player_state.specs.declared.Player.{Player}
+
+-- D, "the duration"
+abbrev pub durationNow : List ℕ → Player → ℕ
+durationNow tracks p = durationOf tracks (p .place .track .0)
+
+unfoldable pub segmentAfter : List ℕ → List ℕ → Step → Player → Near
+segmentAfter tracks segments step p =
+    segmentMove step (startsOf tracks segments (p .place .track .0)) (durationNow tracks p) (p .place .position .0)
+
+-- a group's tracks in an order, where t is the current one
+abbrev pub inOrder : List ℕ → List ℕ → ℕ → ℕ → ℕ → List ℕ
+inOrder groups tracks order g t = tracksInOrder order tracks (firstTrackOf groups g) (tracksIn groups g) t
+
+unfoldable pub trackAfter : List ℕ → List ℕ → Step → Player → Near
+trackAfter groups tracks step p =
+    moveIn step (repeats (p .mode .order)) (inOrder groups tracks (p .mode .order) (p .place .group .0) (p .place .track .0)) (p .place .track .0)
+
+unfoldable pub groupAfter : List ℕ → Step → Player → Near
+groupAfter groups step p = moveIn step false (siblings groups (p .place .group .0)) (p .place .group .0)
+
+-- the group's first track in the order; "when a group is activated or moved to, its lowest track comes first" in orders 1 and 2
+unfoldable pub entryOf : List ℕ → List ℕ → ℕ → ℕ → Near
+entryOf groups tracks order g = firstOf (inOrder groups tracks order g (firstTrackOf groups g))
+
+-- what a right catalogue has for the player
+pub record Shaped (groups tracks segments : List ℕ) : Type 0 where
+  pub few-groups : groupCount groups ≤ mostGroups
+  pub few-tracks : trackCount tracks ≤ mostTracks
+  pub runs : (g : ℕ) → g < groupCount groups → firstTrackOf groups g + tracksIn groups g ≤ trackCount tracks
+  pub rising : (t : ℕ) → t < trackCount tracks → Rising (startsOf tracks segments t) (durationOf tracks t)
+
+-- the current track lies in the current group's run, and a group's run in the tracks
+abbrev pub Seated : List ℕ → List ℕ → Player → Type 0
+Seated groups tracks p =
+    InRun (length tracks) (firstTrackOf groups (p .place .group .0)) (tracksIn groups (p .place .group .0)) (p .place .track .0)
+
+abbrev pub RunOf : List ℕ → List ℕ → ℕ → Type 0
+RunOf groups tracks g = Run (length tracks) (firstTrackOf groups g) (tracksIn groups g)

@@ -1,0 +1,321 @@
+// What the opcodes and the clock do to the player, over a catalogue that passes its check and a state that stands in it.
+ghost use mathlib.Core.Path.{_≡_};
+ghost use mathlib.Core.Bool.{true};
+ghost use Prim.Native.Nat.{ℕ, _<_};
+ghost use Rattle.player_state.specs.Player.{atPosition, deactivated};
+ghost use Rattle.player_state.specs.Positions.{heldSum};
+ghost use Rattle.player_walk.specs.Signed.{signedWord};
+ghost use Rattle.player_orders.specs.Order.{nearTrack};
+ghost use Rattle.player_state.specs.Modes.{movedTo};
+ghost use Rattle.player_groups.specs.Family.{Current};
+ghost use Rattle.player_segments.specs.Segments.{Rising};
+ghost use Rattle.player_check.specs.Standing.{playerRule};
+ghost use Rattle.catalogue_tables.specs.Tables.{startsOf, durationOf};
+ghost use Rattle.player_moves.specs.Moves.{durationNow, segmentAfter, trackAfter, groupAfter, entryOf, Shaped, Seated, RunOf};
+ghost use Rattle.player_moves.specs.Control.{success, failed, onward, entered, acted, controlled};
+ghost use Rattle.player_moves.specs.Clock.{playedOn, soughtOn, advanced, positioned, activated};
+
+// A result code, and the player afterwards.
+pub struct Controlled {
+    pub result: u8,
+    pub player: player_state::Player,
+}
+
+fn done(p: player_state::Player) -> Controlled
+    ensures { λ r. ⌜ r ≡ success p ⌝ }
+{
+    Controlled {
+        result: 1,
+        player: p,
+    }
+}
+
+fn undone(p: player_state::Player, result: u8) -> Controlled
+    ensures { λ r. ⌜ r ≡ failed result p ⌝ }
+{
+    Controlled {
+        result: result,
+        player: p,
+    }
+}
+
+fn move_segment(
+    tracks: &[u32],
+    segments: &[u32],
+    p: player_state::Player,
+    step: player_walk::Step,
+) -> Controlled
+    requires { ⌜ Rising (startsOf (now tracks) (now segments) (p .place .track .0)) (durationOf (now tracks) (p .place .track .0)) ⌝ }
+    ensures { λ r. ⌜ r ≡ onward (segmentAfter (now (tracks .entry)) (now (segments .entry)) step p) (λ (x : ℕ). success (atPosition x p)) p ⌝ }
+{
+    let t = p.place.track;
+    let from = p.place.position;
+    let d = catalogue_tables::duration(tracks, t);
+    let starts = catalogue_tables::starts(tracks, segments, t);
+    let to = player_segments::segment_after(starts, d, from, step);
+    let q = player_state::at_position(p, to);
+    done(q)
+}
+
+fn near_track(
+    groups: &[u32],
+    tracks: &[u32],
+    p: player_state::Player,
+    step: player_walk::Step,
+) -> player_orders::NearTrack
+    requires { ⌜ Seated (now groups) (now tracks) p ⌝ }
+    ensures { λ r. ⌜ nearTrack r ≡ trackAfter (now (groups .entry)) (now (tracks .entry)) step p ⌝ }
+{
+    let g = p.place.group;
+    let t = p.place.track;
+    let first = catalogue_tables::first_track(groups, g);
+    let count = catalogue_tables::tracks_in(groups, g);
+    player_orders::track_after(tracks, p.mode.order, first, count, t, step)
+}
+
+fn move_track(
+    groups: &[u32],
+    tracks: &[u32],
+    p: player_state::Player,
+    step: player_walk::Step,
+) -> Controlled
+    requires { ⌜ Seated (now groups) (now tracks) p ⌝ }
+    ensures { λ r. ⌜ r ≡ onward (trackAfter (now (groups .entry)) (now (tracks .entry)) step p) (λ (t : ℕ). success (movedTo (p .place .group .0) t p)) p ⌝ }
+{
+    let near = near_track(groups, tracks, p, step);
+    match near {
+        player_orders::NearTrack::Found(t) => {
+            let g = p.place.group;
+            let q = player_state::move_to(p, g, t);
+            done(q)
+        }
+        player_orders::NearTrack::None => undone(p, 4),
+    }
+}
+
+// The group's first track in the order.
+fn entry(
+    groups: &[u32],
+    tracks: &[u32],
+    order: u8,
+    g: catalogue_tables::GroupNo,
+) -> player_orders::NearTrack
+    requires { ⌜ RunOf (now groups) (now tracks) (g .0) ⌝ }
+    ensures { λ r. ⌜ nearTrack r ≡ entryOf (now (groups .entry)) (now (tracks .entry)) order (g .0) ⌝ }
+{
+    let first = catalogue_tables::first_track(groups, g);
+    let count = catalogue_tables::tracks_in(groups, g);
+    player_orders::entry_track(tracks, order, first, count)
+}
+
+fn enter(
+    groups: &[u32],
+    tracks: &[u32],
+    p: player_state::Player,
+    g: catalogue_tables::GroupNo,
+) -> Controlled
+    requires { ⌜ RunOf (now groups) (now tracks) (g .0) ⌝ }
+    ensures { λ r. ⌜ r ≡ entered (now (groups .entry)) (now (tracks .entry)) p (g .0) ⌝ }
+{
+    let near = entry(groups, tracks, p.mode.order, g);
+    match near {
+        player_orders::NearTrack::Found(t) => {
+            let q = player_state::move_to(p, g, t);
+            done(q)
+        }
+        player_orders::NearTrack::None => undone(p, 4),
+    }
+}
+
+fn move_group(
+    groups: &[u32],
+    tracks: &[u32],
+    p: player_state::Player,
+    step: player_walk::Step,
+) -> Controlled
+    requires { ⌜ Current (now groups) (p .place .group .0) ⌝ }
+    requires { ⌜ ((g : ℕ) → Current (now groups) g → RunOf (now groups) (now tracks) g) ⌝ }
+    ensures { λ r. ⌜ r ≡ onward (groupAfter (now (groups .entry)) step p) (entered (now (groups .entry)) (now (tracks .entry)) p) p ⌝ }
+{
+    let g = p.place.group;
+    let near = player_groups::group_after(groups, g, step);
+    match near {
+        player_groups::NearGroup::Found(h) => enter(groups, tracks, p, h),
+        player_groups::NearGroup::None => undone(p, 4),
+    }
+}
+
+fn move_relative(tracks: &[u32], p: player_state::Player, number: u32) -> player_state::Player
+    ensures { λ r. ⌜ r ≡ atPosition (heldSum (durationNow (now (tracks .entry)) p) (p .place .position .0) (signedWord number)) p ⌝ }
+{
+    let d = catalogue_tables::duration(tracks, p.place.track);
+    let x = player_state::held_sum(d.0, p.place.position.0, number);
+    let to = catalogue_tables::Position(x);
+    player_state::at_position(p, to)
+}
+
+// An action on an active player.
+fn act(
+    groups: &[u32],
+    tracks: &[u32],
+    segments: &[u32],
+    p: player_state::Player,
+    action: player_opcodes::Action,
+) -> Controlled
+    requires { ⌜ Shaped (now groups) (now tracks) (now segments) ⌝ }
+    requires { ⌜ playerRule (now groups) (now tracks) p ≡ true ⌝ }
+    requires { ⌜ 0 < p .mode .media ⌝ }
+    ensures { λ r. ⌜ r ≡ acted (now (groups .entry)) (now (tracks .entry)) (now (segments .entry)) action p ⌝ }
+{
+    match action {
+        player_opcodes::Action::Play => {
+            let q = player_state::in_mode(p, 1, 0);
+            done(q)
+        }
+        player_opcodes::Action::Pause => {
+            let q = player_state::in_mode(p, 2, 0);
+            done(q)
+        }
+        player_opcodes::Action::Rewind => {
+            let q = player_state::fast_rewind(p);
+            done(q)
+        }
+        player_opcodes::Action::Forward => {
+            let q = player_state::fast_forward(p);
+            done(q)
+        }
+        player_opcodes::Action::Stop => {
+            let q = player_state::in_mode(p, 2, 0);
+            let begin = catalogue_tables::Position(0);
+            let s = player_state::at_position(q, begin);
+            done(s)
+        }
+        player_opcodes::Action::Relative(n) => {
+            let q = move_relative(tracks, p, n);
+            done(q)
+        }
+        player_opcodes::Action::Segment(step) => move_segment(tracks, segments, p, step),
+        player_opcodes::Action::Track(step) => move_track(groups, tracks, p, step),
+        player_opcodes::Action::Group(step) => move_group(groups, tracks, p, step),
+        player_opcodes::Action::Unknown => undone(p, 2),
+    }
+}
+
+// A control write: an opcode and the number that it may carry.
+pub fn control(
+    groups: &[u32],
+    tracks: &[u32],
+    segments: &[u32],
+    p: player_state::Player,
+    opcode: u8,
+    number: u32,
+) -> Controlled
+    requires { ⌜ Shaped (now groups) (now tracks) (now segments) ⌝ }
+    requires { ⌜ playerRule (now groups) (now tracks) p ≡ true ⌝ }
+    ensures { λ r. ⌜ r ≡ controlled (now (groups .entry)) (now (tracks .entry)) (now (segments .entry)) opcode number p ⌝ }
+{
+    if !player_opcodes::is_offered(p.offer.mask, opcode) {
+        return undone(p, 2);
+    }
+    if p.mode.media == 0 {
+        return undone(p, 3);
+    }
+    let action = player_opcodes::action_of(opcode, number);
+    act(groups, tracks, segments, p, action)
+}
+
+// Playing: on by d, or to the next track, or Paused at the end.
+fn play_on(groups: &[u32], tracks: &[u32], p: player_state::Player, d: u32) -> player_state::Player
+    requires { ⌜ Seated (now groups) (now tracks) p ⌝ }
+    ensures { λ r. ⌜ r ≡ playedOn (now (groups .entry)) (now (tracks .entry)) d p ⌝ }
+{
+    let end = catalogue_tables::duration(tracks, p.place.track);
+    let to = ground::wide_word(p.place.position.0) + ground::wide_word(d);
+    if to < ground::wide_word(end.0) {
+        let x = catalogue_tables::Position(to as u32);
+        return player_state::at_position(p, x);
+    }
+    let near = near_track(groups, tracks, p, player_walk::Step::Next);
+    match near {
+        player_orders::NearTrack::Found(t) => {
+            let g = p.place.group;
+            let begin = catalogue_tables::Position(0);
+            player_state::at_place(p, g, t, begin)
+        }
+        player_orders::NearTrack::None => {
+            let q = player_state::in_mode(p, 2, 0);
+            player_state::at_position(q, end)
+        }
+    }
+}
+
+fn seek_on(tracks: &[u32], p: player_state::Player, d: u32) -> player_state::Player
+    ensures { λ r. ⌜ r ≡ soughtOn (now (tracks .entry)) d p ⌝ }
+{
+    let end = catalogue_tables::duration(tracks, p.place.track);
+    let x = player_state::sought_position(end.0, p.place.position.0, p.mode.seeking, d);
+    let to = catalogue_tables::Position(x);
+    player_state::at_position(p, to)
+}
+
+// A step of time.
+pub fn advance(
+    groups: &[u32],
+    tracks: &[u32],
+    p: player_state::Player,
+    d: u32,
+) -> player_state::Player
+    requires { ⌜ (0 < p .mode .media → Seated (now groups) (now tracks) p) ⌝ }
+    ensures { λ r. ⌜ r ≡ advanced (now (groups .entry)) (now (tracks .entry)) d p ⌝ }
+{
+    if p.mode.media == 1 {
+        return play_on(groups, tracks, p, d);
+    }
+    if p.mode.media == 3 {
+        return seek_on(tracks, p, d);
+    }
+    p
+}
+
+pub fn write_position(tracks: &[u32], p: player_state::Player, number: u32) -> player_state::Player
+    ensures { λ r. ⌜ r ≡ positioned (now (tracks .entry)) number p ⌝ }
+{
+    if p.mode.media == 0 {
+        return p;
+    }
+    let end = catalogue_tables::duration(tracks, p.place.track);
+    let x = player_state::written_position(end.0, number);
+    let to = catalogue_tables::Position(x);
+    player_state::at_position(p, to)
+}
+
+// A group that has tracks is activated.
+pub fn activate(
+    groups: &[u32],
+    tracks: &[u32],
+    p: player_state::Player,
+    g: catalogue_tables::GroupNo,
+) -> player_state::Player
+    requires { ⌜ RunOf (now groups) (now tracks) (g .0) ⌝ }
+    ensures { λ r. ⌜ r ≡ activated (now (groups .entry)) (now (tracks .entry)) (g .0) p ⌝ }
+{
+    let near = entry(groups, tracks, p.mode.order, g);
+    match near {
+        player_orders::NearTrack::Found(t) => {
+            let q = player_state::in_mode(p, 2, 0);
+            let begin = catalogue_tables::Position(0);
+            player_state::at_place(q, g, t, begin)
+        }
+        player_orders::NearTrack::None => p,
+    }
+}
+
+pub fn deactivate(p: player_state::Player) -> player_state::Player
+    ensures { λ r. ⌜ r ≡ deactivated p ⌝ }
+{
+    let q = player_state::in_mode(p, 0, 0);
+    let g = catalogue_tables::GroupNo(0);
+    let t = catalogue_tables::TrackNo(0);
+    let x = catalogue_tables::Position(0);
+    player_state::at_place(q, g, t, x)
+}

@@ -1,0 +1,67 @@
+-- Segment moves (document 01, "Player rules"): positions, found from the starts of a track's segments.
+-- Assumes nothing.
+use mathlib.Core.Path.{_≡_}
+use mathlib.Core.List.{List, [], _∷_}
+use Prim.Native.Nat.{ℕ, _-_, _<_, _≤_, min, max}
+use lib.Dec.{ltb, eqb}
+use lib.ListN.{length, getD}
+use Rattle.ground.specs.Cases.{pick}
+use Rattle.ground.specs.Lists.{those}
+use Rattle.player_walk.specs.Signed.{signedWord}
+use Rattle.player_walk.specs.Steps.{goto}
+use Rattle.player_walk.specs.declared.Near.{Near}
+use Rattle.player_walk.specs.declared.Near.the-variants.{At}
+use Rattle.player_walk.specs.declared.Step.{Step}
+use Rattle.player_walk.specs.declared.Step.the-variants.{Previous, Next, First, Last, Goto}
+
+-- the greatest, and the least, of a list, or z where it is empty
+abbrev pub greatestOr : ℕ → List ℕ → ℕ
+greatestOr z [] = z
+greatestOr z (x ∷ l) = max x (greatestOr x l)
+
+abbrev pub leastOr : ℕ → List ℕ → ℕ
+leastOr z [] = z
+leastOr z (x ∷ l) = min x (leastOr x l)
+
+-- "A track without segments is one segment from 0."
+unfoldable pub segmentStarts : List ℕ → List ℕ
+segmentStarts starts = pick (eqb (length starts) 0) (0 ∷ []) starts
+
+-- "Previous Segment: the greatest start below the position, or 0."
+unfoldable pub previousStart : List ℕ → ℕ → ℕ
+previousStart starts position = greatestOr 0 (those (λ x. ltb x position) starts)
+
+-- "Next: the least start above it, or D."
+unfoldable pub nextStart : List ℕ → ℕ → ℕ → ℕ
+nextStart starts duration position = leastOr duration (those (λ x. ltb position x) starts)
+
+abbrev pub firstStart : List ℕ → ℕ
+firstStart starts = getD starts 0 0
+
+abbrev pub lastStart : List ℕ → ℕ
+lastStart starts = getD starts (length starts - 1) 0
+
+-- the five moves, over starts of which there is one at least
+unfoldable pub moveAlong : Step → List ℕ → ℕ → ℕ → Near
+moveAlong Previous starts duration position = At (previousStart starts position)
+moveAlong Next starts duration position = At (nextStart starts duration position)
+moveAlong First starts duration position = At (firstStart starts)
+moveAlong Last starts duration position = At (lastStart starts)
+moveAlong (Goto n) starts duration position =
+    goto (signedWord n) position (At (firstStart starts)) (λ p. At (nextStart starts duration p)) (At (lastStart starts)) (λ p. At (previousStart starts p))
+
+-- of any track
+abbrev pub segmentMove : Step → List ℕ → ℕ → ℕ → Near
+segmentMove step starts duration position = moveAlong step (segmentStarts starts) duration position
+
+-- what a right catalogue tells of a track's starts
+pub record Rising (starts : List ℕ) (duration : ℕ) : Type 0 where
+  pub begin : getD starts 0 0 ≡ 0
+  pub rise : (j i : ℕ) → i < j → j < length starts → getD starts i 0 < getD starts j 0
+  pub below : (i : ℕ) → i < length starts → getD starts i 0 < duration
+
+-- r parts the starts into those below x and those not
+pub record Cut (starts : List ℕ) (x r : ℕ) : Type 0 where
+  pub within : r ≤ length starts
+  pub low : (k : ℕ) → k < r → getD starts k 0 < x
+  pub high : (k : ℕ) → r ≤ k → k < length starts → x ≤ getD starts k 0

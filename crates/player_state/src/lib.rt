@@ -1,0 +1,281 @@
+// The player's state, and what alters it without a look at the catalogue.
+ghost use mathlib.Core.Path.{_≡_};
+ghost use Prim.Native.Nat.{min, _-_, _≤_};
+ghost use lib.ListN.{length, drop};
+ghost use Rattle.ground.specs.Lists.{filled};
+ghost use Rattle.player_walk.specs.Signed.{signedWord};
+ghost use Rattle.player_state.specs.Player.{startedPlayer, renamed, inMode, atPlace, atPosition, withOrder, withSpeed};
+ghost use Rattle.player_state.specs.Modes.{rungUp, rungDown, forwarded, rewound, movedTo};
+ghost use Rattle.player_state.specs.Positions.{heldSum, written, sought};
+
+// The octets behind the length are dead.
+pub struct Name {
+    pub octets: [u8; 128],
+    pub len: u8,
+}
+
+// What the player offers: the opcode mask and the Content Control ID.
+pub struct Offer {
+    pub mask: u32,
+    pub ccid: u8,
+}
+
+// The media state, the playing order, the playback speed and the seeking speed; both speeds as octets in two's complement.
+pub struct Mode {
+    pub media: u8,
+    pub order: u8,
+    pub speed: u8,
+    pub seeking: u8,
+}
+
+// While Inactive all three are 0.
+pub struct Place {
+    pub group: catalogue_tables::GroupNo,
+    pub track: catalogue_tables::TrackNo,
+    pub position: catalogue_tables::Position,
+}
+
+pub struct Player {
+    pub name: Name,
+    pub offer: Offer,
+    pub mode: Mode,
+    pub place: Place,
+}
+
+// Copies a name of at most 128 octets over the front of an array.
+pub fn fill(octets: [u8; 128], name: &[u8]) -> [u8; 128]
+    requires { ⌜ length (now name) ≤ 128 ⌝ }
+    ensures { λ r. ⌜ r ≡ filled (now (name .entry)) octets ⌝ }
+{
+    let mut out = octets;
+    let mut i: usize = 0;
+    while i < name.len() {
+        out[i] = name[i];
+        i += 1;
+    }
+    out
+}
+
+pub fn start(name: &[u8], mask: u32, ccid: u8) -> Player
+    requires { ⌜ length (now name) ≤ 128 ⌝ }
+    ensures { λ r. ⌜ r ≡ startedPlayer (now (name .entry)) mask ccid ⌝ }
+{
+    let octets = fill([0u8; 128], name);
+    let len = name.len() as u8;
+    let name = Name {
+        octets: octets,
+        len: len,
+    };
+    let offer = Offer {
+        mask: mask,
+        ccid: ccid,
+    };
+    let mode = Mode {
+        media: 0,
+        order: 3,
+        speed: 0,
+        seeking: 0,
+    };
+    let group = catalogue_tables::GroupNo(0);
+    let track = catalogue_tables::TrackNo(0);
+    let position = catalogue_tables::Position(0);
+    let place = Place {
+        group: group,
+        track: track,
+        position: position,
+    };
+    Player {
+        name: name,
+        offer: offer,
+        mode: mode,
+        place: place,
+    }
+}
+
+pub fn set_name(p: Player, name: &[u8]) -> Player
+    requires { ⌜ length (now name) ≤ 128 ⌝ }
+    ensures { λ r. ⌜ r ≡ renamed (now (name .entry)) p ⌝ }
+{
+    let old = p.name.octets;
+    let octets = fill(old, name);
+    let len = name.len() as u8;
+    let fresh = Name {
+        octets: octets,
+        len: len,
+    };
+    let mut q = p;
+    q.name = fresh;
+    q
+}
+
+// A media state with its seeking speed.
+pub fn in_mode(p: Player, media: u8, seeking: u8) -> Player
+    ensures { λ r. ⌜ r ≡ inMode media seeking p ⌝ }
+{
+    let mut q = p;
+    q.mode.media = media;
+    q.mode.seeking = seeking;
+    q
+}
+
+pub fn at_place(
+    p: Player,
+    group: catalogue_tables::GroupNo,
+    track: catalogue_tables::TrackNo,
+    position: catalogue_tables::Position,
+) -> Player
+    ensures { λ r. ⌜ r ≡ atPlace (group .0) (track .0) (position .0) p ⌝ }
+{
+    let mut q = p;
+    q.place.group.0 = group.0;
+    q.place.track.0 = track.0;
+    q.place.position.0 = position.0;
+    q
+}
+
+pub fn at_position(p: Player, position: catalogue_tables::Position) -> Player
+    ensures { λ r. ⌜ r ≡ atPosition (position .0) p ⌝ }
+{
+    let mut q = p;
+    q.place.position.0 = position.0;
+    q
+}
+
+pub fn with_order(p: Player, order: u8) -> Player
+    ensures { λ r. ⌜ r ≡ withOrder order p ⌝ }
+{
+    let mut q = p;
+    q.mode.order = order;
+    q
+}
+
+pub fn with_speed(p: Player, speed: u8) -> Player
+    ensures { λ r. ⌜ r ≡ withSpeed speed p ⌝ }
+{
+    let mut q = p;
+    q.mode.speed = speed;
+    q
+}
+
+fn rung_up(s: u8) -> u8
+    ensures { λ r. ⌜ r ≡ rungUp s ⌝ }
+{
+    match s {
+        0xE0 => 0xF0,
+        0xF0 => 0xF8,
+        0xF8 => 0xFC,
+        0xFC => 4,
+        4 => 8,
+        8 => 16,
+        16 => 32,
+        _ => s,
+    }
+}
+
+fn rung_down(s: u8) -> u8
+    ensures { λ r. ⌜ r ≡ rungDown s ⌝ }
+{
+    match s {
+        32 => 16,
+        16 => 8,
+        8 => 4,
+        4 => 0xFC,
+        0xFC => 0xF8,
+        0xF8 => 0xF0,
+        0xF0 => 0xE0,
+        _ => s,
+    }
+}
+
+pub fn fast_forward(p: Player) -> Player
+    ensures { λ r. ⌜ r ≡ forwarded p ⌝ }
+{
+    if p.mode.media == 3 {
+        let up = rung_up(p.mode.seeking);
+        return in_mode(p, 3, up);
+    }
+    in_mode(p, 3, 4)
+}
+
+pub fn fast_rewind(p: Player) -> Player
+    ensures { λ r. ⌜ r ≡ rewound p ⌝ }
+{
+    if p.mode.media == 3 {
+        let down = rung_down(p.mode.seeking);
+        return in_mode(p, 3, down);
+    }
+    in_mode(p, 3, 0xFC)
+}
+
+// A track of a group, at its start. Seeking becomes Playing.
+pub fn move_to(
+    p: Player,
+    group: catalogue_tables::GroupNo,
+    track: catalogue_tables::TrackNo,
+) -> Player
+    ensures { λ r. ⌜ r ≡ movedTo (group .0) (track .0) p ⌝ }
+{
+    let begin = catalogue_tables::Position(0);
+    if p.mode.media == 3 {
+        let playing = in_mode(p, 1, 0);
+        return at_place(playing, group, track, begin);
+    }
+    at_place(p, group, track, begin)
+}
+
+fn lesser(a: u64, b: u32) -> u32
+    ensures { λ r. ⌜ r ≡ min a b ⌝ }
+{
+    if a < (b as u64) {
+        return a as u32;
+    }
+    b
+}
+
+fn less(a: u64, b: u64) -> u64
+    ensures { λ r. ⌜ r ≡ a - b ⌝ }
+{
+    if a < b {
+        return 0;
+    }
+    a - b
+}
+
+// The sum of a position and a signed number, held to 0 and the duration.
+pub fn held_sum(duration: u32, position: u32, number: u32) -> u32
+    ensures { λ r. ⌜ r ≡ heldSum duration position (signedWord number) ⌝ }
+{
+    if number < 0x8000_0000 {
+        return lesser((position as u64) + (number as u64), duration);
+    }
+    lesser(
+        less(position as u64, 0x1_0000_0000 - (number as u64)),
+        duration,
+    )
+}
+
+// The position that a written number means.
+pub fn written_position(duration: u32, number: u32) -> u32
+    ensures { λ r. ⌜ r ≡ written duration (signedWord number) ⌝ }
+{
+    if number < 0x8000_0000 {
+        return lesser(number as u64, duration);
+    }
+    lesser(
+        less(duration as u64, 0x1_0000_0000 - (number as u64)),
+        duration,
+    )
+}
+
+// d times the seeking speed further, held to 0 and the duration.
+pub fn sought_position(duration: u32, position: u32, speed: u8, d: u32) -> u32
+    ensures { λ r. ⌜ r ≡ sought duration position speed d ⌝ }
+{
+    if speed < 0x80 {
+        return lesser((position as u64) + (d as u64) * (speed as u64), duration);
+    }
+    lesser(
+        less(position as u64, (d as u64) * (0x100 - (speed as u64))),
+        duration,
+    )
+}

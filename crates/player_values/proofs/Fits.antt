@@ -1,0 +1,38 @@
+-- What a value asks of catalogue and state: the name and the title have at most 128 octets, and so has every value. Assumes nothing.
+use mathlib.Core.Path.{_≡_}
+use mathlib.Core.Bool.{true}
+use mathlib.Core.Logic.{⊎-elim}
+use Prim.Native.Nat.{ℕ, _≤_}
+use native.Mathlib.Omega.{arith}
+use borrow.Author.Tests.{leb-true}
+use lib.Dec.{leb}
+use lib.ListN.{length}
+use Rattle.ground.specs.Limits.{mostTitle}
+use Rattle.ground.proofs.Cases.{true-or, and-left}
+use Rattle.catalogue_tables.specs.Tables.{Tables}
+use Rattle.catalogue_check.specs.Catalogue.{Right}
+use Rattle.catalogue_check.proofs.Laws.{title-short}
+use Rattle.player_state.specs.declared.Player.{Player}
+use Rattle.player_state.specs.Player.{isActive}
+use Rattle.player_check.specs.Standing.{nameRule, playerRule}
+use Rattle.player_check.proofs.Laws.{name-kept}
+use Rattle.player_values.specs.Values.{titleValue, valueOf}
+use Rattle.player_values.proofs.Laws.{value-short}
+use Rattle.player_moves.proofs.Choices.{active-above}
+use Rattle.player_moves.proofs.Ready.{shaped, track-there}
+
+module _ (k : Tables) (right : Right k) (p : Player) (stands : playerRule (k .groups) (k .tracks) p ≡ true) where
+  pub name-short : p .name .len ≤ mostTitle
+  unfolding nameRule
+  name-short = leb-true _ _ (and-left (leb (p .name .len) mostTitle) _ (name-kept (k .groups) (k .tracks) p stands))
+
+  pub title-fits : length (titleValue (k .tracks) (k .text) p) ≤ mostTitle
+  unfolding titleValue
+  title-fits =
+      ⊎-elim
+      (λ e. rw e (title-short k right (p .place .track .0) (track-there _ _ _ (shaped k right) p stands (active-above p e))))
+      (λ e. rw e (omega arith))
+      (true-or (isActive p))
+
+  pub value-fits : (c : ℕ) → length (valueOf (k .tracks) (k .text) p c) ≤ mostTitle
+  value-fits c = value-short (k .tracks) (k .text) p name-short title-fits c

@@ -1,0 +1,147 @@
+-- How long each value is, on what it depends, and that its octets tell a word. Assumes nothing.
+use mathlib.Core.Path.{_≡_, refl, ap, sym, _∙_}
+use mathlib.Core.Bool.{Bool, true, false}
+use mathlib.Core.List.{List, []}
+use Prim.Native.Nat.{ℕ, _/_, _%_, _^_, _≤_, _<_}
+use native.Mathlib.Omega.{arith}
+use borrow.Author.Tests.{ne-eqb}
+use lib.Dec.{eqb}
+use lib.ListN.{length, getD, length-take}
+use Rattle.ground.specs.Cases.{pick}
+use Rattle.player_state.specs.declared.Player.{Player}
+use Rattle.player_values.specs.Values.{wordOctets, titleValue, durationValue, positionValue, opcodesValue, valueOf}
+
+pub word-long : (w : ℕ) → length (wordOctets w) ≡ 4
+unfolding wordOctets
+word-long w = refl
+
+-- a number is told by its lowest octet and the rest
+by-octet : (a b : ℕ) → a % 256 ≡ b % 256 → a / 256 ≡ b / 256 → a ≡ b
+by-octet a b e f = omega arith
+
+last-octet : (a b : ℕ) → a < 256 → b < 256 → a % 256 ≡ b % 256 → a ≡ b
+last-octet a b h k e = omega arith
+
+-- the octets of a word tell it
+pub word-apart : (a b : ℕ) → a < 2 ^ 32 → b < 2 ^ 32 → wordOctets a ≡ wordOctets b → a ≡ b
+unfolding wordOctets
+word-apart a b h k e =
+    let d : a / 16777216 ≡ b / 16777216 = last-octet (a / 16777216) (b / 16777216) (omega arith) (omega arith) (ap (λ (l : List ℕ). getD l 3 0) e) in
+    let c : a / 65536 ≡ b / 65536 = by-octet (a / 65536) (b / 65536) (ap (λ (l : List ℕ). getD l 2 0) e) (wider a ∙ d ∙ sym (wider b)) in
+    by-octet a b (ap (λ (l : List ℕ). getD l 0 0) e)
+    (by-octet (a / 256) (b / 256) (ap (λ (l : List ℕ). getD l 1 0) e) (wide a ∙ c ∙ sym (wide b)))
+  where
+    wide : (x : ℕ) → x / 256 / 256 ≡ x / 65536
+    wide x = omega arith
+
+    wider : (x : ℕ) → x / 65536 / 256 ≡ x / 16777216
+    wider x = omega arith
+
+module _ (tracks text : List ℕ) (p : Player) where
+  pub long-4 : length (valueOf tracks text p 4) ≡ 0
+  unfolding valueOf
+  long-4 = refl
+
+  pub long-6 : length (valueOf tracks text p 6) ≡ 4
+  unfolding valueOf durationValue
+  long-6 = word-long _
+
+  pub long-7 : length (valueOf tracks text p 7) ≡ 4
+  unfolding valueOf positionValue
+  long-7 = word-long _
+
+  pub long-8 : length (valueOf tracks text p 8) ≡ 1
+  unfolding valueOf
+  long-8 = refl
+
+  pub long-9 : length (valueOf tracks text p 9) ≡ 1
+  unfolding valueOf
+  long-9 = refl
+
+  pub long-15 : length (valueOf tracks text p 15) ≡ 1
+  unfolding valueOf
+  long-15 = refl
+
+  pub long-16 : length (valueOf tracks text p 16) ≡ 2
+  unfolding valueOf
+  long-16 = refl
+
+  pub long-17 : length (valueOf tracks text p 17) ≡ 1
+  unfolding valueOf
+  long-17 = refl
+
+  pub long-18 : length (valueOf tracks text p 18) ≡ 0
+  unfolding valueOf
+  long-18 = refl
+
+  pub long-19 : length (valueOf tracks text p 19) ≡ 4
+  unfolding valueOf opcodesValue
+  long-19 = word-long _
+
+  pub long-22 : length (valueOf tracks text p 22) ≡ 1
+  unfolding valueOf
+  long-22 = refl
+
+  -- a number that is none of those with a value has none
+  pub value-none : (c : ℕ) → (c ≡ 1 → ⊥) → (c ≡ 5 → ⊥) → (c ≡ 6 → ⊥) → (c ≡ 7 → ⊥) → (c ≡ 8 → ⊥) → (c ≡ 9 → ⊥) → (c ≡ 15 → ⊥) → (c ≡ 16 → ⊥) → (c ≡ 17 → ⊥)
+      → (c ≡ 19 → ⊥) → (c ≡ 22 → ⊥) → valueOf tracks text p c ≡ []
+  unfolding valueOf
+  value-none c a b d e f g h i j k l =
+      rw (ne-eqb c 1 a, ne-eqb c 5 b, ne-eqb c 6 d, ne-eqb c 7 e, ne-eqb c 8 f, ne-eqb c 9 g, ne-eqb c 15 h, ne-eqb c 16 i, ne-eqb c 17 j, ne-eqb c 19 k, ne-eqb c 22 l)
+
+  -- none has more than 128 octets, where the name and the title have not
+  pub value-short : p .name .len ≤ 128 → length (titleValue tracks text p) ≤ 128 → (c : ℕ) → length (valueOf tracks text p c) ≤ 128
+  unfolding valueOf durationValue positionValue opcodesValue
+  value-short n t c =
+      short (eqb c 1) _ _ (simp length-take (omega arith))
+      (short (eqb c 5) _ _ t
+      (short (eqb c 6) _ _ (word-short _)
+      (short (eqb c 7) _ _ (word-short _)
+      (short (eqb c 8) _ _ (omega arith)
+      (short (eqb c 9) _ _ (omega arith)
+      (short (eqb c 15) _ _ (omega arith)
+      (short (eqb c 16) _ _ (omega arith)
+      (short (eqb c 17) _ _ (omega arith)
+      (short (eqb c 19) _ _ (word-short _)
+      (short (eqb c 22) _ _ (omega arith) (omega arith)))))))))))
+    where
+      short : (u : Bool) (a b : List ℕ) → length a ≤ 128 → length b ≤ 128 → length (pick u a b) ≤ 128
+      short true a b h k = h
+      short false a b h k = k
+
+      word-short : (w : ℕ) → length (wordOctets w) ≤ 128
+      word-short w = rw (word-long w) (omega arith)
+
+-- what depends on the player alone
+module _ (tracks text tracks′ text′ : List ℕ) (p : Player) where
+  pub alone-1 : valueOf tracks text p 1 ≡ valueOf tracks′ text′ p 1
+  unfolding valueOf
+  alone-1 = refl
+
+  pub alone-8 : valueOf tracks text p 8 ≡ valueOf tracks′ text′ p 8
+  unfolding valueOf
+  alone-8 = refl
+
+  pub alone-9 : valueOf tracks text p 9 ≡ valueOf tracks′ text′ p 9
+  unfolding valueOf
+  alone-9 = refl
+
+  pub alone-15 : valueOf tracks text p 15 ≡ valueOf tracks′ text′ p 15
+  unfolding valueOf
+  alone-15 = refl
+
+  pub alone-16 : valueOf tracks text p 16 ≡ valueOf tracks′ text′ p 16
+  unfolding valueOf
+  alone-16 = refl
+
+  pub alone-17 : valueOf tracks text p 17 ≡ valueOf tracks′ text′ p 17
+  unfolding valueOf
+  alone-17 = refl
+
+  pub alone-19 : valueOf tracks text p 19 ≡ valueOf tracks′ text′ p 19
+  unfolding valueOf
+  alone-19 = refl
+
+  pub alone-22 : valueOf tracks text p 22 ≡ valueOf tracks′ text′ p 22
+  unfolding valueOf
+  alone-22 = refl

@@ -1,0 +1,4 @@
+-- The laws that belong to no one function.
+pub mod Laws
+pub mod Fits
+pub mod Parts

@@ -1,0 +1,162 @@
+// The values of the characteristics, written over the front of lent octets; and a value on its way out: held, and then a part of it put over the front
+// of lent octets.
+ghost use mathlib.Core.Path.{_≡_};
+ghost use Prim.Native.Nat.{_≤_, min};
+ghost use mathlib.Core.List.{_∷_, []};
+ghost use lib.ListN.{length, take};
+ghost use Rattle.ground.specs.Lists.{filled};
+ghost use Rattle.player_state.specs.Player.{nameOf};
+ghost use Rattle.player_values.specs.Values.{wordOctets, titleValue, durationValue, positionValue, valueOf};
+ghost use Rattle.player_values.specs.Handing.{heldOf, partFrom};
+
+// What the duration and the position read while there is no current track.
+const MINUS_ONE: u32 = 0xFFFF_FFFF;
+
+// Copies s over the front of out, and says how many octets that are.
+pub fn put(out: &mut [u8], s: &[u8]) -> usize
+    requires { ⌜ length (now s) ≤ length (now out) ⌝ }
+    ensures { λ r. ⌜ r ≡ length (now (s .entry)) ⌝ }
+    ensures { λ _. ⌜ now (out .exit) ≡ filled (now (s .entry)) (now (out .entry)) ⌝ }
+{
+    let mut i: usize = 0;
+    while i < s.len() {
+        out[i] = s[i];
+        i += 1;
+    }
+    i
+}
+
+fn put_octet(out: &mut [u8], x: u8) -> usize
+    requires { ⌜ 128 ≤ length (now out) ⌝ }
+    ensures { λ r. ⌜ r ≡ 1 ⌝ }
+    ensures { λ _. ⌜ now (out .exit) ≡ filled (x ∷ []) (now (out .entry)) ⌝ }
+{
+    let octets = [x];
+    put(out, &octets)
+}
+
+fn put_word(out: &mut [u8], w: u32) -> usize
+    requires { ⌜ 128 ≤ length (now out) ⌝ }
+    ensures { λ r. ⌜ r ≡ 4 ⌝ }
+    ensures { λ _. ⌜ now (out .exit) ≡ filled (wordOctets w) (now (out .entry)) ⌝ }
+{
+    let a = (w % 256) as u8;
+    let b = (w / 256 % 256) as u8;
+    let c = (w / 65536 % 256) as u8;
+    let d = (w / 16777216 % 256) as u8;
+    let octets = [a, b, c, d];
+    put(out, &octets)
+}
+
+fn put_name(out: &mut [u8], p: player_state::Player) -> usize
+    requires { ⌜ 128 ≤ length (now out) ⌝ }
+    requires { ⌜ p .name .len ≤ 128 ⌝ }
+    ensures { λ r. ⌜ r ≡ length (nameOf p) ⌝ }
+    ensures { λ _. ⌜ now (out .exit) ≡ filled (nameOf p) (now (out .entry)) ⌝ }
+{
+    let octets = p.name.octets;
+    let n = p.name.len as usize;
+    put(out, &octets[0..n])
+}
+
+fn put_title(out: &mut [u8], tracks: &[u32], text: &[u8], p: player_state::Player) -> usize
+    requires { ⌜ 128 ≤ length (now out) ⌝ }
+    requires { ⌜ length (titleValue (now tracks) (now text) p) ≤ 128 ⌝ }
+    ensures { λ r. ⌜ r ≡ length (titleValue (now (tracks .entry)) (now (text .entry)) p) ⌝ }
+    ensures { λ _. ⌜ now (out .exit) ≡ filled (titleValue (now (tracks .entry)) (now (text .entry)) p) (now (out .entry)) ⌝ }
+{
+    if p.mode.media == 0 {
+        return 0;
+    }
+    let title = catalogue_tables::title(tracks, text, p.place.track);
+    put(out, title)
+}
+
+pub fn duration_word(tracks: &[u32], p: player_state::Player) -> u32
+    ensures { λ r. ⌜ wordOctets r ≡ durationValue (now (tracks .entry)) p ⌝ }
+{
+    if p.mode.media == 0 {
+        return MINUS_ONE;
+    }
+    let d = catalogue_tables::duration(tracks, p.place.track);
+    d.0
+}
+
+pub fn position_word(p: player_state::Player) -> u32
+    ensures { λ r. ⌜ wordOctets r ≡ positionValue p ⌝ }
+{
+    if p.mode.media == 0 {
+        return MINUS_ONE;
+    }
+    p.place.position.0
+}
+
+// The value of a characteristic, over the front of out; none of 4, of 18 and of what is no characteristic.
+pub fn value(out: &mut [u8], tracks: &[u32], text: &[u8], p: player_state::Player, c: u32) -> usize
+    requires { ⌜ 128 ≤ length (now out) ⌝ }
+    requires { ⌜ p .name .len ≤ 128 ⌝ }
+    requires { ⌜ length (titleValue (now tracks) (now text) p) ≤ 128 ⌝ }
+    ensures { λ r. ⌜ r ≡ length (valueOf (now (tracks .entry)) (now (text .entry)) p c) ⌝ }
+    ensures { λ _. ⌜ now (out .exit) ≡ filled (valueOf (now (tracks .entry)) (now (text .entry)) p c) (now (out .entry)) ⌝ }
+{
+    match c {
+        1 => put_name(out, p),
+        5 => put_title(out, tracks, text, p),
+        6 => put_word(out, duration_word(tracks, p)),
+        7 => put_word(out, position_word(p)),
+        8 => put_octet(out, p.mode.speed),
+        9 => put_octet(out, p.mode.seeking),
+        15 => put_octet(out, p.mode.order),
+        16 => {
+            let octets = [0xFF, 0x00];
+            put(out, &octets)
+        }
+        17 => put_octet(out, p.mode.media),
+        19 => put_word(out, p.offer.mask % 2097152),
+        22 => put_octet(out, p.offer.ccid),
+        _ => 0,
+    }
+}
+
+// A value: the first `len` of its octets.
+pub struct Held {
+    pub octets: [u8; 128],
+    pub len: usize,
+}
+
+// The value of a characteristic.
+pub fn hold(tracks: &[u32], text: &[u8], p: player_state::Player, c: u32) -> Held
+    requires { ⌜ p .name .len ≤ 128 ⌝ }
+    requires { ⌜ length (titleValue (now tracks) (now text) p) ≤ 128 ⌝ }
+    ensures { λ r. ⌜ r ≡ heldOf (valueOf (now (tracks .entry)) (now (text .entry)) p c) ⌝ }
+{
+    let mut octets = [0u8; 128];
+    let n = value(&mut octets, tracks, text, p, c);
+    Held {
+        octets: octets,
+        len: n,
+    }
+}
+
+fn lesser(a: usize, b: usize) -> usize
+    ensures { λ r. ⌜ r ≡ min a b ⌝ }
+{
+    if a < b {
+        return a;
+    }
+    b
+}
+
+// The octets of a held value from a place on, at most so many, over the front of out; how many they are.
+pub fn hand(out: &mut [u8], h: Held, from: usize, most: usize) -> usize
+    requires { ⌜ 128 ≤ length (now out) ⌝ }
+    requires { ⌜ (from ≤ h .len) × (h .len ≤ 128) ⌝ }
+    ensures { λ r. ⌜ r ≡ length (partFrom from most (take (h .len) (h .octets))) ⌝ }
+    ensures { λ _. ⌜ now (out .exit) ≡ filled (partFrom from most (take (h .len) (h .octets))) (now (out .entry)) ⌝ }
+{
+    let rest = h.len - from;
+    let n = lesser(most, rest);
+    let to = from + n;
+    let octets = h.octets;
+    put(out, &octets[from..to])
+}

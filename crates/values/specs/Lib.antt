@@ -1,2 +1,0 @@
--- The values of the characteristics.
-pub mod Values
