@@ -81,6 +81,7 @@ static void damage(ref_state *s, uint32_t who, uint32_t part, uint32_t number)
     case 5: s->track = number; break;
     case 6: s->position = number; break;
     case 7: s->name_len = number; break;
+    case 8: s->name[0] = (uint8_t)number; break;
     case 9: s->turn = number; break;
     case 10: r->connected = (uint8_t)number; break;
     case 11: r->encrypted = (uint8_t)number; break;

@@ -1,39 +1,18 @@
-#!/usr/bin/env python3
-"""The vectors of the whole: an office's day with four clients over the sample catalogue of document 01, with the line that each call must give.
-
-    python3 vectors/office.py            writes the files below
-    python3 vectors/office.py --check    compares them, and fails on a difference
-
-    crates/office/stdin    the script, framed
-    crates/office/stdout   its lines
+"""The office's day: the calls of four clients over the sample catalogue of document 01, which vectors/script.py puts first.
 
 Each call has its answer, the state of the player that it leaves and what falls due by it to whom beside it, worked out by hand from document 01.
-The state of the player is written
-
-    media state, playing order, playback speed, seeking speed | group, track, position
-
-and stays as it is where a call is refused or is one that does not touch the player. What falls due is written as characteristics behind the client:
-'left 17 18; screen 17'. A line ends with each client, as 'ATT_MTU: subscribed; owed; waiting results', or '-' while it is unconnected. Of these the
-script keeps the sums only: what fell due is added to what is owed, what a take hands out (or an unsubscribe drops) leaves it, and `seen` holds them to
-what was worked out by hand.
+vectors/calls.py says how they are written.
 
 A comment in quotation marks is a sentence of document 01.
 """
-import struct
-import sys
-
-from vector_files import write_or_compare_script
-
-# The catalogues of the program: document 01's sample; the same with long titles; one whose group 3 is its own parent; one whose groups end inside a
-# record.
-SAMPLE, LONG, OWN_PARENT, CUT = range(4)
-
-(NOTE, START, SET_NAME, ACTIVATE, DEACTIVATE, ADVANCE, CONNECT, DISCONNECT, SUBSCRIBE, UNSUBSCRIBE, READ, WRITE, TAKE, DAMAGE) = range(14)
-
-# The four clients.
-LEFT, RIGHT, HEADSET, SCREEN = range(4)
-CLIENTS = ('left', 'right', 'headset', 'screen')
-ENCRYPTED, OPEN = 1, 0
+from calls import (
+    ALL, CODE, CONNECTED, CUT, ENCRYPTED, ENCRYPTION, FIRST_GROUP, FIRST_SEGMENT, FIRST_TRACK, FORWARD, FRESH, GOTO_GROUP, GOTO_SEGMENT, GOTO_TRACK,
+    GROUP, HEADSET, LAST_GROUP, LAST_SEGMENT, LAST_TRACK, LEFT, LONG, LONGEST, MARK, MEDIA, MTU, NAME_LENGTH, NEXT_GROUP, NEXT_SEGMENT, NEXT_TRACK,
+    OPEN, OWED, OWN_PARENT, PAUSE, PLACE, PLAY, PLAYING_ORDER, PREVIOUS_GROUP, PREVIOUS_SEGMENT, PREVIOUS_TRACK, RELATIVE, REWIND, RIGHT, SAMPLE,
+    SCREEN, SEEKING_SPEED, STOP, SUBSCRIBED, TRACK, TURN, WAITING,
+    activate, advance, case, connect, control, damage, deactivate, disconnect, octets, read, seen, set_name, start, subscribe, take, unsubscribe, word,
+    write,
+)
 
 # "The ten slots 1, 4, 5, 6, 7, 8, 9, 15, 17, 18 may be subscribed to."
 SLOTS = (1, 4, 5, 6, 7, 8, 9, 15, 17, 18)
@@ -42,182 +21,11 @@ SLOTS = (1, 4, 5, 6, 7, 8, 9, 15, 17, 18)
 THIRTEEN = (1, 4, 5, 6, 7, 8, 9, 15, 16, 17, 18, 19, 22)
 OTHERS = (0, 2, 3, 10, 11, 12, 13, 14, 20, 21, 23, 24, 33, 36, 39, 50, 128, 255)
 
-PLAY, PAUSE, REWIND, FORWARD, STOP, RELATIVE = 0x01, 0x02, 0x03, 0x04, 0x05, 0x10
-PREVIOUS_SEGMENT, NEXT_SEGMENT, FIRST_SEGMENT, LAST_SEGMENT, GOTO_SEGMENT = 0x20, 0x21, 0x22, 0x23, 0x24
-PREVIOUS_TRACK, NEXT_TRACK, FIRST_TRACK, LAST_TRACK, GOTO_TRACK = 0x30, 0x31, 0x32, 0x33, 0x34
-PREVIOUS_GROUP, NEXT_GROUP, FIRST_GROUP, LAST_GROUP, GOTO_GROUP = 0x40, 0x41, 0x42, 0x43, 0x44
-ALL = 0x1FFFFF
-LONGEST = 4294967295
-
-# Parts of the state: of the player, the client served last, of a client's record.
-MEDIA, PLAYING_ORDER, SEEKING_SPEED, GROUP, TRACK, PLACE, NAME_LENGTH = range(1, 8)
-TURN = 9
-CONNECTED, ENCRYPTION, MTU, SUBSCRIBED, OWED, FRESH, MARK, WAITING, CODE = range(10, 19)
-
 UEBERFAHRT, RAST, ZIEL = 'Überfahrt'.encode(), b'Rast', b'Ziel'
 # The title of tracks 0 and 1 of the catalogue with long titles, 64 octets; that of track 3 is it twice.
 GESPRAECH = 'Gespräch über die Überfahrt, aufgenommen im Hafen, erste Spur'.encode()
 # A name of 128 octets, whose umlaut stands at 20 and 21.
 LONG_NAME = 'Schreibtisch 4, am Fünffenster, Kanzlei Aydin und Weber, Diktate vom Vormittag, bitte bis zum Abend abschreiben und gut ablegen'.encode()
-
-FRAMES, LINES = [], []
-CASES = [0]
-PLAYER = ['']
-
-
-class Record:
-    """What is seen of a connected client."""
-
-    def __init__(self, mtu):
-        self.mtu, self.subscribed, self.owed, self.waiting = mtu, set(), set(), 0
-
-    def __str__(self):
-        def listed(numbers):
-            return ''.join(' %d' % number for number in sorted(numbers))
-        return '%d:%s;%s; %d' % (self.mtu, listed(self.subscribed), listed(self.owed), self.waiting)
-
-
-RECORDS = [None] * 4
-# What a damaged record shows.
-DAMAGED = [None] * 4
-
-
-def field(who):
-    return DAMAGED[who] or (str(RECORDS[who]) if RECORDS[who] else '-')
-
-
-def frame(catalogue, call, who, octet, number, room, text, line):
-    FRAMES.append(struct.pack('<BBBBIBB', catalogue, call, who, octet & 0xFF, number & 0xFFFFFFFF, room, len(text)) + text)
-    LINES.append(line)
-
-
-def made(call, who, octet, number, text, answer, catalogue, room=128):
-    frame(catalogue, call, who, octet, number, room, text, ' | '.join([answer, PLAYER[0]] + [field(each) for each in range(4)]))
-
-
-def case(name):
-    CASES[0] += 1
-    words = '%d %s' % (CASES[0], name)
-    frame(SAMPLE, NOTE, 0, 0, 0, 0, words.encode('ascii'), '# ' + words)
-
-
-def seen(*fields):
-    """What is seen of the four clients by now, worked out by hand."""
-    assert [field(who) for who in range(4)] == list(fields), (CASES[0], [field(who) for who in range(4)])
-
-
-def becomes(answer, state, owed):
-    """An accepted call leaves a state and makes slots due; a refused one alters nothing."""
-    if answer != 'done':
-        assert state is None and not owed
-        return
-    PLAYER[0] = state
-    for each in filter(None, owed.split('; ')):
-        words = each.split()
-        record = RECORDS[CLIENTS.index(words[0])]
-        numbers = set(map(int, words[1:]))
-        assert numbers <= record.subscribed, (CASES[0], each)
-        record.owed |= numbers
-        record.waiting += 18 in numbers
-
-
-def octets(text):
-    return ''.join(' %02x' % octet for octet in text)
-
-
-def word(number):
-    return struct.pack('<I', number & 0xFFFFFFFF)
-
-
-# ---- The calls
-
-def start(name, mask, ccid, answer, state=None, catalogue=SAMPLE):
-    if answer == 'done':
-        RECORDS[:] = [None] * 4
-    becomes(answer, state, '')
-    made(START, 0, ccid, mask, name, answer, catalogue)
-
-
-def set_name(name, answer, owed='', catalogue=SAMPLE):
-    becomes(answer, PLAYER[0] if answer == 'done' else None, owed)
-    made(SET_NAME, 0, 0, 0, name, answer, catalogue)
-
-
-def activate(group, answer, state=None, owed='', catalogue=SAMPLE):
-    becomes(answer, state, owed)
-    made(ACTIVATE, 0, 0, group, b'', answer, catalogue)
-
-
-def deactivate(answer, state=None, owed='', catalogue=SAMPLE):
-    becomes(answer, state, owed)
-    made(DEACTIVATE, 0, 0, 0, b'', answer, catalogue)
-
-
-def advance(d, answer, state=None, owed='', catalogue=SAMPLE):
-    becomes(answer, state, owed)
-    made(ADVANCE, 0, 0, d, b'', answer, catalogue)
-
-
-def connect(who, mtu, encrypted, answer, catalogue=SAMPLE):
-    if answer == 'done':
-        RECORDS[who] = Record(mtu)
-    made(CONNECT, who, encrypted, mtu, b'', answer, catalogue)
-
-
-def disconnect(who, answer, catalogue=SAMPLE):
-    if answer == 'done':
-        RECORDS[who] = None
-    made(DISCONNECT, who, 0, 0, b'', answer, catalogue)
-
-
-def subscribe(who, characteristic, answer, catalogue=SAMPLE):
-    if answer == 'done':
-        RECORDS[who].subscribed.add(characteristic)
-    made(SUBSCRIBE, who, characteristic, 0, b'', answer, catalogue)
-
-
-def unsubscribe(who, characteristic, answer, catalogue=SAMPLE):
-    if answer == 'done':
-        RECORDS[who].subscribed.discard(characteristic)
-        RECORDS[who].owed.discard(characteristic)
-        if characteristic == 18:
-            RECORDS[who].waiting = 0
-    made(UNSUBSCRIBE, who, characteristic, 0, b'', answer, catalogue)
-
-
-def read(who, characteristic, offset, answer, room=128, catalogue=SAMPLE):
-    made(READ, who, characteristic, offset, b'', answer, catalogue, room)
-
-
-def write(who, characteristic, value, answer, state=None, owed='', catalogue=SAMPLE):
-    becomes(answer, state, owed)
-    made(WRITE, who, characteristic, 0, bytes(value), answer, catalogue)
-
-
-def control(who, opcode, state, owed, number=None, catalogue=SAMPLE):
-    """An accepted control write; its result is seen when it is taken."""
-    write(who, 18, bytes([opcode]) + (b'' if number is None else word(number)), 'done', state, owed, catalogue)
-
-
-def take(answer, room=128, catalogue=SAMPLE):
-    """'left 17 02': the client, the characteristic and its octets; or 'nothing'; or a refusal."""
-    words = answer.split()
-    if words[0] in CLIENTS:
-        who = CLIENTS.index(words[0])
-        record, characteristic = RECORDS[who], int(words[1])
-        if characteristic == 18:
-            record.waiting -= 1
-        if characteristic != 18 or record.waiting == 0:
-            record.owed.remove(characteristic)
-        answer = ' '.join(['take', str(who)] + words[1:])
-    made(TAKE, 0, 0, 0, b'', answer, catalogue, room)
-
-
-def damage(part, number, who=0, shows=None, state=None):
-    """A part of the state becomes anything; `shows` is what is then seen of the client, `state` of the player."""
-    PLAYER[0] = state or PLAYER[0]
-    DAMAGED[who] = shows
-    made(DAMAGE, who, part, number, b'', 'damaged', SAMPLE)
 
 
 def office(left=None, right=None, headset=None, screen=None, catalogue=SAMPLE):
@@ -1731,6 +1539,3 @@ for served in ('1 42', '4', '5 c3 9c 62 65 72 66 61 68 72 74', '6 70 17 00 00', 
         fortieth.append((who, served.split()[0]))
 assert fortieth.index(('left', '18')) == 39
 take('nothing')
-
-
-write_or_compare_script(__doc__, sys.argv[1:], 'office', FRAMES, LINES, CASES[0])

@@ -1,32 +1,18 @@
-#!/usr/bin/env python3
-"""The vectors of the player: a script of calls over the sample catalogue of document 01, with the line that each must give.
+"""The player's cases: calls of one client over the sample catalogue of document 01, which vectors/script.py puts behind the office's day.
 
-    python3 vectors/player.py            writes the files below
-    python3 vectors/player.py --check    compares them, and fails on a difference
-
-    crates/cases/stdin    the script, framed
-    crates/cases/stdout   its lines
-
-Each call has its answer and the state that it leaves beside it, worked out by hand from document 01. The state is written
-
-    media state, playing order, playback speed, seeking speed | group, track, position
+Each call has its answer and the state of the player that it leaves beside it, worked out by hand from document 01. vectors/calls.py says how they are
+written. The client is the left pedal; its ATT_MTU leaves room for every value, and it subscribes to 18 alone, so that nothing falls due but the
+results of its control writes. A position, a speed, an order and an opcode are written, a value is read at offset 0.
 
 A comment in quotation marks is a sentence of document 01.
 """
-import struct
-import sys
-
-from vector_files import write_or_compare_script
-
-# The catalogues of the program: document 01's sample; one whose group 3 is its own parent; one whose groups end inside a record.
-SAMPLE, OWN_PARENT, CUT = 0, 1, 2
-
-NOTE, START, SET_NAME, ACTIVATE, DEACTIVATE, ADVANCE, POSITION, SPEED, ORDER, CONTROL, VALUE, CHECK, DAMAGE = range(13)
-
-PLAY, PAUSE, REWIND, FORWARD, STOP, RELATIVE = 0x01, 0x02, 0x03, 0x04, 0x05, 0x10
-PREVIOUS_SEGMENT, NEXT_SEGMENT, FIRST_SEGMENT, LAST_SEGMENT, GOTO_SEGMENT = 0x20, 0x21, 0x22, 0x23, 0x24
-PREVIOUS_TRACK, NEXT_TRACK, FIRST_TRACK, LAST_TRACK, GOTO_TRACK = 0x30, 0x31, 0x32, 0x33, 0x34
-PREVIOUS_GROUP, NEXT_GROUP, FIRST_GROUP, LAST_GROUP, GOTO_GROUP = 0x40, 0x41, 0x42, 0x43, 0x44
+import calls
+from calls import (
+    ALL, CASES, CUT, ENCRYPTED, FIRST_GROUP, FIRST_SEGMENT, FIRST_TRACK, FORWARD, GOTO_GROUP, GOTO_SEGMENT, GOTO_TRACK, GROUP, LAST_GROUP,
+    LAST_SEGMENT, LAST_TRACK, LEFT, LONGEST, MEDIA, NAME_FIRST, NAME_LENGTH, NEXT_GROUP, NEXT_SEGMENT, NEXT_TRACK, OWN_PARENT, PAUSE, PLACE, PLAY,
+    PLAYER, PLAYING_ORDER, PREVIOUS_GROUP, PREVIOUS_SEGMENT, PREVIOUS_TRACK, RELATIVE, REWIND, SAMPLE, SEEKING_SPEED, STOP, TRACK,
+    activate, advance, case, connect, deactivate, read, start, subscribe, take, word, write,
+)
 
 # "0x01 Play (0), 0x02 Pause (1), 0x03 Fast Rewind (2), 0x04 Fast Forward (3), 0x05 Stop (4), 0x10 Move Relative (5), 0x20–0x24 Previous, Next, First,
 # Last, Goto Segment (6–10), 0x30–0x34 the same of Track (11–15), 0x40–0x44 of Group (16–20)."
@@ -36,85 +22,70 @@ MASK_BITS = {
     0x30: 11, 0x31: 12, 0x32: 13, 0x33: 14, 0x34: 15,
     0x40: 16, 0x41: 17, 0x42: 18, 0x43: 19, 0x44: 20,
 }
-ALL = 0x1FFFFF
 UNKNOWN = (0x00, 0x06, 0x0F, 0x11, 0x1F, 0x25, 0x2F, 0x35, 0x3F, 0x45, 0x50, 0x81, 0xFF)
+# "0x10, 0x24, 0x34, 0x44 carry a signed 32-bit number."
+WITH_NUMBER = (RELATIVE, GOTO_SEGMENT, GOTO_TRACK, GOTO_GROUP)
 
 LEAST, MOST = -2147483648, 2147483647
-LONGEST = 4294967295
-
-# Parts of the state.
-MEDIA, PLAYING_ORDER, SEEKING_SPEED, GROUP, TRACK, PLACE, NAME_LENGTH, NAME_FIRST = range(1, 9)
-
-FRAMES, LINES = [], []
-CASES = [0]
 
 
-def frame(catalogue, call, octet, number, text, line):
-    FRAMES.append(struct.pack('<BBBIB', catalogue, call, octet & 0xFF, number & 0xFFFFFFFF, len(text)) + text)
-    LINES.append(line)
+def attend():
+    """The left pedal connects, and subscribes to the results of its control writes."""
+    connect(LEFT, 517, ENCRYPTED, 'done')
+    subscribe(LEFT, 18, 'done')
 
 
-def made(call, octet, number, text, answer, state, catalogue):
-    frame(catalogue, call, octet, number, text, answer + ' | ' + state)
-
-
-def case(name):
-    CASES[0] += 1
-    words = '%d %s' % (CASES[0], name)
-    frame(SAMPLE, NOTE, 0, 0, words.encode('ascii'), '# ' + words)
-
-
-def start(name, mask, ccid, answer, state, catalogue=SAMPLE):
-    made(START, ccid, mask, name, answer, state, catalogue)
+def stays(state):
+    """The state beside a call that does not touch the player is the one that there was."""
+    assert state == PLAYER[0], (CASES[0], state)
 
 
 def set_name(name, answer, state, catalogue=SAMPLE):
-    made(SET_NAME, 0, 0, name, answer, state, catalogue)
-
-
-def activate(group, answer, state, catalogue=SAMPLE):
-    made(ACTIVATE, 0, group, b'', answer, state, catalogue)
-
-
-def deactivate(answer, state, catalogue=SAMPLE):
-    made(DEACTIVATE, 0, 0, b'', answer, state, catalogue)
-
-
-def advance(d, answer, state, catalogue=SAMPLE):
-    made(ADVANCE, 0, d, b'', answer, state, catalogue)
+    stays(state)
+    calls.set_name(name, answer, catalogue=catalogue)
 
 
 def position(number, answer, state, catalogue=SAMPLE):
-    made(POSITION, 0, number, b'', answer, state, catalogue)
+    write(LEFT, 7, word(number), answer, state, catalogue=catalogue)
 
 
-def speed(octet, answer, state, catalogue=SAMPLE):
-    made(SPEED, octet, 0, b'', answer, state, catalogue)
+def speed(number, answer, state, catalogue=SAMPLE):
+    write(LEFT, 8, [number & 0xFF], answer, state, catalogue=catalogue)
 
 
-def order(octet, answer, state, catalogue=SAMPLE):
-    made(ORDER, octet, 0, b'', answer, state, catalogue)
+def order(number, answer, state, catalogue=SAMPLE):
+    write(LEFT, 15, [number], answer, state, catalogue=catalogue)
 
 
 def control(opcode, answer, state, number=0, catalogue=SAMPLE):
-    made(CONTROL, opcode, number, b'', answer, state, catalogue)
+    """A control write; 'result 1' is the opcode and 1, which the take behind it hands out. The number goes with the opcodes that carry one."""
+    value = bytes([opcode]) + (word(number) if opcode in WITH_NUMBER else b'')
+    if not answer.startswith('result '):
+        write(LEFT, 18, value, answer, state, catalogue=catalogue)
+        return
+    write(LEFT, 18, value, 'done', state, 'left 18', catalogue)
+    take('left 18 %02x %02x' % (opcode, int(answer.split()[1])), catalogue=catalogue)
 
 
 def value(characteristic, answer, state, room=128, catalogue=SAMPLE):
-    made(VALUE, characteristic, room, b'', answer, state, catalogue)
+    stays(state)
+    read(LEFT, characteristic, 0, answer, room, catalogue)
 
 
 def check(answer, state, catalogue=SAMPLE):
-    made(CHECK, 0, 0, b'', answer, state, catalogue)
+    """A take while nothing is owed: it says so, or refuses a wrong state."""
+    stays(state)
+    take(answer, catalogue=catalogue)
 
 
 def damage(part, number, state):
-    made(DAMAGE, part, number, b'', 'damaged', state, SAMPLE)
+    calls.damage(part, number, state=state)
 
 
 def stand(number, track, place):
     """A fresh player, Paused at a place of a track of group 1 in an order."""
     start(b'Radio', ALL, 7, 'done', 'Inactive 3 0 0 | 0 0 0')
+    attend()
     activate(1, 'done', 'Paused 3 0 0 | 1 0 0')
     control(GOTO_TRACK, 'result 1', 'Paused 3 0 0 | 1 %d 0' % track, track + 1)
     order(number, 'done', 'Paused %d 0 0 | 1 %d 0' % (number, track))
@@ -124,6 +95,7 @@ def stand(number, track, place):
 def stand_in_3(number, place):
     """The same in track 3 of group 3."""
     start(b'Radio', ALL, 7, 'done', 'Inactive 3 0 0 | 0 0 0')
+    attend()
     activate(3, 'done', 'Paused 3 0 0 | 3 3 0')
     order(number, 'done', 'Paused %d 0 0 | 3 3 0' % number)
     position(place, 'done', 'Paused %d 0 0 | 3 3 %d' % (number, place))
@@ -585,12 +557,14 @@ control(NEXT_GROUP, 'result 1', 'Playing 3 0 0 | 3 3 0')
 # "First that applies: 2, 3, 4, 1. After 2, 3, 4 the player is as before."
 case('an opcode without a current track')
 start(b'Radio', ALL, 7, 'done', 'Inactive 3 0 0 | 0 0 0')
+attend()
 for opcode in MASK_BITS:
     control(opcode, 'result 3', 'Inactive 3 0 0 | 0 0 0', 1)
 
 # "2 opcode unknown or not in the mask; 3 Inactive"
 case('an unknown opcode')
 start(b'Radio', ALL, 7, 'done', 'Inactive 3 0 0 | 0 0 0')
+attend()
 for opcode in UNKNOWN:
     control(opcode, 'result 2', 'Inactive 3 0 0 | 0 0 0')
 activate(1, 'done', 'Paused 3 0 0 | 1 0 0')
@@ -600,8 +574,10 @@ for opcode in UNKNOWN:
 for opcode in MASK_BITS:
     case('the mask bit of 0x%02X' % opcode)
     start(b'Radio', 1 << MASK_BITS[opcode], 7, 'done', 'Inactive 3 0 0 | 0 0 0')
+    attend()
     control(opcode, 'result 3', 'Inactive 3 0 0 | 0 0 0')
     start(b'Radio', ALL - (1 << MASK_BITS[opcode]), 7, 'done', 'Inactive 3 0 0 | 0 0 0')
+    attend()
     control(opcode, 'result 2', 'Inactive 3 0 0 | 0 0 0')
     activate(1, 'done', 'Paused 3 0 0 | 1 0 0')
     control(opcode, 'result 2', 'Paused 3 0 0 | 1 0 0')
@@ -609,15 +585,18 @@ for opcode in MASK_BITS:
 # "Higher mask bits count as 0."
 case('higher mask bits')
 start(b'Radio', 0xFFE00000, 7, 'done', 'Inactive 3 0 0 | 0 0 0')
-value(19, 'value 4 00 00 00 00', 'Inactive 3 0 0 | 0 0 0')
+attend()
+value(19, 'read 00 00 00 00', 'Inactive 3 0 0 | 0 0 0')
 for opcode in tuple(MASK_BITS) + UNKNOWN:
     control(opcode, 'result 2', 'Inactive 3 0 0 | 0 0 0')
 start(b'Radio', 0xFFFFFFFF, 7, 'done', 'Inactive 3 0 0 | 0 0 0')
-value(19, 'value 4 ff ff 1f 00', 'Inactive 3 0 0 | 0 0 0')
+attend()
+value(19, 'read ff ff 1f 00', 'Inactive 3 0 0 | 0 0 0')
 for opcode in UNKNOWN:
     control(opcode, 'result 2', 'Inactive 3 0 0 | 0 0 0')
 start(b'Radio', 0xFFF21001, 7, 'done', 'Inactive 3 0 0 | 0 0 0')
-value(19, 'value 4 01 10 12 00', 'Inactive 3 0 0 | 0 0 0')
+connect(LEFT, 517, ENCRYPTED, 'done')
+value(19, 'read 01 10 12 00', 'Inactive 3 0 0 | 0 0 0')
 
 
 # ---- Inactive, activation, deactivation
@@ -626,7 +605,8 @@ value(19, 'value 4 01 10 12 00', 'Inactive 3 0 0 | 0 0 0')
 # "Deactivate leaves Inactive, order and playback speed kept."
 case('Inactive')
 start(b'Radio', ALL, 7, 'done', 'Inactive 3 0 0 | 0 0 0')
-check('done', 'Inactive 3 0 0 | 0 0 0')
+attend()
+check('nothing', 'Inactive 3 0 0 | 0 0 0')
 position(0, 'done', 'Inactive 3 0 0 | 0 0 0')
 position(100, 'done', 'Inactive 3 0 0 | 0 0 0')
 position(-1, 'done', 'Inactive 3 0 0 | 0 0 0')
@@ -649,6 +629,7 @@ start(b'Radio', ALL, 7, 'done', 'Inactive 3 0 0 | 0 0 0')
 for number, first in ((1, 0), (2, 0), (3, 0), (4, 0), (5, 1), (6, 1), (7, 0), (8, 0)):
     case('activation in order %d' % number)
     start(b'Radio', ALL, 7, 'done', 'Inactive 3 0 0 | 0 0 0')
+    connect(LEFT, 517, ENCRYPTED, 'done')
     order(number, 'done', 'Inactive %d 0 0 | 0 0 0' % number)
     activate(1, 'done', 'Paused %d 0 0 | 1 %d 0' % (number, first))
     activate(3, 'done', 'Paused %d 0 0 | 3 3 0' % number)
@@ -680,13 +661,14 @@ order(8, 'done', 'Paused 8 0 0 | 1 1 99')
 # "order not 1..8"
 case('orders that are refused')
 start(b'Radio', ALL, 7, 'done', 'Inactive 3 0 0 | 0 0 0')
-order(0, 'refused 19', 'Inactive 3 0 0 | 0 0 0')
-order(9, 'refused 19', 'Inactive 3 0 0 | 0 0 0')
-order(255, 'refused 19', 'Inactive 3 0 0 | 0 0 0')
+connect(LEFT, 517, ENCRYPTED, 'done')
+order(0, 'refused 0x13', 'Inactive 3 0 0 | 0 0 0')
+order(9, 'refused 0x13', 'Inactive 3 0 0 | 0 0 0')
+order(255, 'refused 0x13', 'Inactive 3 0 0 | 0 0 0')
 stand(6, 1, 100)
-order(0, 'refused 19', 'Paused 6 0 0 | 1 1 100')
-order(9, 'refused 19', 'Paused 6 0 0 | 1 1 100')
-order(131, 'refused 19', 'Paused 6 0 0 | 1 1 100')
+order(0, 'refused 0x13', 'Paused 6 0 0 | 1 1 100')
+order(9, 'refused 0x13', 'Paused 6 0 0 | 1 1 100')
+order(131, 'refused 0x13', 'Paused 6 0 0 | 1 1 100')
 
 
 # ---- Advance
@@ -853,60 +835,62 @@ advance(5, 'done', 'Seeking 4 0 -4 | 1 2 0')
 # "Values: 1 and 5 text; 4 empty; 6, 7, 19 four octets; 16 two; 18 two; the rest one."
 case('values while Inactive')
 start(b'Radio', ALL, 7, 'done', 'Inactive 3 0 0 | 0 0 0')
-value(1, 'value 5 52 61 64 69 6f', 'Inactive 3 0 0 | 0 0 0')
-value(5, 'value 0', 'Inactive 3 0 0 | 0 0 0')
-value(6, 'value 4 ff ff ff ff', 'Inactive 3 0 0 | 0 0 0')
-value(7, 'value 4 ff ff ff ff', 'Inactive 3 0 0 | 0 0 0')
-value(8, 'value 1 00', 'Inactive 3 0 0 | 0 0 0')
-value(9, 'value 1 00', 'Inactive 3 0 0 | 0 0 0')
-value(15, 'value 1 03', 'Inactive 3 0 0 | 0 0 0')
-value(16, 'value 2 ff 00', 'Inactive 3 0 0 | 0 0 0')
-value(17, 'value 1 00', 'Inactive 3 0 0 | 0 0 0')
-value(19, 'value 4 ff ff 1f 00', 'Inactive 3 0 0 | 0 0 0')
-value(22, 'value 1 07', 'Inactive 3 0 0 | 0 0 0')
+connect(LEFT, 517, ENCRYPTED, 'done')
+value(1, 'read 52 61 64 69 6f', 'Inactive 3 0 0 | 0 0 0')
+value(5, 'read', 'Inactive 3 0 0 | 0 0 0')
+value(6, 'read ff ff ff ff', 'Inactive 3 0 0 | 0 0 0')
+value(7, 'read ff ff ff ff', 'Inactive 3 0 0 | 0 0 0')
+value(8, 'read 00', 'Inactive 3 0 0 | 0 0 0')
+value(9, 'read 00', 'Inactive 3 0 0 | 0 0 0')
+value(15, 'read 03', 'Inactive 3 0 0 | 0 0 0')
+value(16, 'read ff 00', 'Inactive 3 0 0 | 0 0 0')
+value(17, 'read 00', 'Inactive 3 0 0 | 0 0 0')
+value(19, 'read ff ff 1f 00', 'Inactive 3 0 0 | 0 0 0')
+value(22, 'read 07', 'Inactive 3 0 0 | 0 0 0')
 
 case('values of track 0')
 stand(6, 0, 1501)
 speed(-64, 'done', 'Paused 6 -64 0 | 1 0 1501')
-value(1, 'value 5 52 61 64 69 6f', 'Paused 6 -64 0 | 1 0 1501')
-value(5, 'value 10 c3 9c 62 65 72 66 61 68 72 74', 'Paused 6 -64 0 | 1 0 1501')
-value(6, 'value 4 70 17 00 00', 'Paused 6 -64 0 | 1 0 1501')
-value(7, 'value 4 dd 05 00 00', 'Paused 6 -64 0 | 1 0 1501')
-value(8, 'value 1 c0', 'Paused 6 -64 0 | 1 0 1501')
-value(9, 'value 1 00', 'Paused 6 -64 0 | 1 0 1501')
-value(15, 'value 1 06', 'Paused 6 -64 0 | 1 0 1501')
-value(16, 'value 2 ff 00', 'Paused 6 -64 0 | 1 0 1501')
-value(17, 'value 1 02', 'Paused 6 -64 0 | 1 0 1501')
-value(19, 'value 4 ff ff 1f 00', 'Paused 6 -64 0 | 1 0 1501')
-value(22, 'value 1 07', 'Paused 6 -64 0 | 1 0 1501')
+value(1, 'read 52 61 64 69 6f', 'Paused 6 -64 0 | 1 0 1501')
+value(5, 'read c3 9c 62 65 72 66 61 68 72 74', 'Paused 6 -64 0 | 1 0 1501')
+value(6, 'read 70 17 00 00', 'Paused 6 -64 0 | 1 0 1501')
+value(7, 'read dd 05 00 00', 'Paused 6 -64 0 | 1 0 1501')
+value(8, 'read c0', 'Paused 6 -64 0 | 1 0 1501')
+value(9, 'read 00', 'Paused 6 -64 0 | 1 0 1501')
+value(15, 'read 06', 'Paused 6 -64 0 | 1 0 1501')
+value(16, 'read ff 00', 'Paused 6 -64 0 | 1 0 1501')
+value(17, 'read 02', 'Paused 6 -64 0 | 1 0 1501')
+value(19, 'read ff ff 1f 00', 'Paused 6 -64 0 | 1 0 1501')
+value(22, 'read 07', 'Paused 6 -64 0 | 1 0 1501')
 control(REWIND, 'result 1', 'Seeking 6 -64 -4 | 1 0 1501')
-value(9, 'value 1 fc', 'Seeking 6 -64 -4 | 1 0 1501')
-value(17, 'value 1 03', 'Seeking 6 -64 -4 | 1 0 1501')
+value(9, 'read fc', 'Seeking 6 -64 -4 | 1 0 1501')
+value(17, 'read 03', 'Seeking 6 -64 -4 | 1 0 1501')
 control(PLAY, 'result 1', 'Playing 6 -64 0 | 1 0 1501')
-value(17, 'value 1 01', 'Playing 6 -64 0 | 1 0 1501')
+value(17, 'read 01', 'Playing 6 -64 0 | 1 0 1501')
 
 case('values of the other tracks')
 stand(3, 1, 299)
-value(5, 'value 4 52 61 73 74', 'Paused 3 0 0 | 1 1 299')
-value(6, 'value 4 2c 01 00 00', 'Paused 3 0 0 | 1 1 299')
-value(7, 'value 4 2b 01 00 00', 'Paused 3 0 0 | 1 1 299')
+value(5, 'read 52 61 73 74', 'Paused 3 0 0 | 1 1 299')
+value(6, 'read 2c 01 00 00', 'Paused 3 0 0 | 1 1 299')
+value(7, 'read 2b 01 00 00', 'Paused 3 0 0 | 1 1 299')
 stand(3, 2, 0)
-value(5, 'value 0', 'Paused 3 0 0 | 1 2 0')
-value(6, 'value 4 00 00 00 00', 'Paused 3 0 0 | 1 2 0')
-value(7, 'value 4 00 00 00 00', 'Paused 3 0 0 | 1 2 0')
+value(5, 'read', 'Paused 3 0 0 | 1 2 0')
+value(6, 'read 00 00 00 00', 'Paused 3 0 0 | 1 2 0')
+value(7, 'read 00 00 00 00', 'Paused 3 0 0 | 1 2 0')
 stand_in_3(3, 256)
-value(5, 'value 4 5a 69 65 6c', 'Paused 3 0 0 | 3 3 256')
-value(6, 'value 4 84 03 00 00', 'Paused 3 0 0 | 3 3 256')
-value(7, 'value 4 00 01 00 00', 'Paused 3 0 0 | 3 3 256')
+value(5, 'read 5a 69 65 6c', 'Paused 3 0 0 | 3 3 256')
+value(6, 'read 84 03 00 00', 'Paused 3 0 0 | 3 3 256')
+value(7, 'read 00 01 00 00', 'Paused 3 0 0 | 3 3 256')
 deactivate('done', 'Inactive 3 0 0 | 0 0 0')
-value(5, 'value 0', 'Inactive 3 0 0 | 0 0 0')
-value(7, 'value 4 ff ff ff ff', 'Inactive 3 0 0 | 0 0 0')
+value(5, 'read', 'Inactive 3 0 0 | 0 0 0')
+value(7, 'read ff ff ff ff', 'Inactive 3 0 0 | 0 0 0')
 
 case('another Content Control ID')
 start(b'', 0x00ABCDEF, 255, 'done', 'Inactive 3 0 0 | 0 0 0')
-value(1, 'value 0', 'Inactive 3 0 0 | 0 0 0')
-value(19, 'value 4 ef cd 0b 00', 'Inactive 3 0 0 | 0 0 0')
-value(22, 'value 1 ff', 'Inactive 3 0 0 | 0 0 0')
+connect(LEFT, 517, ENCRYPTED, 'done')
+value(1, 'read', 'Inactive 3 0 0 | 0 0 0')
+value(19, 'read ef cd 0b 00', 'Inactive 3 0 0 | 0 0 0')
+value(22, 'read ff', 'Inactive 3 0 0 | 0 0 0')
 
 # "the lent output of a read or take is under 128 octets"
 case('an output of 127 octets')
@@ -914,7 +898,7 @@ stand(3, 0, 1501)
 for characteristic in (1, 5, 6, 7, 8, 9, 15, 16, 17, 19, 22):
     value(characteristic, 'refused 205', 'Paused 3 0 0 | 1 0 1501', room=127)
 value(7, 'refused 205', 'Paused 3 0 0 | 1 0 1501', room=0)
-value(7, 'value 4 dd 05 00 00', 'Paused 3 0 0 | 1 0 1501', room=128)
+value(7, 'read dd 05 00 00', 'Paused 3 0 0 | 1 0 1501', room=128)
 
 
 # ---- Names
@@ -922,24 +906,25 @@ value(7, 'value 4 dd 05 00 00', 'Paused 3 0 0 | 1 0 1501', room=128)
 # "name over 128 octets or not UTF-8"
 case('names')
 start(b'Radio', ALL, 7, 'done', 'Inactive 3 0 0 | 0 0 0')
+connect(LEFT, 517, ENCRYPTED, 'done')
 set_name(b'a' * 128, 'done', 'Inactive 3 0 0 | 0 0 0')
-value(1, 'value 128' + ' 61' * 128, 'Inactive 3 0 0 | 0 0 0')
+value(1, 'read' + ' 61' * 128, 'Inactive 3 0 0 | 0 0 0')
 set_name(b'a' * 129, 'refused 207', 'Inactive 3 0 0 | 0 0 0')
 set_name(b'a' * 255, 'refused 207', 'Inactive 3 0 0 | 0 0 0')
-value(1, 'value 128' + ' 61' * 128, 'Inactive 3 0 0 | 0 0 0')
+value(1, 'read' + ' 61' * 128, 'Inactive 3 0 0 | 0 0 0')
 set_name(b'\xC3\xA9', 'done', 'Inactive 3 0 0 | 0 0 0')
-value(1, 'value 2 c3 a9', 'Inactive 3 0 0 | 0 0 0')
+value(1, 'read c3 a9', 'Inactive 3 0 0 | 0 0 0')
 set_name(b'\xC3\xA9' * 64 + b'a', 'refused 207', 'Inactive 3 0 0 | 0 0 0')
 set_name(b'a\xFF', 'refused 207', 'Inactive 3 0 0 | 0 0 0')
 set_name(b'a\xC3', 'refused 207', 'Inactive 3 0 0 | 0 0 0')
 set_name(b'\xC0\x80', 'refused 207', 'Inactive 3 0 0 | 0 0 0')
 set_name(b'\xED\xA0\x80', 'refused 207', 'Inactive 3 0 0 | 0 0 0')
 set_name(b'\xF4\x90\x80\x80', 'refused 207', 'Inactive 3 0 0 | 0 0 0')
-value(1, 'value 2 c3 a9', 'Inactive 3 0 0 | 0 0 0')
+value(1, 'read c3 a9', 'Inactive 3 0 0 | 0 0 0')
 set_name(b'\xC3\xA9' * 64, 'done', 'Inactive 3 0 0 | 0 0 0')
-value(1, 'value 128' + ' c3 a9' * 64, 'Inactive 3 0 0 | 0 0 0')
+value(1, 'read' + ' c3 a9' * 64, 'Inactive 3 0 0 | 0 0 0')
 set_name(b'', 'done', 'Inactive 3 0 0 | 0 0 0')
-value(1, 'value 0', 'Inactive 3 0 0 | 0 0 0')
+value(1, 'read', 'Inactive 3 0 0 | 0 0 0')
 
 case('a name is kept and keeps the rest')
 stand(7, 1, 100)
@@ -949,7 +934,7 @@ set_name(b'Box', 'done', 'Seeking 7 3 4 | 1 1 100')
 set_name(b'\x80', 'refused 207', 'Seeking 7 3 4 | 1 1 100')
 control(NEXT_GROUP, 'result 1', 'Playing 7 3 0 | 3 3 0')
 deactivate('done', 'Inactive 7 3 0 | 0 0 0')
-value(1, 'value 3 42 6f 78', 'Inactive 7 3 0 | 0 0 0')
+value(1, 'read 42 6f 78', 'Inactive 7 3 0 | 0 0 0')
 
 # A refused start leaves the state that there was.
 case('a start with a wrong name')
@@ -957,8 +942,9 @@ stand(7, 1, 100)
 start(b'a' * 129, ALL, 7, 'refused 207', 'Paused 7 0 0 | 1 1 100')
 start(b'\xE2\x82', ALL, 7, 'refused 207', 'Paused 7 0 0 | 1 1 100')
 start(b'a' * 128, ALL, 9, 'done', 'Inactive 3 0 0 | 0 0 0')
-value(1, 'value 128' + ' 61' * 128, 'Inactive 3 0 0 | 0 0 0')
-value(22, 'value 1 09', 'Inactive 3 0 0 | 0 0 0')
+connect(LEFT, 517, ENCRYPTED, 'done')
+value(1, 'read' + ' 61' * 128, 'Inactive 3 0 0 | 0 0 0')
+value(22, 'read 09', 'Inactive 3 0 0 | 0 0 0')
 
 
 # ---- Refusals: "A refusal returns its number alone and alters nothing."; "Several at once: the first in the table."
@@ -970,9 +956,9 @@ for catalogue in (OWN_PARENT, CUT):
     control(PLAY, 'result 1', 'Playing 3 0 0 | 1 1 100')
     start(b'Radio', ALL, 7, 'refused 200', 'Playing 3 0 0 | 1 1 100', catalogue)
     set_name(b'Box', 'refused 200', 'Playing 3 0 0 | 1 1 100', catalogue)
-    activate(1, 'refused 200', 'Playing 3 0 0 | 1 1 100', catalogue)
-    deactivate('refused 200', 'Playing 3 0 0 | 1 1 100', catalogue)
-    advance(10, 'refused 200', 'Playing 3 0 0 | 1 1 100', catalogue)
+    activate(1, 'refused 200', 'Playing 3 0 0 | 1 1 100', catalogue=catalogue)
+    deactivate('refused 200', 'Playing 3 0 0 | 1 1 100', catalogue=catalogue)
+    advance(10, 'refused 200', 'Playing 3 0 0 | 1 1 100', catalogue=catalogue)
     position(10, 'refused 200', 'Playing 3 0 0 | 1 1 100', catalogue)
     speed(10, 'refused 200', 'Playing 3 0 0 | 1 1 100', catalogue)
     order(4, 'refused 200', 'Playing 3 0 0 | 1 1 100', catalogue)
@@ -983,7 +969,7 @@ for catalogue in (OWN_PARENT, CUT):
     value(7, 'refused 200', 'Playing 3 0 0 | 1 1 100', 127, catalogue)
     start(b'\xFF', ALL, 7, 'refused 200', 'Playing 3 0 0 | 1 1 100', catalogue)
     set_name(b'\xFF', 'refused 200', 'Playing 3 0 0 | 1 1 100', catalogue)
-    activate(9, 'refused 200', 'Playing 3 0 0 | 1 1 100', catalogue)
+    activate(9, 'refused 200', 'Playing 3 0 0 | 1 1 100', catalogue=catalogue)
     order(0, 'refused 200', 'Playing 3 0 0 | 1 1 100', catalogue)
     control(0xFF, 'refused 200', 'Playing 3 0 0 | 1 1 100', catalogue=catalogue)
     # 200 before 201.
@@ -1021,7 +1007,7 @@ for group in (0, 2, 3, 4, 9, LONGEST):
     damage(GROUP, group, 'Paused 3 0 0 | %d 0 1500' % group)
     check('refused 201', 'Paused 3 0 0 | %d 0 1500' % group)
 damage(GROUP, 1, 'Paused 3 0 0 | 1 0 1500')
-check('done', 'Paused 3 0 0 | 1 0 1500')
+check('nothing', 'Paused 3 0 0 | 1 0 1500')
 
 case('a wrong track')
 stand(3, 0, 0)
@@ -1029,7 +1015,7 @@ for track in (3, 4, 256, LONGEST):
     damage(TRACK, track, 'Paused 3 0 0 | 1 %d 0' % track)
     check('refused 201', 'Paused 3 0 0 | 1 %d 0' % track)
 damage(TRACK, 2, 'Paused 3 0 0 | 1 2 0')
-check('done', 'Paused 3 0 0 | 1 2 0')
+check('nothing', 'Paused 3 0 0 | 1 2 0')
 stand_in_3(3, 0)
 damage(TRACK, 2, 'Paused 3 0 0 | 3 2 0')
 check('refused 201', 'Paused 3 0 0 | 3 2 0')
@@ -1038,7 +1024,7 @@ check('refused 201', 'Paused 3 0 0 | 3 2 0')
 case('a wrong position')
 stand(3, 1, 0)
 damage(PLACE, 300, 'Paused 3 0 0 | 1 1 300')
-check('done', 'Paused 3 0 0 | 1 1 300')
+check('nothing', 'Paused 3 0 0 | 1 1 300')
 damage(PLACE, 301, 'Paused 3 0 0 | 1 1 301')
 check('refused 201', 'Paused 3 0 0 | 1 1 301')
 damage(PLACE, LONGEST, 'Paused 3 0 0 | 1 1 4294967295')
@@ -1053,7 +1039,7 @@ stand(3, 0, 0)
 damage(MEDIA, 0, 'Inactive 3 0 0 | 1 0 0')
 check('refused 201', 'Inactive 3 0 0 | 1 0 0')
 damage(MEDIA, 1, 'Playing 3 0 0 | 1 0 0')
-check('done', 'Playing 3 0 0 | 1 0 0')
+check('nothing', 'Playing 3 0 0 | 1 0 0')
 damage(MEDIA, 4, '4 3 0 0 | 1 0 0')
 check('refused 201', '4 3 0 0 | 1 0 0')
 damage(MEDIA, 255, '255 3 0 0 | 1 0 0')
@@ -1073,7 +1059,7 @@ damage(TRACK, 0, 'Inactive 3 0 0 | 0 0 0')
 damage(PLACE, 1, 'Inactive 3 0 0 | 0 0 1')
 check('refused 201', 'Inactive 3 0 0 | 0 0 1')
 damage(PLACE, 0, 'Inactive 3 0 0 | 0 0 0')
-check('done', 'Inactive 3 0 0 | 0 0 0')
+check('nothing', 'Inactive 3 0 0 | 0 0 0')
 
 # "Seeking speed rungs: −32, −16, −8, −4, 4, 8, 16, 32."; "Outside Seeking the speed is 0."
 case('a wrong seeking speed')
@@ -1083,10 +1069,10 @@ check('refused 201', 'Paused 3 0 4 | 1 0 0')
 damage(MEDIA, 1, 'Playing 3 0 4 | 1 0 0')
 check('refused 201', 'Playing 3 0 4 | 1 0 0')
 damage(MEDIA, 3, 'Seeking 3 0 4 | 1 0 0')
-check('done', 'Seeking 3 0 4 | 1 0 0')
+check('nothing', 'Seeking 3 0 4 | 1 0 0')
 for rung in (-32, -16, -8, -4, 4, 8, 16, 32):
     damage(SEEKING_SPEED, rung, 'Seeking 3 0 %d | 1 0 0' % rung)
-    check('done', 'Seeking 3 0 %d | 1 0 0' % rung)
+    check('nothing', 'Seeking 3 0 %d | 1 0 0' % rung)
 for other in (0, 1, 2, 5, 31, 64, 127, -1, -2, -3, -5, -31, -33, -64, -128):
     damage(SEEKING_SPEED, other, 'Seeking 3 0 %d | 1 0 0' % other)
     check('refused 201', 'Seeking 3 0 %d | 1 0 0' % other)
@@ -1098,7 +1084,7 @@ case('a wrong order')
 stand(3, 0, 0)
 for number in (1, 2, 3, 4, 5, 6, 7, 8):
     damage(PLAYING_ORDER, number, 'Paused %d 0 0 | 1 0 0' % number)
-    check('done', 'Paused %d 0 0 | 1 0 0' % number)
+    check('nothing', 'Paused %d 0 0 | 1 0 0' % number)
 for number in (0, 9, 255):
     damage(PLAYING_ORDER, number, 'Paused %d 0 0 | 1 0 0' % number)
     check('refused 201', 'Paused %d 0 0 | 1 0 0' % number)
@@ -1110,13 +1096,13 @@ check('refused 201', 'Inactive 0 0 0 | 0 0 0')
 case('a wrong name')
 stand(3, 0, 0)
 damage(NAME_LENGTH, 128, 'Paused 3 0 0 | 1 0 0')
-check('done', 'Paused 3 0 0 | 1 0 0')
+check('nothing', 'Paused 3 0 0 | 1 0 0')
 damage(NAME_LENGTH, 129, 'Paused 3 0 0 | 1 0 0')
 check('refused 201', 'Paused 3 0 0 | 1 0 0')
 damage(NAME_LENGTH, 255, 'Paused 3 0 0 | 1 0 0')
 check('refused 201', 'Paused 3 0 0 | 1 0 0')
 damage(NAME_LENGTH, 5, 'Paused 3 0 0 | 1 0 0')
-check('done', 'Paused 3 0 0 | 1 0 0')
+check('nothing', 'Paused 3 0 0 | 1 0 0')
 damage(NAME_FIRST, 0xFF, 'Paused 3 0 0 | 1 0 0')
 check('refused 201', 'Paused 3 0 0 | 1 0 0')
 value(1, 'refused 201', 'Paused 3 0 0 | 1 0 0')
@@ -1124,8 +1110,5 @@ set_name(b'Box', 'refused 201', 'Paused 3 0 0 | 1 0 0')
 damage(NAME_FIRST, 0xC3, 'Paused 3 0 0 | 1 0 0')
 check('refused 201', 'Paused 3 0 0 | 1 0 0')
 damage(NAME_LENGTH, 0, 'Paused 3 0 0 | 1 0 0')
-check('done', 'Paused 3 0 0 | 1 0 0')
-value(1, 'value 0', 'Paused 3 0 0 | 1 0 0')
-
-
-write_or_compare_script(__doc__, sys.argv[1:], 'cases', FRAMES, LINES, CASES[0])
+check('nothing', 'Paused 3 0 0 | 1 0 0')
+value(1, 'read', 'Paused 3 0 0 | 1 0 0')

@@ -26,14 +26,3 @@ def write_or_compare(usage, arguments, files):
             print(name + ' differs')
             differing += 1
     return differing
-
-
-def write_or_compare_script(usage, arguments, crate, frames, lines, cases):
-    """The script of a program, framed, and the lines that it must give; how many cases and calls they are."""
-    differing = write_or_compare(usage, arguments, {
-        'crates/%s/stdin' % crate: b''.join(frames),
-        'crates/%s/stdout' % crate: ''.join(line + '\n' for line in lines).encode('ascii'),
-    })
-    print('cases: %d, calls: %d' % (cases, len(lines) - cases))
-    if differing:
-        sys.exit(1)

@@ -1,4 +1,4 @@
-/* The office's day: a framed script of calls.
+/* The office's day and the player's cases: a framed script of calls.
  *
  * A frame: catalogue, call, client, octet, number (four octets, little endian), room, text length, text. The calls are 0 a
  * note, 1 to 12 those of document 01 from start to take, 13 damage to the state. */
@@ -121,7 +121,7 @@ static void damage_step(step *s)
                     {MCS_AT_TRACK, 4},
                     {MCS_AT_POSITION, 4},
                     {MCS_AT_NAME_LENGTH, 1},
-                    {0, 0},
+                    {MCS_AT_NAME, 1},
                     {MCS_AT_TURN, 4}},
       CLIENT[8] = {{MCS_IN_CONNECTED, 1}, {MCS_IN_ENCRYPTED, 1}, {MCS_IN_MTU, 4},  {MCS_IN_SUBSCRIBED, 4},
                    {MCS_IN_OWED, 4},      {MCS_IN_READ, 4},      {MCS_IN_MARK, 4}, {MCS_IN_WAITING, 8}};

@@ -1,6 +1,6 @@
-// Plays an office's day from standard input with the twelve calls on the whole, over the sample catalogue of document 01, and writes a line for each
-// call: its answer; the media state, order and both speeds; the group, track and position; and each of the four clients, as ATT_MTU: subscribed; owed;
-// waiting results, or - while it is unconnected. A ! ends the line where lent octets behind the answer did not stay.
+// Plays a script of the twelve calls on the whole from standard input, over the sample catalogue of document 01, and writes a line for each call: its
+// answer; the media state, order and both speeds; the group, track and position; and each of the four clients, as ATT_MTU: subscribed; owed; waiting
+// results, or - while it is unconnected. A ! ends the line where lent octets behind the answer did not stay.
 // A frame of the script: an octet for the catalogue (0 the sample, 1 the sample with long titles, 2 and 3 wrong ones), one for the call (0 a note, 1 to 12
 // in document 01's order from start to take, 13 damage to the state), one for the client and one for the characteristic, a little endian word that the
 // call takes, an octet for the room of the lent output, one for the length of the text, the text.
@@ -437,6 +437,18 @@ fn with_name_length(p: player_state::Player, len: u8) -> player_state::Player {
     q
 }
 
+fn with_first_octet(p: player_state::Player, first: u8) -> player_state::Player {
+    let mut octets = p.name.octets;
+    octets[0] = first;
+    let name = player_state::Name {
+        octets: octets,
+        len: p.name.len,
+    };
+    let mut q = p;
+    q.name = name;
+    q
+}
+
 // Sets one part of the player to anything.
 fn damage_player(p: player_state::Player, part: u8, number: u32) -> player_state::Player {
     match part {
@@ -457,6 +469,7 @@ fn damage_player(p: player_state::Player, part: u8, number: u32) -> player_state
         ),
         6 => player_state::at_position(p, catalogue_tables::Position(number)),
         7 => with_name_length(p, low(number)),
+        8 => with_first_octet(p, low(number)),
         _ => p,
     }
 }

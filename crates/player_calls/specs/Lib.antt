@@ -1,2 +1,0 @@
--- The calls of the player layer.
-pub mod Calls

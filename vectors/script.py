@@ -1,0 +1,25 @@
+#!/usr/bin/env python3
+"""The script of calls on the whole: the office's day and behind it the player's cases, with the line that each call must give.
+
+    python3 vectors/script.py            writes the files below
+    python3 vectors/script.py --check    compares them, and fails on a difference
+
+    crates/office/stdin    the script, framed
+    crates/office/stdout   its lines
+"""
+import sys
+
+from calls import CASES, FRAMES, LINES
+from vector_files import write_or_compare
+
+# Each of the two adds its calls when it is imported, so their order is that of the script.
+import office  # noqa: F401
+import player  # noqa: F401
+
+differing = write_or_compare(__doc__, sys.argv[1:], {
+    'crates/office/stdin': b''.join(FRAMES),
+    'crates/office/stdout': ''.join(line + '\n' for line in LINES).encode('ascii'),
+})
+print('cases: %d, calls: %d' % (CASES[0], len(LINES) - CASES[0]))
+if differing:
+    sys.exit(1)
