@@ -3,7 +3,7 @@ use mathlib.Core.Path.{_≡_, refl, ap}
 use mathlib.Core.Bool.{true, false, not}
 use mathlib.Core.List.{List, [], _∷_}
 use Prim.Native.Nat.{ℕ}
-use Rattle.ground.specs.Cases.{granted, refused}
+use Rattle.ground.specs.Refusals.{granted, refused}
 use Rattle.ground.proofs.Cases.{past, here}
 use Rattle.card_load.specs.Card.{lengthRule, blocksOf, blocksRule, recordCount}
 use Rattle.card_load.specs.Load.{roomRule, loadSaid}

@@ -4,13 +4,13 @@ use mathlib.Core.List.{List}
 use Prim.Native.Nat.{ℕ}
 use contract.Lifetimes.{Lfts}
 use denote.Ref.{RefT}
-use lib.Dec.{eqb}
 use lib.ListN.{getD}
-use Rattle.ground.specs.Cases.{pick, Said}
+use Rattle.ground.specs.Cases.{pick}
+use Rattle.ground.specs.Refusals.{Said}
 use Rattle.ground.specs.Words.{words}
-use Rattle.ground.proofs.Settled.{table-settled}
+use Rattle.ground.proofs.Settled.{settled-by, refusalAs, refusal-back, table-settled}
 use Rattle.card_load.specs.declared.Loaded.{Loaded}
-use Rattle.card_load.specs.declared.Loaded.the-variants.{Done, BadLength, BadBlock, NoRoom}
+use Rattle.card_load.specs.declared.Loaded.the-variants.{Done, Refused}
 use Rattle.card_load.specs.Card.{blocksOf, gather, octets}
 use Rattle.card_load.specs.Load.{saidOf}
 use Rattle.card_load.proofs.Outcome.{Outcome, Meets}
@@ -19,20 +19,18 @@ use Rattle.card_load.proofs.Outcome.{Outcome, Meets}
 loadedOf : Said → Loaded
 loadedOf said =
     let v = said .values in
-    pick (eqb (said .number) 0)
+    pick (said .isGranted)
     (Done record { groups = getD v 0 0; tracks = getD v 1 0; segments = getD v 2 0; text = getD v 3 0 })
-    (pick (eqb (said .number) 210) BadLength (pick (eqb (said .number) 211) BadBlock NoRoom))
+    (Refused (refusalAs said))
 
 loaded-said : (r : Loaded) → loadedOf (saidOf r) ≡ r
 unfolding loadedOf
 loaded-said (Done c) = refl
-loaded-said BadLength = refl
-loaded-said BadBlock = refl
-loaded-said NoRoom = refl
+loaded-said (Refused r) = ap Refused (refusal-back r)
 
 -- answers that say the same are the same
 pub said-settles : (r₁ r₂ : Loaded) → saidOf r₁ ≡ saidOf r₂ → r₁ ≡ r₂
-said-settles r₁ r₂ e = sym (loaded-said r₁) ∙ ap loadedOf e ∙ loaded-said r₂
+said-settles = settled-by saidOf loadedOf loaded-said
 
 pub load-settled : (κs : Lfts 5) (card groups tracks segments text : RefT (List ℕ)) (o₁ o₂ : Outcome)
     → Meets κs card groups tracks segments text o₁ → Meets κs card groups tracks segments text o₂ → o₁ ≡ o₂

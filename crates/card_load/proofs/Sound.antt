@@ -4,25 +4,19 @@ use mathlib.Core.Bool.{Bool, true, false, _&&_, not}
 use mathlib.Core.List.{List}
 use Prim.Native.Nat.{ℕ, _*_, _/_, _≤_}
 use native.Mathlib.Omega.{arith}
-use borrow.Author.Tests.{leb-true}
+use borrow.Author.Tests.{leb-true, not-false}
 use lib.Dec.{leb}
 use lib.ListN.{length}
-use Rattle.ground.specs.Cases.{Said, granted, refuseIf}
+use Rattle.ground.specs.Refusals.{granted}
 use Rattle.ground.specs.Limits.{mostGroups, mostTracks, mostSegments, mostText}
 use Rattle.ground.specs.Words.{words}
 use Rattle.ground.proofs.Cases.{and-left, and-right}
 use Rattle.card_block.specs.Block.{recordSize}
 use Rattle.card_block.proofs.Records.{records-words, records-octets}
 use Rattle.card_load.specs.Card.{lengthRule, blocksOf, blocksRule, recordCount, gather, octets, CountsFit}
-use Rattle.card_load.specs.Load.{fits, roomRule, loadSaid}
+use Rattle.ground.proofs.Rows.{kept}
+use Rattle.card_load.specs.Load.{fits, roomRule, loadRows, loadSaid}
 use Rattle.card_load.proofs.Lengths.{counts-fit, gather-length}
-
-rules-by : (a b d : Bool) (said : Said)
-    → refuseIf (not a) 210 (refuseIf (not b) 211 (refuseIf (not d) 212 said)) .number ≡ 0 → (b ≡ true) × (d ≡ true)
-rules-by false b d said e = absurd (let z : ⊥ = omega arith in z)
-rules-by true false d said e = absurd (let z : ⊥ = omega arith in z)
-rules-by true true false said e = absurd (let z : ⊥ = omega arith in z)
-rules-by true true true said e = (refl, refl)
 
 -- what the four fills ask
 pub record Sound (card : List ℕ) (groups tracks segments text : ℕ) : Type 0 where
@@ -41,20 +35,22 @@ pub sound : (card : List ℕ) (groups tracks segments text : ℕ) (values : List
 unfolding loadSaid roomRule recordSize
 sound card groups tracks segments text values e =
     let bs = blocksOf card in
-    let p = rules-by (lengthRule card) (blocksRule 0 1 bs) (roomRule bs groups tracks segments text) _ (λ k. sym e k .number) in
+    let p = kept (loadRows card groups tracks segments text) _ (λ k. sym e k .isGranted) in
+    let b : blocksRule 0 1 bs ≡ true = not-false _ (p .1 .0) in
+    let d : roomRule bs groups tracks segments text ≡ true = not-false _ (p .1 .1 .0) in
     let n = length card / 512 in
     let l : n * 512 ≤ length card = omega arith in
-    let f : CountsFit n card = counts-fit n card (p .0) in
+    let f : CountsFit n card = counts-fit n card b in
     let r1 = fits (recordCount 1 bs) mostGroups (groups / 3) in
     let r2 = fits (recordCount 2 bs) mostTracks (tracks / 6) in
     let r3 = fits (recordCount 3 bs) mostSegments segments in
     let r4 = fits (recordCount 4 bs) mostText text in
-    let q3 = and-left (r1 && r2 && r3) r4 (p .1) in
+    let q3 = and-left (r1 && r2 && r3) r4 d in
     let q2 = and-left (r1 && r2) r3 q3 in
     let h1 = fits-room (recordCount 1 bs) mostGroups (groups / 3) (and-left r1 r2 q2) in
     let h2 = fits-room (recordCount 2 bs) mostTracks (tracks / 6) (and-right r1 r2 q2) in
     let h3 = fits-room (recordCount 3 bs) mostSegments segments (and-right (r1 && r2) r3 q3) in
-    let h4 = fits-room (recordCount 4 bs) mostText text (and-right (r1 && r2 && r3) r4 (p .1)) in
+    let h4 = fits-room (recordCount 4 bs) mostText text (and-right (r1 && r2 && r3) r4 d) in
     record {
       long = l;
       fit = f;

@@ -1,8 +1,10 @@
 // The card reader: a card into four lent tables.
 ghost use mathlib.Core.Path.{_≡_};
+ghost use mathlib.Core.List.{[]};
 ghost use Prim.Native.Nat.{_+_, _*_, _≤_};
 ghost use lib.ListN.{length, drop};
 ghost use lib.Seq.{paste};
+ghost use Rattle.ground.specs.Refusals.{refusedWith};
 ghost use Rattle.ground.specs.Lists.{filled, tableAfter};
 ghost use Rattle.ground.specs.Words.{words};
 ghost use Rattle.card_load.specs.Card.{blocks, blocksOf, blocksRule, recordCount, gather, octets, CountsFit};
@@ -18,12 +20,14 @@ pub struct Counts {
 
 pub enum Loaded {
     Done(Counts),
-    // 210: the length is no multiple of 512, or over 65,536.
-    BadLength,
-    // 211: a block breaks a rule.
-    BadBlock,
-    // 212: a limit or a lent table's room is exceeded.
-    NoRoom,
+    Refused(ground::Refusal),
+}
+
+fn refused(number: u32) -> Loaded
+    ensures { λ r. ⌜ saidOf r ≡ refusedWith number [] ⌝ }
+{
+    let r = ground::refuse(number);
+    Loaded::Refused(r)
 }
 
 // Whether all rules of the first n blocks hold.
@@ -149,14 +153,14 @@ fn survey(card: &[u8], groups: usize, tracks: usize, segments: usize, text: usiz
 {
     let len = card.len();
     if len % 512 != 0 {
-        return Loaded::BadLength;
+        return refused(ground::BAD_CARD_LENGTH);
     }
     if 65536 < len {
-        return Loaded::BadLength;
+        return refused(ground::BAD_CARD_LENGTH);
     }
     let n = len / 512;
     if !blocks_right(card, n) {
-        return Loaded::BadBlock;
+        return refused(ground::BAD_BLOCK);
     }
     let g = record_count(card, n, 1);
     let t = record_count(card, n, 2);
@@ -175,7 +179,7 @@ fn survey(card: &[u8], groups: usize, tracks: usize, segments: usize, text: usiz
         };
         return Loaded::Done(counts);
     }
-    Loaded::NoRoom
+    refused(ground::NO_ROOM)
 }
 
 // Card load: fills the front of each lent table and answers the counts, or refuses and leaves the tables as they were.
@@ -194,9 +198,7 @@ pub fn load(
 {
     let v = survey(card, groups.len(), tracks.len(), segments.len(), text.len());
     match v {
-        Loaded::BadLength => Loaded::BadLength,
-        Loaded::BadBlock => Loaded::BadBlock,
-        Loaded::NoRoom => Loaded::NoRoom,
+        Loaded::Refused(r) => Loaded::Refused(r),
         Loaded::Done(c) => {
             let n = card.len() / 512;
             fill_words(groups, card, n, 1);

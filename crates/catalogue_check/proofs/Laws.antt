@@ -10,7 +10,8 @@ use native.Mathlib.Numerals.{add-one}
 use native.Mathlib.Omega.{arith}
 use borrow.Author.Tests.{leb-true}
 use lib.ListN.{length, getD, length-take, length-drop}
-use Rattle.ground.specs.Cases.{Said, pick, granted, refused}
+use Rattle.ground.specs.Cases.{pick}
+use Rattle.ground.specs.Refusals.{Said, granted, refused}
 use Rattle.ground.specs.Limits.{mostGroups, mostTracks, mostSegments, mostText, mostDuration, mostTitle, groupWords, trackWords}
 use Rattle.ground.proofs.Bounded.{all-at}
 use Rattle.ground.proofs.Cases.{and-left, and-right, clash}
@@ -27,20 +28,12 @@ use Rattle.catalogue_rules.proofs.Checked as rule
 
 passes : (t : Bool) → pick (not t) (refused 200) (granted []) ≡ granted [] → t ≡ true
 passes true e = refl
-passes false e = let z : _≡_ {A = ℕ} 200 0 = ap (λ (s : Said). s .number) e in absurd (omega arith)
-
-fails : (t : Bool) → pick (not t) (refused 200) (granted []) ≡ refused 200 → t ≡ false
-fails false e = refl
-fails true e = let z : _≡_ {A = ℕ} 0 200 = ap (λ (s : Said). s .number) e in absurd (omega arith)
+passes false e = clash (ap (λ (s : Said). s .isGranted) e)
 
 -- the check passes exactly when every rule is kept
 pub passed : (k : Tables) → Right k → catalogueRule k ≡ true
 unfolding checkSaid
 passed k right = passes (catalogueRule k) right
-
-pub failed : (k : Tables) → checkSaid k ≡ refused 200 → catalogueRule k ≡ false
-unfolding checkSaid
-failed k wrong = fails (catalogueRule k) wrong
 
 pub is-right : (k : Tables) → catalogueRule k ≡ true → Right k
 unfolding checkSaid

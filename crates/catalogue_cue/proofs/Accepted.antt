@@ -7,11 +7,14 @@ use native.Mathlib.Omega.{arith}
 use borrow.Author.Tests.{ltb-true, ltb-false, eqb-true}
 use lib.Dec.{ltb}
 use lib.ListN.{length, getD}
-use Rattle.ground.specs.Cases.{pick, Said, granted, refusedWith, refuseIf}
+use Rattle.ground.specs.Cases.{pick}
+use Rattle.ground.specs.Refusals.{Said, granted, refused, refusedWith}
+use Rattle.ground.proofs.Cases.{clash}
+use Rattle.catalogue_cue.proofs.Said.{behindOf, cue-said}
 use Rattle.catalogue_cue.specs.declared.Line.{Line}
 use Rattle.catalogue_cue.specs.declared.Line.the-variants.{Start, Passed, NotUnderstood}
-use Rattle.catalogue_cue.specs.Sheet.{mostSheet, sheetLines, startsOf, mayFollow, judged, cueSaid}
-use Rattle.catalogue_cue.specs.Scan.{AllUnderstood}
+use Rattle.catalogue_cue.specs.Sheet.{mostSheet, sheetLines, startsOf, mayFollow, cueSaid}
+use Rattle.catalogue_cue.specs.Scan.{AllUnderstood, judged}
 
 -- each start may follow those before it, of which the last stands first
 abbrev Follow : List ℕ → List ℕ → Type 0
@@ -28,32 +31,32 @@ no : _≡_ {A = ℕ} 0 1 → ⊥
 no e = omega arith
 
 -- a sheet whose lines are granted
-judged-granted : (number : ℕ) (before : List ℕ) (ls : List Line) (behind : Said) → judged number before ls behind .number ≡ 0
+judged-granted : (number : ℕ) (before : List ℕ) (ls : List Line) (behind : Said) → judged number before ls behind .isGranted ≡ true
     → (judged number before ls behind ≡ behind) × Follow before (startsOf ls)
 unfolding judged startsOf
 judged-granted number before [] behind e = (refl, tt)
 judged-granted number before (Passed ∷ ls) behind e = judged-granted (suc number) before ls behind e
-judged-granted number before (NotUnderstood ∷ ls) behind e = absurd (omega arith)
+judged-granted number before (NotUnderstood ∷ ls) behind e = clash e
 judged-granted number before (Start n ∷ ls) behind e = by (mayFollow before n) refl e (judged-granted (suc number) (n ∷ before) ls behind)
   where
-    by : (t : Bool) → mayFollow before n ≡ t → pick t (judged (suc number) (n ∷ before) ls behind) (refusedWith 227 (number ∷ [])) .number ≡ 0
-        → (judged (suc number) (n ∷ before) ls behind .number ≡ 0 → (judged (suc number) (n ∷ before) ls behind ≡ behind) × Follow (n ∷ before) (startsOf ls))
+    by : (t : Bool) → mayFollow before n ≡ t → pick t (judged (suc number) (n ∷ before) ls behind) (refusedWith 227 (number ∷ [])) .isGranted ≡ true
+        → (judged (suc number) (n ∷ before) ls behind .isGranted ≡ true → (judged (suc number) (n ∷ before) ls behind ≡ behind) × Follow (n ∷ before) (startsOf ls))
         → (pick t (judged (suc number) (n ∷ before) ls behind) (refusedWith 227 (number ∷ [])) ≡ behind) × ((mayFollow before n ≡ true) × Follow (n ∷ before) (startsOf ls))
     by true m g k = (k g .0, (m, k g .1))
-    by false m g k = absurd (omega arith)
+    by false m g k = clash g
 
 -- and its lines are understood
-judged-understood : (number : ℕ) (before : List ℕ) (ls : List Line) (behind : Said) → judged number before ls behind .number ≡ 0 → AllUnderstood ls
+judged-understood : (number : ℕ) (before : List ℕ) (ls : List Line) (behind : Said) → judged number before ls behind .isGranted ≡ true → AllUnderstood ls
 unfolding judged understood
 judged-understood number before [] behind e = tt
 judged-understood number before (Passed ∷ ls) behind e = ((λ q. no (λ i. understood (q i))), judged-understood (suc number) before ls behind e)
-judged-understood number before (NotUnderstood ∷ ls) behind e = absurd (omega arith)
+judged-understood number before (NotUnderstood ∷ ls) behind e = clash e
 judged-understood number before (Start n ∷ ls) behind e = ((λ q. no (λ i. understood (q i))), by (mayFollow before n) e (judged-understood (suc number) (n ∷ before) ls behind))
   where
-    by : (t : Bool) → pick t (judged (suc number) (n ∷ before) ls behind) (refusedWith 227 (number ∷ [])) .number ≡ 0
-        → (judged (suc number) (n ∷ before) ls behind .number ≡ 0 → AllUnderstood ls) → AllUnderstood ls
+    by : (t : Bool) → pick t (judged (suc number) (n ∷ before) ls behind) (refusedWith 227 (number ∷ [])) .isGranted ≡ true
+        → (judged (suc number) (n ∷ before) ls behind .isGranted ≡ true → AllUnderstood ls) → AllUnderstood ls
     by true g k = k g
-    by false g k = absurd (omega arith)
+    by false g k = clash g
 
 -- the first is 0, and each other lies above the one before
 pub record Rises (starts : List ℕ) : Type 0 where
@@ -78,23 +81,22 @@ pub record Accepted (sheet : List ℕ) (room : ℕ) : Type 0 where
   pub rises : Rises (startsOf (sheetLines sheet))
   pub understood : AllUnderstood (sheetLines sheet)
 
-pub accepted : (sheet : List ℕ) (room : ℕ) → cueSaid sheet room .number ≡ 0 → Accepted sheet room
-unfolding cueSaid
-accepted sheet room e = by (ltb mostSheet (length sheet)) refl e
+pub accepted : (sheet : List ℕ) (room : ℕ) → cueSaid sheet room .isGranted ≡ true → Accepted sheet room
+accepted sheet room e = by (ltb mostSheet (length sheet)) refl (sym (ap (λ (s : Said). s .isGranted) (cue-said sheet room)) ∙ e)
   where
     starts : List ℕ
     starts = startsOf (sheetLines sheet)
 
     behind : Said
-    behind = refuseIf (ltb room (length starts)) 228 (granted (length starts ∷ []))
+    behind = behindOf sheet room
 
-    last : (t : Bool) → ltb room (length starts) ≡ t → refuseIf t 228 (granted (length starts ∷ [])) .number ≡ 0 → (length starts ≤ room) × (refuseIf t 228 (granted (length starts ∷ [])) ≡ granted (length starts ∷ []))
-    last true m g = absurd (omega arith)
+    last : (t : Bool) → ltb room (length starts) ≡ t → pick t (refused 228) (granted (length starts ∷ [])) .isGranted ≡ true → (length starts ≤ room) × (pick t (refused 228) (granted (length starts ∷ [])) ≡ granted (length starts ∷ []))
+    last true m g = clash g
     last false m g = (ltb-false _ _ m, refl)
 
-    by : (t : Bool) → ltb mostSheet (length sheet) ≡ t → refuseIf t 225 (judged 1 [] (sheetLines sheet) behind) .number ≡ 0 → Accepted sheet room
-    by true m g = absurd (omega arith)
+    by : (t : Bool) → ltb mostSheet (length sheet) ≡ t → pick t (refused 225) (judged 1 [] (sheetLines sheet) behind) .isGranted ≡ true → Accepted sheet room
+    by true m g = clash g
     by false m g =
         let j = judged-granted 1 [] (sheetLines sheet) behind g in
-        let k = last (ltb room (length starts)) refl (sym (ap (λ (s : Said). s .number) (j .0)) ∙ g) in
-        record { short = ltb-false _ _ m; fits = k .0; said = rw m (j .0 ∙ k .1); rises = rising starts (j .1); understood = judged-understood 1 [] (sheetLines sheet) behind g }
+        let k = last (ltb room (length starts)) refl (sym (ap (λ (s : Said). s .isGranted) (j .0)) ∙ g) in
+        record { short = ltb-false _ _ m; fits = k .0; said = cue-said sheet room ∙ rw m (j .0 ∙ k .1); rises = rising starts (j .1); understood = judged-understood 1 [] (sheetLines sheet) behind g }

@@ -8,12 +8,13 @@ use native.Mathlib.Numerals.{add-one}
 use native.Mathlib.Omega.{arith}
 use lib.Dec.{eqb, ltb}
 use lib.ListN.{length, getD}
-use Rattle.ground.specs.Cases.{pick, Said, refusedWith}
+use Rattle.ground.specs.Cases.{pick}
+use Rattle.ground.specs.Refusals.{Said, refusedWith}
 use Rattle.catalogue_cue.specs.declared.Line.{Line}
 use Rattle.catalogue_cue.specs.declared.Line.the-variants.{Start, Passed, NotUnderstood}
 use Rattle.catalogue_cue.specs.declared.Weighed.{Weighed}
-use Rattle.catalogue_cue.specs.Sheet.{lineOf, sheetLines, startsOf, mayFollow, judged}
-use Rattle.catalogue_cue.specs.Scan.{linesFrom, rises, weighedOf}
+use Rattle.catalogue_cue.specs.Sheet.{lineOf, sheetLines, startsOf, mayFollow}
+use Rattle.catalogue_cue.specs.Scan.{linesFrom, rises, weighedOf, judged}
 use Rattle.catalogue_cue.proofs.Lines.{from-zero, from-beyond}
 
 -- none before, or one

@@ -13,3 +13,4 @@ pub mod Small
 pub mod Settled
 pub mod Written
 pub mod Theorems
+pub mod Said

@@ -1,5 +1,5 @@
 -- What reading a sheet says fits a word: there are no more lines than octets, and one more; and no more starts than lines. Assumes nothing.
-use mathlib.Core.Path.{_≡_, refl, ap}
+use mathlib.Core.Path.{_≡_, refl, sym, ap, subst}
 use mathlib.Core.Bool.{Bool, true, false, _&&_}
 use mathlib.Core.List.{List, [], _∷_, map}
 use Prim.Native.Nat.{ℕ, zero, suc, _+_, _≤_, zero-le}
@@ -7,10 +7,13 @@ use native.Mathlib.Omega.{arith}
 use borrow.Author.Tests.{ltb-false}
 use lib.Dec.{eqb, ltb}
 use lib.ListN.{length, getD}
-use Rattle.ground.specs.Cases.{pick, Said, granted, refused, refuseIf}
+use Rattle.ground.specs.Cases.{pick}
+use Rattle.ground.specs.Refusals.{Said, refused}
+use Rattle.catalogue_cue.proofs.Said.{behindOf, cue-said}
 use Rattle.catalogue_cue.specs.declared.Line.{Line}
 use Rattle.catalogue_cue.specs.declared.Line.the-variants.{Start, Passed, NotUnderstood}
-use Rattle.catalogue_cue.specs.Sheet.{mostSheet, lf, cr, onto, lines, lineOf, sheetLines, startsOf, mayFollow, judged, cueSaid}
+use Rattle.catalogue_cue.specs.Scan.{judged}
+use Rattle.catalogue_cue.specs.Sheet.{mostSheet, lf, cr, onto, lines, lineOf, sheetLines, startsOf, mayFollow, cueSaid}
 
 few-onto : (x : ℕ) (ls : List (List ℕ)) → length (onto x ls) ≤ length ls + 1
 few-onto x [] = omega arith
@@ -58,16 +61,15 @@ judged-up-to b number before (Start n ∷ ls) behind h k =
     up-to-by (mayFollow before n) b _ _ (judged-up-to b (suc number) (n ∷ before) ls behind (omega arith) k) (one-up-to b number (omega arith))
 
 pub cue-small : (sheet : List ℕ) (room : ℕ) → UpTo (mostSheet + 1) (cueSaid sheet room)
-unfolding cueSaid
-cue-small sheet room = by (ltb mostSheet (length sheet)) refl
+cue-small sheet room = subst (λ (said : Said). UpTo (mostSheet + 1) said) (sym (cue-said sheet room)) (by (ltb mostSheet (length sheet)) refl)
   where
     few : length sheet ≤ mostSheet → length (sheetLines sheet) ≤ mostSheet + 1
     few h = omega (arith, as-many (lines sheet), few-lines sheet)
 
     behind : Said
-    behind = refuseIf (ltb room (length (startsOf (sheetLines sheet)))) 228 (granted (length (startsOf (sheetLines sheet)) ∷ []))
+    behind = behindOf sheet room
 
-    by : (t : Bool) → ltb mostSheet (length sheet) ≡ t → UpTo (mostSheet + 1) (refuseIf t 225 (judged 1 [] (sheetLines sheet) behind))
+    by : (t : Bool) → ltb mostSheet (length sheet) ≡ t → UpTo (mostSheet + 1) (pick t (refused 225) (judged 1 [] (sheetLines sheet) behind))
     by true e = λ i. zero-le
     by false e =
         let h : length (sheetLines sheet) ≤ mostSheet + 1 = few (ltb-false _ _ e) in

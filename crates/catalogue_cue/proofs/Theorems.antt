@@ -40,7 +40,7 @@ below-last starts r d h i k = by (length starts - 1 - i) i (omega arith)
     by (suc n) j e = omega (arith, r .above j (omega arith), by n (j + 1) (omega arith))
 
 -- "begin at 0, rise strictly and lie below the duration" (document 01, "Card and catalogue", as `catalogue_rules` has it)
-pub may-stand : (sheet : List ℕ) (room : ℕ) → cueSaid sheet room .number ≡ 0
+pub may-stand : (sheet : List ℕ) (room : ℕ) → cueSaid sheet room .isGranted ≡ true
     → (duration : ℕ) → getD (startsOf (sheetLines sheet)) (length (startsOf (sheetLines sheet)) - 1) 0 < duration
     → startsRight (startsOf (sheetLines sheet)) duration ≡ true
 unfolding beginRule riseRule belowRule

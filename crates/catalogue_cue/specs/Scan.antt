@@ -9,6 +9,7 @@ use lib.Dec.{eqb, leb}
 use lib.ListN.{length, getD, drop}
 use Rattle.ground.specs.Cases.{pick}
 use Rattle.ground.specs.Lists.{part}
+use Rattle.ground.specs.Refusals.{Said, refusedWith}
 use Rattle.catalogue_cue.specs.declared.Line.{Line}
 use Rattle.catalogue_cue.specs.declared.Line.the-variants.{Start, Passed, NotUnderstood}
 use Rattle.catalogue_cue.specs.declared.Weighed.{Weighed}
@@ -88,3 +89,11 @@ abbrev pub weighedOf : Line → ℕ → ℕ → Weighed
 weighedOf Passed count last = record { fault = 0; count = count; last = last }
 weighedOf NotUnderstood count last = record { fault = 1; count = count; last = last }
 weighedOf (Start n) count last = record { fault = pick (rises count last n) 0 2; count = count + 1; last = n }
+
+-- what the row of the lines says, line by line; where it does not apply, what stands behind it
+unfoldable pub judged : ℕ → List ℕ → List Line → Said → Said
+judged number before [] behind = behind
+judged number before (Passed ∷ more) behind = judged (suc number) before more behind
+judged number before (NotUnderstood ∷ more) behind = refusedWith 226 (number ∷ [])
+judged number before (Start n ∷ more) behind =
+    pick (mayFollow before n) (judged (suc number) (n ∷ before) more behind) (refusedWith 227 (number ∷ []))

@@ -7,11 +7,12 @@ use Prim.Native.Char.{code}
 use Prim.Native.String.{String, [] as empty, _∷_ as _then_}
 use lib.Dec.{eqb, leb, ltb}
 use lib.ListN.{length, getD}
-use Rattle.ground.specs.Cases.{pick, within, Said, granted, refused, refusedWith, refuseIf}
+use Rattle.ground.specs.Cases.{pick, within}
+use Rattle.ground.specs.Refusals.{Said, granted, refusalOf, Row, row, rowWith, saidThrough}
 use Rattle.catalogue_cue.specs.declared.Line.{Line}
 use Rattle.catalogue_cue.specs.declared.Line.the-variants.{Start, Passed, NotUnderstood}
 use Rattle.catalogue_cue.specs.declared.Cued.{Cued}
-use Rattle.catalogue_cue.specs.declared.Cued.the-variants.{Done, TooLong, BadLine, NotRising, NoRoom}
+use Rattle.catalogue_cue.specs.declared.Cued.the-variants.{Done, Refused}
 
 -- "a cue sheet of at most 65,536 octets"
 abbrev pub mostSheet : ℕ
@@ -117,26 +118,26 @@ abbrev pub mayFollow : List ℕ → ℕ → Bool
 mayFollow [] start = eqb start 0
 mayFollow (last ∷ before) start = ltb last start
 
--- "by lowest line 226 not understood, 227 first start not 0 or not rising", with the line's number; where no line is either, what stands behind
-unfoldable pub judged : ℕ → List ℕ → List Line → Said → Said
-judged number before [] behind = behind
-judged number before (Passed ∷ more) behind = judged (suc number) before more behind
-judged number before (NotUnderstood ∷ more) behind = refusedWith 226 (number ∷ [])
-judged number before (Start n ∷ more) behind =
-    pick (mayFollow before n) (judged (suc number) (n ∷ before) more behind) (refusedWith 227 (number ∷ []))
+-- "by lowest line 226 not understood, 227 first start not 0 or not rising": one row, which carries the lowest line that is either
+unfoldable pub lineRow : ℕ → List ℕ → List Line → Row
+lineRow number before [] = row 226 false
+lineRow number before (Passed ∷ more) = lineRow (suc number) before more
+lineRow number before (NotUnderstood ∷ more) = rowWith 226 (number ∷ []) true
+lineRow number before (Start n ∷ more) = pick (mayFollow before n) (lineRow (suc number) (n ∷ before) more) (rowWith 227 (number ∷ []) true)
 
--- "Refusals: 225 sheet too long; then by lowest line 226 .., 227 ..; then 228 more starts than room", or the number of starts; lines count from 1
+-- "Refusals: 225 sheet too long; then by lowest line 226 .., 227 ..; then 228 more starts than room"; lines count from 1
+abbrev pub cueRows : List ℕ → ℕ → List Row
+cueRows sheet room =
+    row 225 (ltb mostSheet (length sheet))
+    ∷ lineRow 1 [] (sheetLines sheet)
+    ∷ row 228 (ltb room (length (startsOf (sheetLines sheet))))
+    ∷ []
+
+-- or the number of starts
 unfoldable pub cueSaid : List ℕ → ℕ → Said
-cueSaid sheet room =
-    refuseIf (ltb mostSheet (length sheet)) 225
-    (judged 1 [] (sheetLines sheet)
-    (refuseIf (ltb room (length (startsOf (sheetLines sheet)))) 228
-    (granted (length (startsOf (sheetLines sheet)) ∷ []))))
+cueSaid sheet room = saidThrough (cueRows sheet room) (granted (length (startsOf (sheetLines sheet)) ∷ []))
 
 -- the number and the values of each answer
 abbrev pub saidOf : Cued → Said
 saidOf (Done count) = granted (count ∷ [])
-saidOf TooLong = refused 225
-saidOf (BadLine line) = refusedWith 226 (line ∷ [])
-saidOf (NotRising line) = refusedWith 227 (line ∷ [])
-saidOf NoRoom = refused 228
+saidOf (Refused r) = refusalOf r

@@ -17,16 +17,9 @@ pub enum Line {
 }
 
 pub enum Cued {
-    // How many starts there are.
+    // The sheet is read, and has so many starts.
     Done(usize),
-    // 225: over 65,536 octets.
-    TooLong,
-    // 226: this line, counted from 1, is not understood.
-    BadLine(usize),
-    // 227: the start of this line, counted from 1, is the first and not 0, or not above the one before.
-    NotRising(usize),
-    // 228: more starts than room.
-    NoRoom,
+    Refused(ground::Refusal),
 }
 
 // Where the octets of a line end, and where the next line starts.
@@ -448,7 +441,8 @@ fn survey(sheet: &[u8], room: usize) -> Cued
     ensures { λ r. ⌜ saidOf r ≡ cueSaid (now (sheet .entry)) room ⌝ }
 {
     if MOST_SHEET < sheet.len() {
-        return Cued::TooLong;
+        let r = ground::refuse(ground::LONG_SHEET);
+        return Cued::Refused(r);
     }
     let mut at: usize = 0;
     let mut number: usize = 1;
@@ -459,10 +453,12 @@ fn survey(sheet: &[u8], room: usize) -> Cued
         let line = read.line;
         let w = weigh(line, count, last);
         if w.fault == 1 {
-            return Cued::BadLine(number);
+            let r = ground::refuse_at(ground::BAD_LINE, number);
+            return Cued::Refused(r);
         }
         if w.fault == 2 {
-            return Cued::NotRising(number);
+            let r = ground::refuse_at(ground::NOT_RISING, number);
+            return Cued::Refused(r);
         }
         count = w.count;
         last = w.last;
@@ -470,7 +466,8 @@ fn survey(sheet: &[u8], room: usize) -> Cued
         number += 1;
     }
     if room < count {
-        return Cued::NoRoom;
+        let r = ground::refuse(ground::MANY_STARTS);
+        return Cued::Refused(r);
     }
     Cued::Done(count)
 }
@@ -519,9 +516,6 @@ pub fn read(sheet: &[u8], starts: &mut [u32]) -> Cued
             fill(sheet, starts, count);
             Cued::Done(count)
         }
-        Cued::TooLong => Cued::TooLong,
-        Cued::BadLine(line) => Cued::BadLine(line),
-        Cued::NotRising(line) => Cued::NotRising(line),
-        Cued::NoRoom => Cued::NoRoom,
+        Cued::Refused(r) => Cued::Refused(r),
     }
 }

@@ -14,8 +14,14 @@ use Rattle.desk_client.specs.declared.Entry.{Entry}
 use Rattle.desk_client.specs.declared.Client.{Client}
 
 -- "an ATT_MTU against 206": "ATT_MTU not 23..517"
+abbrev pub leastMtu : ℕ
+leastMtu = 23
+
+abbrev pub mostMtu : ℕ
+mostMtu = 517
+
 abbrev pub mtuRight : ℕ → Bool
-mtuRight mtu = within 23 517 mtu
+mtuRight mtu = within leastMtu mostMtu mtu
 
 -- the slot of the control point, 18, stands last in the table
 abbrev pub controlSlot : ℕ
@@ -39,7 +45,7 @@ codesRight waiting results = allBelow waiting (λ i. within 1 4 (getD results i 
 unfoldable pub blankRule : Client → Bool
 blankRule c =
     not (c .encrypted)
-    && eqb (c .mtu) 23
+    && eqb (c .mtu) leastMtu
     && eqb (c .subscribed) 0
     && eqb (c .owed) 0
     && eqb (c .fresh) 0
@@ -74,7 +80,7 @@ startClient =
     record {
       connected = false;
       encrypted = false;
-      mtu = 23;
+      mtu = leastMtu;
       subscribed = 0;
       owed = 0;
       fresh = 0;

@@ -2,7 +2,7 @@
 ghost use mathlib.Core.Path.{_≡_};
 ghost use Prim.Native.Nat.{_≤_, _<_};
 ghost use Rattle.desk_slots.specs.Slots.{slotCount};
-ghost use Rattle.desk_client.specs.Client.{alike, codesRight, blankRule, connectedRule, clientRule, startClient, connectedClient};
+ghost use Rattle.desk_client.specs.Client.{mtuRight, alike, codesRight, blankRule, connectedRule, clientRule, startClient, connectedClient};
 ghost use Rattle.desk_client.specs.Queue.{withoutOldest, pushed, popped};
 ghost use Rattle.desk_client.specs.Duties.{joined, dropped, noted, wasRead, resulted, resultTaken, served};
 
@@ -27,6 +27,10 @@ pub struct Client {
 }
 
 pub const CONTROL_SLOT: u32 = 9;
+
+pub const LEAST_MTU: u32 = 23;
+
+pub const MOST_MTU: u32 = 517;
 
 pub const MOST_RESULTS: usize = 8;
 
@@ -54,6 +58,13 @@ fn agree(a: bool, b: bool) -> bool
     !b
 }
 
+// 206: whether an ATT_MTU is one.
+pub fn mtu_right(mtu: u32) -> bool
+    ensures { λ r. ⌜ r ≡ mtuRight mtu ⌝ }
+{
+    (LEAST_MTU <= mtu) & (mtu <= MOST_MTU)
+}
+
 fn connected_right(c: Client) -> bool
     ensures { λ r. ⌜ r ≡ connectedRule c ⌝ }
 {
@@ -61,7 +72,7 @@ fn connected_right(c: Client) -> bool
     if !few {
         return false;
     }
-    let mtu = (23 <= c.mtu) & (c.mtu <= 517);
+    let mtu = mtu_right(c.mtu);
     let subscribed = desk_slots::only_slots(c.subscribed);
     let owed = desk_slots::only_slots(c.owed);
     let fresh = c.fresh & desk_slots::READABLE == c.fresh;
@@ -79,7 +90,7 @@ fn blank_right(c: Client) -> bool
     ensures { λ r. ⌜ r ≡ blankRule c ⌝ }
 {
     !c.encrypted
-        & (c.mtu == 23)
+        & (c.mtu == LEAST_MTU)
         & (c.subscribed == 0)
         & (c.owed == 0)
         & (c.fresh == 0)
@@ -105,7 +116,7 @@ pub fn fresh_client() -> Client
     Client {
         connected: false,
         encrypted: false,
-        mtu: 23,
+        mtu: LEAST_MTU,
         subscribed: 0,
         owed: 0,
         fresh: 0,

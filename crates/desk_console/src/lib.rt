@@ -1,6 +1,9 @@
 // The calls of the desk itself, as the clients see them. Each checks catalogue and state itself, and refuses by document 01's numbers.
 ghost use mathlib.Core.Path.{_≡_};
+ghost use mathlib.Core.List.{[]};
+ghost use Rattle.ground.specs.Refusals.{granted, leaves};
 ghost use Rattle.catalogue_tables.specs.Tables.{tables};
+ghost use Rattle.desk_notices.specs.Owed.{settled, noWriter};
 ghost use Rattle.desk_replies.specs.Replies.{leftBy};
 ghost use Rattle.desk_console.specs.Console.{startCall, nameCall, activateCall, deactivateCall, quietAdvance, advanceCall};
 
@@ -19,21 +22,31 @@ pub fn start(
     let none: [u8; 0] = [];
     let p = player_state::start(&none, mask, ccid);
     let blank = desk_state::fresh_desk(p);
-    let c = catalogue_check::check(groups, tracks, segments, text);
-    match c {
-        catalogue_check::Catalogue::Wrong => desk_replies::left(
-            desk_replies::Answer::BadCatalogue,
-            blank,
-        ),
-        catalogue_check::Catalogue::Fine => {
-            if !player_check::text_right(name) {
-                return desk_replies::left(desk_replies::Answer::BadName, blank);
-            }
-            let q = player_state::start(name, mask, ccid);
-            let d = desk_state::fresh_desk(q);
-            desk_replies::left(desk_replies::Answer::Done, d)
-        }
+    let g = desk_replies::lent_gate(groups, tracks, segments, text, false);
+    if !g.passes {
+        return desk_replies::shut(g, blank);
     }
+    if !player_check::text_right(name) {
+        return desk_replies::refuse(ground::BAD_NAME, blank);
+    }
+    let q = player_state::start(name, mask, ccid);
+    let d = desk_state::fresh_desk(q);
+    desk_replies::left(desk_replies::Answer::Done, d)
+}
+
+// The player becomes q by a call of no client, and every client is told. quiet: an advance in Playing that stays below D.
+fn becoming(
+    tracks: &[u32],
+    text: &[u8],
+    d: desk_state::Desk,
+    q: player_state::Player,
+    quiet: bool,
+) -> desk_replies::Outcome
+    ensures { λ r. ⌜ leftBy r ≡ leaves (granted []) (settled (now (tracks .entry)) (now (text .entry)) (noWriter quiet) q d) ⌝ }
+{
+    let cause = desk_notices::no_writer(quiet);
+    let e = desk_notices::settle(tracks, text, d, q, cause);
+    desk_replies::left(desk_replies::Answer::Done, e)
 }
 
 // Another name.
@@ -52,13 +65,11 @@ pub fn set_name(
         return desk_replies::shut(g, d);
     }
     if !player_check::text_right(name) {
-        return desk_replies::left(desk_replies::Answer::BadName, d);
+        return desk_replies::refuse(ground::BAD_NAME, d);
     }
     let p = d.player;
     let q = player_state::set_name(p, name);
-    let cause = desk_notices::no_writer(false);
-    let e = desk_notices::settle(tracks, text, d, q, cause);
-    desk_replies::left(desk_replies::Answer::Done, e)
+    becoming(tracks, text, d, q, false)
 }
 
 // A group becomes current.
@@ -77,13 +88,11 @@ pub fn activate(
         return desk_replies::shut(g, d);
     }
     if !player_check::group_right(groups, group) {
-        return desk_replies::left(desk_replies::Answer::BadGroup, d);
+        return desk_replies::refuse(ground::BAD_GROUP, d);
     }
     let p = d.player;
     let q = player_moves::activate(groups, tracks, p, group);
-    let cause = desk_notices::no_writer(false);
-    let e = desk_notices::settle(tracks, text, d, q, cause);
-    desk_replies::left(desk_replies::Answer::Done, e)
+    becoming(tracks, text, d, q, false)
 }
 
 // No track is current.
@@ -102,9 +111,7 @@ pub fn deactivate(
     }
     let p = d.player;
     let q = player_moves::deactivate(p);
-    let cause = desk_notices::no_writer(false);
-    let e = desk_notices::settle(tracks, text, d, q, cause);
-    desk_replies::left(desk_replies::Answer::Done, e)
+    becoming(tracks, text, d, q, false)
 }
 
 // Whether a step of time stays below the end of the track that plays.
@@ -134,7 +141,5 @@ pub fn advance(
     let p = d.player;
     let q = player_moves::advance(groups, tracks, p, step);
     let quiet = is_quiet(tracks, p, step);
-    let cause = desk_notices::no_writer(quiet);
-    let e = desk_notices::settle(tracks, text, d, q, cause);
-    desk_replies::left(desk_replies::Answer::Done, e)
+    becoming(tracks, text, d, q, quiet)
 }

@@ -1,17 +1,20 @@
 -- The rows of each call stand in the order of document 01's table. Assumes nothing.
 use mathlib.Core.Path.{_≡_, refl}
-use mathlib.Core.Bool.{true}
-use mathlib.Core.List.{List}
+use mathlib.Core.Bool.{Bool, true, false}
+use mathlib.Core.List.{List, _++_}
 use Prim.Native.Nat.{ℕ}
+use Rattle.ground.specs.Refusals.{table, inOrder}
 use Rattle.catalogue_tables.specs.Tables.{Tables}
-use Rattle.admission.specs.Refusals.{table, inOrder}
+use Rattle.desk_client.specs.declared.Client.{Client}
 use Rattle.desk_state.specs.declared.Desk.{Desk}
-use Rattle.desk_exchange.specs.Read.{allReadRows}
+use Rattle.desk_replies.specs.Replies.{fronted}
+use Rattle.desk_exchange.specs.Read.{readRows}
 use Rattle.desk_exchange.specs.Write.{writeRows}
 
 module _ (k : Tables) (d : Desk) (who characteristic : ℕ) where
-  pub read-order : (offset room : ℕ) → inOrder table (allReadRows k d who characteristic offset room) ≡ true
-  read-order offset room = refl
+  pub read-order : (small : Bool) (c : Client) (offset size : ℕ) → inOrder table (fronted k small d ++ readRows who c characteristic offset size) ≡ true
+  read-order small c offset size = refl
 
-  pub write-order : (value : List ℕ) → inOrder table (writeRows k d who characteristic value) ≡ true
-  write-order value = refl
+  pub write-order : (connected encrypted : Bool) (waiting : ℕ) (value : List ℕ)
+      → inOrder table (fronted k false d ++ writeRows who connected encrypted waiting characteristic value) ≡ true
+  write-order connected encrypted waiting value = refl

@@ -7,7 +7,8 @@ use denote.Ref.{RefT, at-last}
 use Rattle.catalogue_tables.specs.Tables.{tables}
 use Rattle.desk_state.specs.declared.Desk.{Desk}
 use Rattle.desk_replies.specs.declared.Outcome.{Outcome}
-use Rattle.desk_replies.specs.Replies.{saidOf, outputAfter}
+use Rattle.ground.specs.Lists.{tableAfter}
+use Rattle.desk_replies.specs.Replies.{saidOf}
 use Rattle.desk_replies.proofs.Settled.{one-outcome}
 use Rattle.desk_exchange.specs.Read.{readOctets}
 use Rattle.desk_exchange.proofs.read.Reads as read
@@ -28,4 +29,4 @@ module _ (κs : Lfts 5) (groups tracks segments text : RefT (List ℕ)) (d : Des
   read-settled offset out out₁ out₂ p q =
       let e = one-outcome o₁ o₂ (p .0) (q .0) in
       let octets = readOctets (tables (groups .now) (tracks .now) (segments .now) (text .now)) d who characteristic offset in
-      (e, p .1 ∙ ap (λ (o : Outcome). outputAfter (saidOf (o .answer)) octets (out .now)) e ∙ sym (q .1))
+      (e, p .1 ∙ ap (λ (o : Outcome). tableAfter (saidOf (o .answer)) octets (out .now)) e ∙ sym (q .1))

@@ -1,28 +1,27 @@
 -- Write (document 01, "Player rules", "What is owed" and "Refusal numbers").
 -- Assumes nothing.
-use mathlib.Core.Bool.{Bool, not, _&&_, _||_}
+use mathlib.Core.Bool.{Bool, false, not, _&&_, _||_}
 use mathlib.Core.List.{List, [], _∷_, _++_}
 use Prim.Native.Nat.{ℕ}
 use lib.Dec.{eqb, leb}
 use lib.ListN.{length, getD}
-use Rattle.ground.specs.Cases.{pick, within, granted}
+use Rattle.ground.specs.Cases.{pick, within}
+use Rattle.ground.specs.Refusals.{granted, Left, leaves, Row, row}
 use Rattle.ground.specs.Words.{wordAt}
 use Rattle.catalogue_tables.specs.Tables.{Tables}
-use Rattle.desk_slots.specs.Characteristics.{thirteen, writables, isIn}
+use Rattle.desk_slots.specs.Characteristics.{writables, isIn}
 use Rattle.player_opcodes.specs.Opcodes.{parameterLength}
 use Rattle.player_state.specs.declared.Player.{Player}
 use Rattle.player_state.specs.Player.{withOrder, withSpeed}
 use Rattle.player_moves.specs.declared.Controlled.{Controlled}
 use Rattle.player_moves.specs.Control.{controlled}
 use Rattle.player_moves.specs.Clock.{positioned}
-use Rattle.admission.specs.Refusals.{Left, leaves, Row, row, answered}
-use Rattle.admission.specs.Admission.{guarded}
 use Rattle.desk_client.specs.Client.{mostResults}
 use Rattle.desk_client.specs.Duties.{resulted}
 use Rattle.desk_state.specs.declared.Desk.{Desk}
-use Rattle.desk_state.specs.Desk.{clientAt, withClient}
+use Rattle.desk_state.specs.Desk.{withClient}
 use Rattle.desk_notices.specs.Owed.{settled, byWriter}
-use Rattle.desk_replies.specs.Replies.{stateRight, ofClient}
+use Rattle.desk_replies.specs.Replies.{ofClient, ofCharacteristic, asked, caller}
 
 -- the first octet: of 18 the opcode
 abbrev pub firstOctet : List ℕ → ℕ
@@ -38,19 +37,15 @@ unfoldable pub lengthRight : ℕ → List ℕ → Bool
 lengthRight characteristic value =
     pick (eqb characteristic 7) (eqb (length value) 4) (pick (eqb characteristic 18) (controlLength value) (eqb (length value) 1))
 
--- 200, 201, 202, 203, 0x01, 0x03, 0x0F, 0x0D, 0x13, "order not 1..8", 0x11, "write to 18 by a client with 8 results waiting"
-abbrev pub valueRows : Desk → ℕ → ℕ → List ℕ → List Row
-valueRows d who characteristic value =
-    row 0x01 (not (isIn thirteen characteristic))
-    ∷ row 0x03 (not (isIn writables characteristic))
-    ∷ row 0x0F (not (clientAt (d .clients) who .encrypted))
-    ∷ row 0x0D (not (lengthRight characteristic value))
+-- 202, 203, 0x01, 0x03, 0x0F, 0x0D; 0x13, "order not 1..8"; 0x11, "write to 18 by a client with 8 results waiting"
+abbrev pub writeRows : ℕ → Bool → Bool → ℕ → ℕ → List ℕ → List Row
+writeRows who connected encrypted waiting characteristic value =
+    ofClient who connected
+    ++ (ofCharacteristic encrypted characteristic 0x03 (isIn writables characteristic)
+    ++ (row 0x0D (not (lengthRight characteristic value))
     ∷ row 0x13 (eqb characteristic 15 && not (within 1 8 (firstOctet value)))
-    ∷ row 0x11 (eqb characteristic 18 && leb mostResults (clientAt (d .clients) who .waiting))
-    ∷ []
-
-abbrev pub writeRows : Tables → Desk → ℕ → ℕ → List ℕ → List Row
-writeRows k d who characteristic value = guarded k (stateRight k d) (ofClient d who ++ valueRows d who characteristic value)
+    ∷ row 0x11 (eqb characteristic 18 && leb mostResults waiting)
+    ∷ []))
 
 -- the number that an opcode carries, where it does
 unfoldable pub numberOf : List ℕ → ℕ
@@ -62,7 +57,7 @@ told k d who characteristic q = settled (k .tracks) (k .text) (byWriter who char
 
 -- a control write: what the opcode comes to, and its result for the writer
 abbrev pub withResult : ℕ → ℕ → ℕ → Desk → Desk
-withResult who opcode code d = withClient who (resulted opcode code (clientAt (d .clients) who)) d
+withResult who opcode code d = withClient who (resulted opcode code (caller d who)) d
 
 abbrev pub outcomeOf : Tables → Desk → List ℕ → Controlled
 outcomeOf k d value = controlled (k .groups) (k .tracks) (k .segments) (firstOctet value) (numberOf value) (d .player)
@@ -81,4 +76,5 @@ written k d who characteristic value =
 
 unfoldable pub writeCall : Tables → Desk → ℕ → ℕ → List ℕ → Left Desk
 writeCall k d who characteristic value =
-    answered d (writeRows k d who characteristic value) (leaves (granted []) (written k d who characteristic value))
+    asked k false d (writeRows who (caller d who .connected) (caller d who .encrypted) (caller d who .waiting) characteristic value)
+    (leaves (granted []) (written k d who characteristic value))

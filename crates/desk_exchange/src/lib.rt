@@ -1,14 +1,18 @@
 // Clients read and write. Each call checks catalogue and state itself, and refuses by document 01's numbers.
 ghost use mathlib.Core.Path.{_≡_};
-ghost use mathlib.Core.Bool.{true};
 ghost use Prim.Native.Nat.{_<_, _≤_};
-ghost use lib.ListN.{length};
+ghost use mathlib.Core.Bool.{true, false};
+ghost use mathlib.Core.List.{_++_};
+ghost use lib.Dec.{ltb};
+ghost use lib.ListN.{length as len};
+ghost use Rattle.ground.specs.Limits.{leastOutput};
+ghost use Rattle.ground.specs.Lists.{tableAfter};
 ghost use Rattle.catalogue_tables.specs.Tables.{tables};
 ghost use Rattle.catalogue_check.specs.Catalogue.{Right};
 ghost use Rattle.player_check.specs.Standing.{playerRule};
 ghost use Rattle.desk_slots.specs.Slots.{clientCount};
-ghost use Rattle.desk_replies.specs.Replies.{Gated, saidOf, leftBy, outputAfter};
-ghost use Rattle.desk_exchange.specs.Read.{allReadRows, afterRead, readOctets, readCall};
+ghost use Rattle.desk_replies.specs.Replies.{Gated, saidOf, leftBy, fronted, caller};
+ghost use Rattle.desk_exchange.specs.Read.{valueNow, readRows, afterRead, readOctets, readCall};
 ghost use Rattle.desk_exchange.specs.Write.{writeRows, controlLength, lengthRight, numberOf, controlWritten, written, writeCall};
 
 // What a read leaves of the client's record.
@@ -34,33 +38,35 @@ fn read_gate(
     offset: u32,
     room: usize,
 ) -> desk_replies::Gate
-    ensures { λ r. ⌜ Gated (allReadRows (tables (now (groups .entry)) (now (tracks .entry)) (now (segments .entry)) (now (text .entry))) d who characteristic offset room) r ⌝ }
+    ensures { λ r. ⌜ Gated (fronted (tables (now (groups .entry)) (now (tracks .entry)) (now (segments .entry)) (now (text .entry))) (ltb room leastOutput) d ++ readRows who (caller d who) characteristic offset (len (valueNow (tables (now (groups .entry)) (now (tracks .entry)) (now (segments .entry)) (now (text .entry))) d characteristic))) r ⌝ }
 {
-    let g = desk_replies::client_gate(groups, tracks, segments, text, room < 128, d, who);
+    let g = desk_replies::characteristic_gate(
+        groups,
+        tracks,
+        segments,
+        text,
+        room < ground::LEAST_OUTPUT,
+        d,
+        who,
+        characteristic,
+        ground::NOT_READABLE,
+        desk_slots::may_read(characteristic),
+    );
     if !g.passes {
         return g;
     }
-    if !desk_slots::is_characteristic(characteristic) {
-        return desk_replies::gate_at(false, desk_replies::Answer::NoCharacteristic);
-    }
-    if !desk_slots::may_read(characteristic) {
-        return desk_replies::gate_at(false, desk_replies::Answer::NotReadable);
-    }
     let c = desk_state::client_at(d, who);
-    if !c.encrypted {
-        return desk_replies::gate_at(false, desk_replies::Answer::NotEncrypted);
-    }
     let known = ground::has_bit(c.fresh, characteristic);
     if (0 < offset) & !known {
-        return desk_replies::gate_at(false, desk_replies::Answer::ValueChanged);
+        return desk_replies::gate_shut(ground::VALUE_CHANGED);
     }
     let p = d.player;
     let h = player_values::hold(tracks, text, p, characteristic);
     let from = ground::wide_word(offset);
     if h.len < from {
-        return desk_replies::gate_at(false, desk_replies::Answer::BeyondEnd);
+        return desk_replies::gate_shut(ground::BEYOND_END);
     }
-    desk_replies::gate_at(true, desk_replies::Answer::Done)
+    g
 }
 
 // A client reads a characteristic from an offset on, over the front of out.
@@ -75,8 +81,8 @@ pub fn read(
     offset: u32,
     out: &mut [u8],
 ) -> desk_replies::Outcome
-    ensures { λ r. ⌜ leftBy r ≡ readCall (tables (now (groups .entry)) (now (tracks .entry)) (now (segments .entry)) (now (text .entry))) d who characteristic offset (length (now (out .entry))) ⌝ }
-    ensures { λ r. ⌜ now (out .exit) ≡ outputAfter (saidOf (r .answer)) (readOctets (tables (now (groups .entry)) (now (tracks .entry)) (now (segments .entry)) (now (text .entry))) d who characteristic offset) (now (out .entry)) ⌝ }
+    ensures { λ r. ⌜ leftBy r ≡ readCall (tables (now (groups .entry)) (now (tracks .entry)) (now (segments .entry)) (now (text .entry))) d who characteristic offset (len (now (out .entry))) ⌝ }
+    ensures { λ r. ⌜ now (out .exit) ≡ tableAfter (saidOf (r .answer)) (readOctets (tables (now (groups .entry)) (now (tracks .entry)) (now (segments .entry)) (now (text .entry))) d who characteristic offset) (now (out .entry)) ⌝ }
 {
     let g = read_gate(
         groups,
@@ -138,34 +144,36 @@ fn write_gate(
     characteristic: u32,
     value: &[u8],
 ) -> desk_replies::Gate
-    ensures { λ r. ⌜ Gated (writeRows (tables (now (groups .entry)) (now (tracks .entry)) (now (segments .entry)) (now (text .entry))) d who characteristic (now (value .entry))) r ⌝ }
+    ensures { λ r. ⌜ Gated (fronted (tables (now (groups .entry)) (now (tracks .entry)) (now (segments .entry)) (now (text .entry))) false d ++ writeRows who (caller d who .connected) (caller d who .encrypted) (caller d who .waiting) characteristic (now (value .entry))) r ⌝ }
 {
-    let g = desk_replies::client_gate(groups, tracks, segments, text, false, d, who);
+    let g = desk_replies::characteristic_gate(
+        groups,
+        tracks,
+        segments,
+        text,
+        false,
+        d,
+        who,
+        characteristic,
+        ground::NOT_WRITABLE,
+        desk_slots::may_write(characteristic),
+    );
     if !g.passes {
         return g;
     }
-    if !desk_slots::is_characteristic(characteristic) {
-        return desk_replies::gate_at(false, desk_replies::Answer::NoCharacteristic);
-    }
-    if !desk_slots::may_write(characteristic) {
-        return desk_replies::gate_at(false, desk_replies::Answer::NotWritable);
-    }
-    let c = desk_state::client_at(d, who);
-    if !c.encrypted {
-        return desk_replies::gate_at(false, desk_replies::Answer::NotEncrypted);
-    }
     if !length_right(characteristic, value) {
-        return desk_replies::gate_at(false, desk_replies::Answer::BadLength);
+        return desk_replies::gate_shut(ground::BAD_LENGTH);
     }
     let first = ground::octet_or_zero(value, 0);
     let order = (1 <= first) & (first <= 8);
     if (characteristic == 15) & !order {
-        return desk_replies::gate_at(false, desk_replies::Answer::BadOrder);
+        return desk_replies::gate_shut(ground::BAD_ORDER);
     }
+    let c = desk_state::client_at(d, who);
     if (characteristic == 18) & (desk_client::MOST_RESULTS <= c.waiting) {
-        return desk_replies::gate_at(false, desk_replies::Answer::TooManyResults);
+        return desk_replies::gate_shut(ground::TOO_MANY_RESULTS);
     }
-    desk_replies::gate_at(true, desk_replies::Answer::Done)
+    g
 }
 
 // The number that an opcode carries, where it does.
@@ -220,7 +228,7 @@ fn carry_out(
     requires { ⌜ Right (tables (now groups) (now tracks) (now segments) (now text)) ⌝ }
     requires { ⌜ playerRule (now groups) (now tracks) (d .player) ≡ true ⌝ }
     requires { ⌜ who < clientCount ⌝ }
-    requires { ⌜ (characteristic ≡ 7 → 4 ≤ length (now value)) ⌝ }
+    requires { ⌜ (characteristic ≡ 7 → 4 ≤ len (now value)) ⌝ }
     ensures { λ r. ⌜ r ≡ written (tables (now (groups .entry)) (now (tracks .entry)) (now (segments .entry)) (now (text .entry))) d who characteristic (now (value .entry)) ⌝ }
 {
     let p = d.player;

@@ -1,10 +1,11 @@
 -- Over every history: the desk stands and agrees with the ledger, and hands out what the ledger says. Assumes nothing.
 use mathlib.Core.Path.{_≡_, refl, sym, _∙_, subst}
-use mathlib.Core.Bool.{true, not, _&&_}
+use mathlib.Core.Bool.{true, false, not, _&&_}
 use mathlib.Core.List.{List, [], _∷_}
 use Prim.Native.Nat.{ℕ, _≤_, _<_}
 use native.Mathlib.Omega.{arith}
 use Rattle.ground.specs.Cases.{pick}
+use Rattle.ground.proofs.Rows.{state-of}
 use Rattle.catalogue_tables.specs.Tables.{Tables}
 use Rattle.catalogue_check.specs.Catalogue.{catalogueRule}
 use Rattle.player_state.specs.Player.{startedPlayer}
@@ -20,7 +21,6 @@ use Rattle.desk_history.specs.Calls.{Call, setName, activate, deactivate
 use Rattle.desk_history.specs.Ledger.{Ledger, after}
 use Rattle.desk_history.specs.Rounds.{prepend, answers, AllKeep}
 use Rattle.desk_history.specs.History.{dueOut, handedOut, ledgerAt, deskAt, given, Stays}
-use Rattle.desk_history.proofs.Accepted.{state-of}
 use Rattle.desk_history.proofs.Agreement.{agree-start}
 use Rattle.desk_history.proofs.Steps.{Ok, name-step, activate-step, deactivate-step, advance-step, connect-step, disconnect-step, subscribe-step, unsubscribe-step}
 use Rattle.desk_history.proofs.Exchanges.{read-step, write-step}
@@ -59,7 +59,7 @@ module _ (k : Tables) (right : catalogueRule k ≡ true) where
     unfolding startCall
     begins =
         subst (Ok k (ledgerAt k name mask ccid []))
-        (sym (state-of (startedDesk (startedPlayer [] mask ccid)) (startRows k name) _ ∙ (λ i. pick (not (not (right i)) && (not (not (named i)) && true)) (startedDesk (startedPlayer name mask ccid)) (startedDesk (startedPlayer [] mask ccid)))))
+        (sym (state-of (startedDesk (startedPlayer [] mask ccid)) (startRows k name) _ ∙ (λ i. pick (not (not (right i)) && (not false && (not (not (named i)) && true))) (startedDesk (startedPlayer name mask ccid)) (startedDesk (startedPlayer [] mask ccid)))))
         (agree-start (startedPlayer name mask ccid), start-keeps (k .groups) (k .tracks) (startedPlayer name mask ccid) (started (k .groups) (k .tracks) name mask ccid named))
 
     pub ok : (h : List Call) → Ok k (ledgerAt k name mask ccid h) (deskAt k name mask ccid h)

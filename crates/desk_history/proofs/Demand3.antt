@@ -2,14 +2,15 @@
 -- list of calls with any arguments, accepted or refused (`Calls`); what it owes to whom is said by the ledger, from the calls and document 01's rules
 -- alone (`Ledger`); what the takes hand out is what the desk's contracts say (`History`). Assumes nothing.
 use mathlib.Core.Path.{_≡_, refl, sym, _∙_, subst}
-use mathlib.Core.Bool.{Bool, true}
+use mathlib.Core.Bool.{Bool, true, not, _&&_}
 use mathlib.Core.Option.{none, some}
 use mathlib.Core.List.{List}
 use Prim.Native.Nat.{ℕ, _*_, _≤_, _<_}
 use native.Mathlib.Omega.{arith}
-use borrow.Author.Tests.{le-leb, lt-leb}
+use borrow.Author.Tests.{le-ltb, lt-leb}
 use lib.ListN.{length, take as firsts}
 use Rattle.ground.specs.Cases.{pick}
+use Rattle.ground.specs.Limits.{leastOutput}
 use Rattle.catalogue_tables.specs.Tables.{Tables}
 use Rattle.catalogue_check.specs.Catalogue.{catalogueRule}
 use Rattle.player_check.specs.Standing.{textRule}
@@ -89,4 +90,4 @@ module _ (k : Tables) (right : catalogueRule k ≡ true) (name : List ℕ) (name
       let L = ledger h in
       let near = next-nearest clientCount (λ c. owedAny (L .side c)) (L .turn) (in-range k right name named mask ccid h .0) who client (owed-any (L .side who) s slot due) in
       hands-at k right name named mask ccid (take room) h
-      ∙ (λ i. pick (le-leb 128 room lent i) (pick (lt-leb clientCount (nextIn L) (near .inside) i) none (some (answerIn k L (nextIn L)))) none)
+      ∙ (λ i. pick (not (le-ltb room leastOutput lent i) && true) (pick (lt-leb clientCount (nextIn L) (near .inside) i) none (some (answerIn k L (nextIn L)))) none)

@@ -23,9 +23,10 @@ use Rattle.player_moves.proofs.Alone.{result-values}
 use Rattle.player_moves.proofs.Ready.{shaped}
 use Rattle.player_moves.proofs.Kept.{kept-order, kept-speed, kept-positioned, kept-controlled}
 use Rattle.desk_slots.specs.Slots.{clientCount}
-use Rattle.desk_slots.specs.Characteristics.{thirteen, readables, writables, isIn}
-use Rattle.admission.specs.Refusals.{Row}
-use Rattle.admission.proofs.Rows.{NoneApplies}
+use Rattle.desk_slots.specs.Characteristics.{readables, writables, isIn}
+use Rattle.ground.specs.Limits.{leastOutput}
+use Rattle.ground.specs.Refusals.{Row, row, accepted}
+use Rattle.ground.proofs.Rows.{NoneApplies, none-of, state-of}
 use Rattle.desk_client.specs.declared.Client.{Client}
 use Rattle.desk_client.specs.Client.{mostResults, clientRule}
 use Rattle.desk_client.specs.Duties.{wasRead, resulted}
@@ -35,18 +36,13 @@ use Rattle.desk_state.specs.declared.Desk.{Desk}
 use Rattle.desk_state.specs.Desk.{clientAt, withClient}
 use Rattle.desk_state.proofs.Laws.{player-stands}
 use Rattle.desk_notices.specs.Owed.{byWriter}
-use Rattle.desk_replies.specs.Replies.{ofClient}
-use Rattle.desk_exchange.specs.Read.{allReadRows, afterRead, readCall}
-use Rattle.desk_exchange.specs.Write.{firstOctet, lengthRight, valueRows, writeRows, numberOf, told, outcomeOf, controlWritten, written, writeCall}
-use Rattle.desk_history.specs.Ledger.{Side, Ledger, becoming, resulting, asks, mayWrite, outcome, resultOf, controlWriting, writing}
-use Rattle.desk_history.proofs.Accepted.{accepted, state-of}
+use Rattle.desk_replies.specs.Replies.{fronted, ofCharacteristic, caller}
+use Rattle.desk_exchange.specs.Read.{valueNow, readRows, afterRead, readCall}
+use Rattle.desk_exchange.specs.Write.{firstOctet, lengthRight, writeRows, numberOf, told, outcomeOf, controlWritten, written, writeCall}
+use Rattle.desk_history.specs.Ledger.{Side, Ledger, becoming, resulting, mayWrite, outcome, resultOf, controlWriting, writing}
 use Rattle.desk_history.proofs.Likeness.{Like, like-read, like-resulted}
 use Rattle.desk_history.proofs.Agreement.{Agrees, agree-changing, client-kept}
-use Rattle.desk_history.proofs.Steps.{Ok, double, ok-call, guard, ok-becoming, ok-changing, like, rule, sound-of}
-
-none-of : (rows : List Row) → accepted rows ≡ true → NoneApplies rows
-none-of [] e = tt
-none-of (r ∷ rows) e = (not-true _ (and-left (not (r .applies)) (accepted rows) e), none-of rows (and-right (not (r .applies)) (accepted rows) e))
+use Rattle.desk_history.proofs.Steps.{Ok, ok-call, same-rows, ok-becoming, ok-changing, like, rule, sound-of}
 
 -- as many results wait as the list says
 pub as-many : (x : Side) (c : Client) → Like x c → clientRule c ≡ true → length (x .waiting) ≡ c .waiting
@@ -72,10 +68,13 @@ module _ (k : Tables) (right : catalogueRule k ≡ true) (L : Ledger) (d : Desk)
   pub read-step : (who c offset room : ℕ) → Ok k L (readCall k d who c offset room .state)
   unfolding readCall wasRead
   read-step who c offset room =
-      subst (Ok k L) (sym (state-of d (allReadRows k d who c offset room) _)) (choose (accepted (allReadRows k d who c offset room)) refl)
+      subst (Ok k L) (sym (state-of d rows _)) (choose (accepted rows) refl)
     where
       own : Client
-      own = clientAt (d .clients) who
+      own = caller d who
+
+      rows : List Row
+      rows = fronted k (ltb room leastOutput) d ++ readRows who own c offset (length (valueNow k d c))
 
       after-read : (t : Bool) → (h : who < clientCount) → own .connected ≡ true → isIn readables c ≡ true
           → Like (L .side who) (pick t (wasRead c own) own) × (clientRule (pick t (wasRead c own) own) ≡ true)
@@ -83,103 +82,55 @@ module _ (k : Tables) (right : catalogueRule k ≡ true) (L : Ledger) (d : Desk)
           (like-read (L .side who) own (like k right L d ok who h) c, sound-connected (wasRead c own) on (kept-read own (connected-sound own (rule k right L d ok who h) on) c may))
       after-read false h on may = (like k right L d ok who h, rule k right L d ok who h)
 
-      choose : (t : Bool) → accepted (allReadRows k d who c offset room) ≡ t → Ok k L (pick t (withClient who (afterRead c offset own) d) d)
+      choose : (t : Bool) → accepted rows ≡ t → Ok k L (pick t (withClient who (afterRead c offset own) d) d)
       choose false e = ok
       choose true e =
-          let n = none-of (allReadRows k d who c offset room) e in
+          let n = none-of rows e in
           let h = leb-false clientCount who (n .1 .1 .1 .0) in
           let a = after-read (eqb offset 0) h (not-false _ (n .1 .1 .1 .1 .0)) (not-false _ (n .1 .1 .1 .1 .1 .1 .0)) in
           (unchanged who h (afterRead c offset own) (a .0), client-kept k d (ok .1) (ok .0 .long) who h (afterRead c offset own) (a .1))
 
-  -- ---- a write: accepted exactly where the ledger's rule says so
-  in-sub : (s t : List ℕ) → ((c : ℕ) → isIn s c ≡ true → isIn t c ≡ true) → (c : ℕ) (b : Bool) → (not (not (isIn t c)) && (not (not (isIn s c)) && b)) ≡ (isIn s c && b)
-  in-sub s t f c b = go (isIn s c) (isIn t c) (f c)
-    where
-      go : (a e : Bool) → (a ≡ true → e ≡ true) → (not (not e) && (not (not a) && b)) ≡ (a && b)
-      go true true g = refl
-      go true false g = clash (g refl)
-      go false true g = refl
-      go false false g = refl
-
-  writable-in : (c : ℕ) → isIn writables c ≡ true → isIn thirteen c ≡ true
-  unfolding isIn
-  writable-in c e = go (eqb 7 c) refl (eqb 8 c) refl (eqb 15 c) refl (eqb 18 c) refl e
-    where
-      is : (n : ℕ) → eqb n c ≡ true → isIn thirteen n ≡ true → isIn thirteen c ≡ true
-      is n q h = ap (isIn thirteen) (sym (eqb-true n c q)) ∙ h
-
-      go : (p : Bool) → eqb 7 c ≡ p → (q : Bool) → eqb 8 c ≡ q → (r : Bool) → eqb 15 c ≡ r → (t : Bool) → eqb 18 c ≡ t → (p || (q || (r || (t || false)))) ≡ true → isIn thirteen c ≡ true
-      go true a q b r d t f h = is 7 a refl
-      go false a true b r d t f h = is 8 b refl
-      go false a false b true d t f h = is 15 d refl
-      go false a false b false d true f h = is 18 f refl
-      go false a false b false d false f h = clash h
-
-  write-rows : (who c : ℕ) (value : List ℕ) → accepted (writeRows k d who c value) ≡ mayWrite L who c value
+  -- ---- a write: accepted exactly where the ledger's rows accept
+  write-rows : (who c : ℕ) (value : List ℕ)
+      → accepted (writeRows who (caller d who .connected) (caller d who .encrypted) (caller d who .waiting) c value) ≡ mayWrite L who c value
   write-rows who c value =
-      guard k right L d ok (ofClient d who ++ valueRows d who c value)
-      ∙ ⊎-elim
-      (λ (h : clientCount ≤ who). (λ i. not (le-leb clientCount who h i) && accepted-behind) ∙ sym (λ i. (le-ltb who clientCount h i && L .side who .on) && isIn writables c && L .side who .safe && lengthRight c value && not (eqb c 15 && not (within 1 8 (firstOctet value))) && not (eqb c 18 && leb mostResults (length (L .side who .waiting)))))
-      (λ (h : who < clientCount).
+      same-rows k right L d ok who (rest (caller d who .connected) (caller d who .encrypted) (caller d who .waiting)) (rest (L .side who .on) (L .side who .safe) (length (L .side who .waiting)))
+      (λ h.
       let l = like k right L d ok who h in
-      let many = as-many (L .side who) (clientAt (d .clients) who) l (rule k right L d ok who h) in
-      (λ i. not (lt-leb clientCount who h i) && (double (l .on i) i && in-sub writables thirteen writable-in c (not (not (l .safe i)) && (not (not (lengthRight c value)) && (not (eqb c 15 && not (within 1 8 (firstOctet value))) && (not (eqb c 18 && leb mostResults (sym many i)) && true)))) i))
-      ∙ regroup (L .side who .on) (isIn writables c) (L .side who .safe) (lengthRight c value) (not (eqb c 15 && not (within 1 8 (firstOctet value)))) (not (eqb c 18 && leb mostResults (length (L .side who .waiting))))
-      ∙ sym (λ i. (lt-ltb who clientCount h i && L .side who .on) && isIn writables c && L .side who .safe && lengthRight c value && not (eqb c 15 && not (within 1 8 (firstOctet value))) && not (eqb c 18 && leb mostResults (length (L .side who .waiting)))))
-      (le-or clientCount who)
+      let many = as-many (L .side who) (caller d who) l (rule k right L d ok who h) in
+      λ i. accepted (rest (l .on i) (l .safe i) (sym many i)))
     where
-      accepted-behind : Bool
-      accepted-behind = not (not (clientAt (d .clients) who .connected)) && accepted (valueRows d who c value)
-
-      regroup : (a b s l o f : Bool) → (a && (b && (not (not s) && (not (not l) && (o && (f && true)))))) ≡ (a && b && s && l && o && f)
-      regroup false b s l o f = refl
-      regroup true false s l o f = refl
-      regroup true true false l o f = refl
-      regroup true true true false o f = refl
-      regroup true true true true false f = refl
-      regroup true true true true true true = refl
-      regroup true true true true true false = refl
+      rest : Bool → Bool → ℕ → List Row
+      rest on safe waiting =
+          row 203 (not on)
+          ∷ (ofCharacteristic safe c 0x03 (isIn writables c)
+          ++ (row 0x0D (not (lengthRight c value)) ∷ row 0x13 (eqb c 15 && not (within 1 8 (firstOctet value))) ∷ row 0x11 (eqb c 18 && leb mostResults waiting) ∷ []))
 
   -- what an accepted write tells
   module _ (who c : ℕ) (value : List ℕ) (may : mayWrite L who c value ≡ true) where
-    abbrev roomy : Bool
-    roomy = not (eqb c 18 && leb mostResults (length (L .side who .waiting)))
-
-    abbrev ordered : Bool
-    ordered = not (eqb c 15 && not (within 1 8 (firstOctet value)))
-
-    m5 : (asks L who && isIn writables c && L .side who .safe && lengthRight c value && ordered) ≡ true
-    m5 = and-left (asks L who && isIn writables c && L .side who .safe && lengthRight c value && ordered) roomy may
-
-    m4 : (asks L who && isIn writables c && L .side who .safe && lengthRight c value) ≡ true
-    m4 = and-left (asks L who && isIn writables c && L .side who .safe && lengthRight c value) ordered m5
-
-    m2 : (asks L who && isIn writables c) ≡ true
-    m2 = and-left (asks L who && isIn writables c) (L .side who .safe) (and-left (asks L who && isIn writables c && L .side who .safe) (lengthRight c value) m4)
-
-    w-asks : asks L who ≡ true
-    w-asks = and-left (asks L who) (isIn writables c) m2
+    passed : NoneApplies (writeRows who (L .side who .on) (L .side who .safe) (length (L .side who .waiting)) c value)
+    passed = none-of (writeRows who (L .side who .on) (L .side who .safe) (length (L .side who .waiting)) c value) may
 
     w-there : who < clientCount
-    w-there = ltb-true who clientCount (and-left (ltb who clientCount) (L .side who .on) w-asks)
+    w-there = leb-false clientCount who (passed .0)
 
     w-on : L .side who .on ≡ true
-    w-on = and-right (ltb who clientCount) (L .side who .on) w-asks
+    w-on = not-false _ (passed .1 .0)
 
     w-in : isIn writables c ≡ true
-    w-in = and-right (asks L who) (isIn writables c) m2
+    w-in = not-false _ (passed .1 .1 .1 .0)
 
     -- an order is 1 to 8
     w-order : eqb c 15 ≡ true → within 1 8 (firstOctet value) ≡ true
-    w-order e = inside (within 1 8 (firstOctet value)) (sym (λ i. not (e i && not (within 1 8 (firstOctet value)))) ∙ and-right (asks L who && isIn writables c && L .side who .safe && lengthRight c value) ordered m5)
+    w-order e = inside (within 1 8 (firstOctet value)) (sym (λ i. e i && not (within 1 8 (firstOctet value))) ∙ passed .1 .1 .1 .1 .1 .1 .0)
       where
-        inside : (b : Bool) → not (not b) ≡ true → b ≡ true
+        inside : (b : Bool) → not b ≡ false → b ≡ true
         inside true q = refl
-        inside false q = q
+        inside false q = sym q
 
     -- a control write finds room for its result
     w-room : eqb c 18 ≡ true → length (L .side who .waiting) < mostResults
-    w-room e = leb-false mostResults (length (L .side who .waiting)) (not-true _ (sym (λ i. not (e i && leb mostResults (length (L .side who .waiting)))) ∙ and-right (asks L who && isIn writables c && L .side who .safe && lengthRight c value && ordered) roomy may))
+    w-room e = leb-false mostResults (length (L .side who .waiting)) (sym (λ i. e i && leb mostResults (length (L .side who .waiting))) ∙ passed .1 .1 .1 .1 .1 .1 .1 .0)
 
     -- what may be written and is none of 7, 8, 15 is 18
     w-control : eqb c 7 ≡ false → eqb c 8 ≡ false → eqb c 15 ≡ false → eqb c 18 ≡ true
@@ -252,7 +203,7 @@ module _ (k : Tables) (right : catalogueRule k ≡ true) (L : Ledger) (d : Desk)
   pub write-step : (who c : ℕ) (value : List ℕ) → Ok k (pick (mayWrite L who c value) (writing k L who c value) L) (writeCall k d who c value .state)
   unfolding writeCall written
   write-step who c value =
-      ok-call k right L d ok (mayWrite L who c value) (writeRows k d who c value) _ (writing k L who c value) (write-rows who c value)
+      ok-call k right L d ok false (mayWrite L who c value) (writeRows who (caller d who .connected) (caller d who .encrypted) (caller d who .waiting) c value) _ (writing k L who c value) (write-rows who c value)
       (λ e. carried e (eqb c 7) refl (eqb c 8) refl (eqb c 15) refl)
     where
       carried : mayWrite L who c value ≡ true → (p : Bool) → eqb c 7 ≡ p → (q : Bool) → eqb c 8 ≡ q → (r : Bool) → eqb c 15 ≡ r → Ok k (writing k L who c value) (written k d who c value)

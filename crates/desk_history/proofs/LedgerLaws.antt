@@ -18,18 +18,18 @@ use Rattle.catalogue_tables.specs.Tables.{Tables}
 use Rattle.player_state.specs.declared.Player.{Player}
 use Rattle.player_state.specs.Player.{renamed, deactivated, withOrder, withSpeed}
 use Rattle.player_moves.specs.Clock.{advanced, positioned, activated}
-use Rattle.player_check.specs.Standing.{textRule, groupRule}
+use Rattle.ground.specs.Refusals.{accepted}
 use Rattle.desk_slots.specs.Slots.{slotCount, clientCount, slotOf}
 use Rattle.desk_slots.specs.Round.{dist}
 use Rattle.desk_slots.proofs.NextLaws.{Nearest, next-hit, next-nearest}
 use Rattle.desk_client.specs.declared.Entry.{Entry}
-use Rattle.desk_client.specs.Client.{mtuRight, controlSlot}
+use Rattle.desk_client.specs.Client.{controlSlot}
 use Rattle.desk_notices.specs.declared.Cause.{Cause}
 use Rattle.desk_notices.specs.Owed.{noWriter, byWriter}
-use Rattle.desk_console.specs.Console.{quietAdvance}
+use Rattle.desk_console.specs.Console.{nameRows, activateRows, quietAdvance}
 use Rattle.desk_exchange.specs.Write.{firstOctet}
 use Rattle.desk_history.specs.Calls.{Call, setName, activate, deactivate, advance, connect, disconnect, subscribe, unsubscribe, read, write, take}
-use Rattle.desk_history.specs.Ledger.{Side, Ledger, linked, nobody, asks, mayJoin, changing, told, becoming, joining, leaving, resulting, behind, serving, owes, owedAny, nextIn, slotIn, servingNext, outcome, resultOf, controlWriting, mayWrite, writing, after}
+use Rattle.desk_history.specs.Ledger.{Side, Ledger, linked, nobody, mayConnect, asks, mayJoin, mayTake, changing, told, becoming, joining, leaving, resulting, behind, serving, owes, owedAny, nextIn, slotIn, servingNext, outcome, resultOf, controlWriting, mayWrite, writing, after}
 use Rattle.desk_history.specs.Rounds.{Answer, isFor, System, Laws}
 use Rattle.desk_history.specs.History.{answerIn, dueOut}
 use Rattle.desk_history.proofs.Serving.{backlog, owes-of, owed-any, any-owed}
@@ -127,11 +127,11 @@ found (some a) = true
 module _ (k : Tables) (c s : ℕ) where
   still : (call : Call) (L : Ledger) → dueOut k call L ≡ none → Wants c s (after k call L) → Still c s L (after k call L)
   unfolding found
-  still (setName name) L e w = still-if c s (textRule name) (becoming k (noWriter false) (renamed name (L .player)) L) L (λ v. still-becoming c s k (noWriter false) (renamed name (L .player)) L) w
-  still (activate g) L e w = still-if c s (groupRule (k .groups) g) (becoming k (noWriter false) (activated (k .groups) (k .tracks) g (L .player)) L) L (λ v. still-becoming c s k (noWriter false) (activated (k .groups) (k .tracks) g (L .player)) L) w
+  still (setName name) L e w = still-if c s (accepted (nameRows name)) (becoming k (noWriter false) (renamed name (L .player)) L) L (λ v. still-becoming c s k (noWriter false) (renamed name (L .player)) L) w
+  still (activate g) L e w = still-if c s (accepted (activateRows k g)) (becoming k (noWriter false) (activated (k .groups) (k .tracks) g (L .player)) L) L (λ v. still-becoming c s k (noWriter false) (activated (k .groups) (k .tracks) g (L .player)) L) w
   still deactivate L e w = still-becoming c s k (noWriter false) (deactivated (L .player)) L
   still (advance step) L e w = still-becoming c s k (noWriter (quietAdvance (k .tracks) step (L .player))) (advanced (k .groups) (k .tracks) step (L .player)) L
-  still (connect who mtu encrypted) L e w = still-if c s (ltb who clientCount && not (L .side who .on) && mtuRight mtu) (changing who (λ y. linked true encrypted mtu) L) L (still-changing c s who (λ y. linked true encrypted mtu) L (λ h. clash h)) w
+  still (connect who mtu encrypted) L e w = still-if c s (mayConnect L who mtu) (changing who (λ y. linked true encrypted mtu) L) L (still-changing c s who (λ y. linked true encrypted mtu) L (λ h. clash h)) w
   still (disconnect who) L e w = still-if c s (asks L who) (changing who (λ y. nobody) L) L (still-changing c s who (λ y. nobody) L (λ h. clash h)) w
   still (subscribe who x) L e w = still-if c s (mayJoin L who x) (changing who (joining (slotOf x)) L) L (still-changing c s who (joining (slotOf x)) L (λ h. quiet-joining s (L .side c) (slotOf x))) w
   still (unsubscribe who x) L e w = still-if c s (mayJoin L who x) (changing who (leaving (slotOf x)) L) L (still-changing c s who (leaving (slotOf x)) L (λ h. quiet-leaving s (L .side c) (slotOf x) h)) w
@@ -158,7 +158,7 @@ module _ (k : Tables) (c s : ℕ) where
           one false true v h = still-becoming c s k (byWriter who 8) (withSpeed (firstOctet value) (L .player)) L
           one false false true h = still-becoming c s k (byWriter who 15) (withOrder (firstOctet value) (L .player)) L
           one false false false h = control h
-  still (take room) L e w = go (leb 128 room) (leb clientCount (nextIn L)) e
+  still (take room) L e w = go (mayTake room) (leb clientCount (nextIn L)) e
     where
       go : (t u : Bool) → pick t (pick u none (some (answerIn k L (nextIn L)))) none ≡ none
           → Still c s L (pick t (pick u L (servingNext L (nextIn L))) L)
@@ -193,9 +193,9 @@ module _ (k : Tables) where
   serves (unsubscribe who x) L a e = never a e
   serves (read who x offset room) L a e = never a e
   serves (write who x value) L a e = never a e
-  serves (take room) L a e = go (leb 128 room) refl (leb clientCount (nextIn L)) refl e
+  serves (take room) L a e = go (mayTake room) refl (leb clientCount (nextIn L)) refl e
     where
-      go : (t : Bool) → leb 128 room ≡ t → (u : Bool) → leb clientCount (nextIn L) ≡ u
+      go : (t : Bool) → mayTake room ≡ t → (u : Bool) → leb clientCount (nextIn L) ≡ u
           → pick t (pick u none (some (answerIn k L (nextIn L)))) none ≡ some a → Serves k (take room) L a
       go true p true q h = never a h
       go true p false q h =
@@ -322,11 +322,11 @@ marks-becoming k cause q L = (refl, λ c. inl refl)
 module _ (k : Tables) where
   marks : (call : Call) (L : Ledger) → dueOut k call L ≡ none → Marks L (after k call L)
   unfolding found
-  marks (setName name) L e = marks-if (textRule name) (becoming k (noWriter false) (renamed name (L .player)) L) L (marks-becoming k (noWriter false) (renamed name (L .player)) L)
-  marks (activate g) L e = marks-if (groupRule (k .groups) g) (becoming k (noWriter false) (activated (k .groups) (k .tracks) g (L .player)) L) L (marks-becoming k (noWriter false) (activated (k .groups) (k .tracks) g (L .player)) L)
+  marks (setName name) L e = marks-if (accepted (nameRows name)) (becoming k (noWriter false) (renamed name (L .player)) L) L (marks-becoming k (noWriter false) (renamed name (L .player)) L)
+  marks (activate g) L e = marks-if (accepted (activateRows k g)) (becoming k (noWriter false) (activated (k .groups) (k .tracks) g (L .player)) L) L (marks-becoming k (noWriter false) (activated (k .groups) (k .tracks) g (L .player)) L)
   marks deactivate L e = marks-becoming k (noWriter false) (deactivated (L .player)) L
   marks (advance step) L e = marks-becoming k (noWriter (quietAdvance (k .tracks) step (L .player))) (advanced (k .groups) (k .tracks) step (L .player)) L
-  marks (connect who mtu encrypted) L e = marks-if (ltb who clientCount && not (L .side who .on) && mtuRight mtu) (changing who (λ y. linked true encrypted mtu) L) L (marks-changing who (λ y. linked true encrypted mtu) L (λ y. inr refl))
+  marks (connect who mtu encrypted) L e = marks-if (mayConnect L who mtu) (changing who (λ y. linked true encrypted mtu) L) L (marks-changing who (λ y. linked true encrypted mtu) L (λ y. inr refl))
   marks (disconnect who) L e = marks-if (asks L who) (changing who (λ y. nobody) L) L (marks-changing who (λ y. nobody) L (λ y. inr refl))
   marks (subscribe who x) L e = marks-if (mayJoin L who x) (changing who (joining (slotOf x)) L) L (marks-changing who (joining (slotOf x)) L (λ y. inl refl))
   marks (unsubscribe who x) L e = marks-if (mayJoin L who x) (changing who (leaving (slotOf x)) L) L (marks-changing who (leaving (slotOf x)) L (λ y. inl refl))
@@ -342,7 +342,7 @@ module _ (k : Tables) where
       one false false true = marks-becoming k (byWriter who 15) (withOrder (firstOctet value) (L .player)) L
       one false false false =
           marks-changing who (resulting (resultOf k L value)) (becoming k (byWriter who 18) (outcome k L value .player) L) (λ y. inl refl)
-  marks (take room) L e = go (leb 128 room) (leb clientCount (nextIn L)) e
+  marks (take room) L e = go (mayTake room) (leb clientCount (nextIn L)) e
     where
       go : (t u : Bool) → pick t (pick u none (some (answerIn k L (nextIn L)))) none ≡ none → Marks L (pick t (pick u L (servingNext L (nextIn L))) L)
       go true true h = marks-same L

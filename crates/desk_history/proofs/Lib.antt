@@ -2,7 +2,6 @@
 pub mod Fairness
 pub mod Serving
 pub mod LedgerLaws
-pub mod Accepted
 pub mod Likeness
 pub mod Agreement
 pub mod Steps

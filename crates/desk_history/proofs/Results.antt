@@ -7,30 +7,31 @@ use mathlib.Core.List.{List, [], _∷_, _++_, map}
 use Prim.Native.Nat.{ℕ, _-_, _≤_, _<_}
 use native.Mathlib.Decide.{ℕ-discrete}
 use native.Mathlib.Omega.{arith}
-use borrow.Author.Tests.{eq-eqb, ne-eqb, eqb-true, eqb-false, leb-false}
+use borrow.Author.Tests.{eq-eqb, ne-eqb, eqb-true, eqb-false, leb-false, not-false}
 use lib.Dec.{eqb, leb, ltb}
 use lib.ListN.{length, take as firsts}
 use lib.Seq.{take-all}
-use Rattle.ground.specs.Cases.{pick, within}
+use Rattle.ground.specs.Cases.{pick}
+use Rattle.ground.specs.Refusals.{accepted}
 use Rattle.ground.specs.Words.{wordAt}
-use Rattle.ground.proofs.Cases.{past, here, clash, and-left, and-right}
+use Rattle.ground.proofs.Cases.{past, here, clash}
+use Rattle.ground.proofs.Rows.{none-of}
 use Rattle.catalogue_tables.specs.Tables.{Tables}
 use Rattle.player_state.specs.declared.Player.{Player}
 use Rattle.player_state.specs.Player.{renamed, deactivated, withOrder, withSpeed}
 use Rattle.player_moves.specs.Clock.{advanced, positioned, activated}
-use Rattle.player_check.specs.Standing.{textRule, groupRule}
 use Rattle.desk_slots.specs.Slots.{clientCount, slotOf, characteristicOf}
 use Rattle.desk_slots.specs.Characteristics.{writables, isIn}
 use Rattle.player_values.specs.Values.{valueOf}
 use Rattle.desk_client.specs.declared.Entry.{Entry}
-use Rattle.desk_client.specs.Client.{mtuRight, controlSlot, mostResults}
+use Rattle.desk_client.specs.Client.{controlSlot}
 use Rattle.desk_notices.specs.declared.Cause.{Cause}
 use Rattle.desk_notices.specs.Owed.{noWriter, byWriter}
-use Rattle.desk_console.specs.Console.{quietAdvance}
-use Rattle.desk_exchange.specs.Write.{firstOctet, lengthRight}
+use Rattle.desk_console.specs.Console.{nameRows, activateRows, quietAdvance}
+use Rattle.desk_exchange.specs.Write.{firstOctet, writeRows}
 use Rattle.desk_take.specs.Serving.{resultOctets}
 use Rattle.desk_history.specs.Calls.{Call, setName, activate, deactivate, advance, connect, disconnect, subscribe, unsubscribe, read, write, take}
-use Rattle.desk_history.specs.Ledger.{Side, Ledger, linked, nobody, changing, becoming, joining, leaving, resulting, behind, serving, some as any, owes, nextIn, slotIn, servingNext, asks, mayJoin, mayWrite, outcome, resultOf, controlWriting, writing, after}
+use Rattle.desk_history.specs.Ledger.{Side, Ledger, linked, nobody, changing, becoming, joining, leaving, resulting, behind, serving, some as any, owes, nextIn, slotIn, servingNext, mayConnect, asks, mayJoin, mayWrite, mayTake, outcome, resultOf, controlWriting, writing, after}
 use Rattle.desk_history.specs.Rounds.{prepend}
 use Rattle.desk_history.specs.History.{oldest, octetsIn, answerIn, dueOut, resultBy, handedTo}
 use Rattle.desk_history.proofs.LedgerLaws.{InRange, slot-near}
@@ -52,12 +53,7 @@ shown-append (e ∷ l) r = ap (λ (t : List (List ℕ)). resultOctets e ∷ t) (
 
 -- what may be written is one of the four
 may-in : (L : Ledger) (who x : ℕ) (value : List ℕ) → mayWrite L who x value ≡ true → isIn writables x ≡ true
-may-in L who x value e =
-    and-right (asks L who) (isIn writables x)
-    (and-left (asks L who && isIn writables x) (L .side who .safe)
-    (and-left (asks L who && isIn writables x && L .side who .safe) (lengthRight x value)
-    (and-left (asks L who && isIn writables x && L .side who .safe && lengthRight x value) (not (eqb x 15 && not (within 1 8 (firstOctet value))))
-    (and-left (asks L who && isIn writables x && L .side who .safe && lengthRight x value && not (eqb x 15 && not (within 1 8 (firstOctet value)))) (not (eqb x 18 && leb mostResults (length (L .side who .waiting)))) e))))
+may-in L who x value e = not-false _ (none-of (writeRows who (L .side who .on) (L .side who .safe) (length (L .side who .waiting)) x value) e .1 .1 .1 .0)
 
 -- a side and what becomes of it, by a call that hands out nothing and has no result for it
 module _ (c : ℕ) where
@@ -178,14 +174,14 @@ module _ (k : Tables) (c : ℕ) where
   pub turn : (call : Call) (L : Ledger) → InRange L → 23 ≤ L .side c .mtu
       → Turn (L .side c .wants controlSlot) (after k call L .side c .wants controlSlot) (shown (L .side c .waiting)) (resultBy k c call L) (handedTo c controlSlot (prepend (dueOut k call L) []))
       (shown (after k call L .side c .waiting))
-  turn (setName name) L g m = by-test c (textRule name) (becoming k (noWriter false) (renamed name (L .player)) L) L (becoming-turn c k (noWriter false) (renamed name (L .player)) L)
+  turn (setName name) L g m = by-test c (accepted (nameRows name)) (becoming k (noWriter false) (renamed name (L .player)) L) L (becoming-turn c k (noWriter false) (renamed name (L .player)) L)
   turn (activate n) L g m =
-      by-test c (groupRule (k .groups) n) (becoming k (noWriter false) (activated (k .groups) (k .tracks) n (L .player)) L) L
+      by-test c (accepted (activateRows k n)) (becoming k (noWriter false) (activated (k .groups) (k .tracks) n (L .player)) L) L
       (becoming-turn c k (noWriter false) (activated (k .groups) (k .tracks) n (L .player)) L)
   turn deactivate L g m = becoming-turn c k (noWriter false) (deactivated (L .player)) L
   turn (advance step) L g m = becoming-turn c k (noWriter (quietAdvance (k .tracks) step (L .player))) (advanced (k .groups) (k .tracks) step (L .player)) L
   turn (connect who mtu encrypted) L g m =
-      by-test c (ltb who clientCount && not (L .side who .on) && mtuRight mtu) (changing who (λ x. linked true encrypted mtu) L) L
+      by-test c (mayConnect L who mtu) (changing who (λ x. linked true encrypted mtu) L) L
       (changing-turn c who (λ x. linked true encrypted mtu) L (gone c (L .side c) true encrypted mtu))
   turn (disconnect who) L g m = by-test c (asks L who) (changing who (λ x. nobody) L) L (changing-turn c who (λ x. nobody) L (gone c (L .side c) false false 23))
   turn (subscribe who x) L g m = by-test c (mayJoin L who x) (changing who (joining (slotOf x)) L) L (changing-turn c who (joining (slotOf x)) L (keeps refl refl (λ e. refl)))
@@ -196,7 +192,7 @@ module _ (k : Tables) (c : ℕ) where
       go : (t : Bool) → mayWrite L who x value ≡ t → Now c L (pick t (writing k L who x value) L) (pick t (own L who x value) [])
       go true e = written-turn who x value L (may-in L who x value e)
       go false e = same c L
-  turn (take room) L g m = go (leb 128 room) (leb clientCount (nextIn L)) refl
+  turn (take room) L g m = go (mayTake room) (leb clientCount (nextIn L)) refl
     where
       go : (t u : Bool) → leb clientCount (nextIn L) ≡ u
           → Turn (L .side c .wants controlSlot) (pick t (pick u L (servingNext L (nextIn L))) L .side c .wants controlSlot) (shown (L .side c .waiting)) []

@@ -3,7 +3,7 @@ use mathlib.Core.Path.{_≡_, refl, sym, ap, _∙_, subst}
 use mathlib.Core.Bool.{Bool, true, false, not, _&&_, true≢false}
 use mathlib.Core.Logic.{⊎-elim, _⊎_}
 use mathlib.Core.Option.{none, some}
-use mathlib.Core.List.{List, [], _∷_}
+use mathlib.Core.List.{List, [], _∷_, _++_}
 use Prim.Native.Nat.{ℕ, zero, suc, _-_, _≤_, _<_}
 use native.Mathlib.Decide.{ℕ-discrete}
 use native.Mathlib.Nat.{not-suc-le-zero}
@@ -12,7 +12,11 @@ use borrow.Author.Tests.{eq-eqb, ne-eqb, lt-ltb, le-ltb, ltb-true, le-leb, lt-le
 use lib.Dec.{eqb, ltb, leb}
 use lib.ListN.{length, getD, set, length-set, take as firsts}
 use lib.Seq.{getD-set-same, getD-set-other}
-use Rattle.ground.specs.Cases.{pick, has, Said, granted, refused}
+use Rattle.ground.specs.Cases.{pick, has}
+use Rattle.ground.specs.Limits.{leastOutput}
+use Rattle.ground.specs.Refusals.{Said, granted, Row, row, saidBy, leaves}
+use Rattle.ground.proofs.Rows.{said-of}
+use Rattle.desk_replies.specs.Replies.{stateRight, fronted, caller}
 use Rattle.ground.proofs.Bounded.{all-intro}
 use Rattle.ground.proofs.Cases.{past, here, clash, le-or, true-or, and-both}
 use Rattle.catalogue_tables.specs.Tables.{Tables}
@@ -24,7 +28,6 @@ use Rattle.desk_slots.specs.Round.{next}
 use Rattle.desk_slots.proofs.Bits.{has-zero, no-slot}
 use Rattle.desk_slots.proofs.NextLaws.{Nearest, next-hit, next-nearest, next-same}
 use Rattle.desk_slots.proofs.TableLaws.{slot-back}
-use Rattle.admission.specs.Refusals.{leaves, Row, saidBy}
 use Rattle.desk_client.specs.declared.Entry.{Entry}
 use Rattle.desk_client.specs.declared.Client.{Client}
 use Rattle.desk_client.specs.Client.{controlSlot, blankEntry, clientRule}
@@ -34,14 +37,13 @@ use Rattle.desk_client.proofs.Kept.{kept-served}
 use Rattle.desk_state.specs.declared.Desk.{Desk}
 use Rattle.desk_state.specs.Desk.{noClient, clientAt, clientsRule, deskRule}
 use Rattle.desk_state.proofs.Laws.{player-stands, turn-there}
-use Rattle.desk_take.specs.Serving.{nextSlot, resultOctets, presentOctets, handedOctets, handedTo}
-use Rattle.desk_take.specs.Take.{owedSets, nextClient, withServed, servedAt, takenBy, takeRows, takeCall, takeOctets}
+use Rattle.desk_take.specs.Serving.{nextSlot, resultOctets, presentOctets, handedOctets, handedValues, afterServing}
+use Rattle.desk_take.specs.Take.{owedSets, nextClient, withServed, takenBy, takeCall, takeOctets}
 use Rattle.desk_take.proofs.Laws.{set-of}
-use Rattle.desk_history.specs.Ledger.{Side, Ledger, serving, some as any, owes, owedAny, nextIn, slotIn, servingNext, taking}
+use Rattle.desk_history.specs.Ledger.{Side, Ledger, serving, some as any, owes, owedAny, nextIn, slotIn, servingNext, taking, mayTake}
 use Rattle.desk_history.specs.History.{oldest, octetsIn, answerIn, spoken}
-use Rattle.desk_history.proofs.Accepted.{accepted, said-of}
 use Rattle.desk_history.proofs.Likeness.{Like, like-served}
-use Rattle.desk_history.proofs.Steps.{Ok, ok-call, like, rule}
+use Rattle.desk_history.proofs.Steps.{Ok, ok-call, guard, like, rule}
 use Rattle.desk_history.proofs.Exchanges.{as-many}
 use Rattle.desk_history.proofs.Serving.{owed-any, any-owed}
 
@@ -188,23 +190,11 @@ module _ (k : Tables) (right : catalogueRule k ≡ true) (L : Ledger) (d : Desk)
     unfolding handedOctets
     octets-agree = λ i. firsts (l .mtu i - 3) (present i)
 
-  -- a take is accepted where its room suffices
-  not-ltb : (a b : ℕ) → not (ltb a b) ≡ leb b a
-  not-ltb a b = ⊎-elim (λ (h : b ≤ a). ap not (le-ltb a b h) ∙ sym (le-leb b a h)) (λ (h : a < b). ap not (lt-ltb a b h) ∙ sym (lt-leb b a h)) (le-or b a)
-
-  take-rows : (room : ℕ) → accepted (takeRows k d room) ≡ leb 128 room
-  take-rows room = (λ i. not (not (right i)) && (not (ltb room 128) && (not (not (ok .1 i)) && true))) ∙ end (not (ltb room 128)) ∙ not-ltb room 128
-    where
-      end : (b : Bool) → (b && true) ≡ b
-      end true = refl
-      end false = refl
-
   taken-ok : Ok k (taking L (nextIn L)) (takenBy k d (nextIn L) .state)
-  unfolding handedTo
   taken-ok = go (leb clientCount (nextIn L)) refl
     where
       go : (t : Bool) → leb clientCount (nextIn L) ≡ t
-          → Ok k (pick t L (servingNext L (nextIn L))) (pick t (leaves (granted []) d) (servedAt d (nextIn L) (handedTo k (d .player) (nextIn L) (clientAt (d .clients) (nextIn L)))) .state)
+          → Ok k (pick t L (servingNext L (nextIn L))) (pick t (leaves (granted []) d) (leaves (granted (nextIn L ∷ handedValues k (d .player) (caller d (nextIn L)))) (withServed (nextIn L) (afterServing (caller d (nextIn L))) d)) .state)
       go true e = ok
       go false e =
           let h = leb-false clientCount (nextIn L) e in
@@ -212,33 +202,34 @@ module _ (k : Tables) (right : catalogueRule k ≡ true) (L : Ledger) (d : Desk)
           subst (λ (s : ℕ). Ok k (servingNext L (nextIn L)) (withServed (nextIn L) (served s own) d))
           (sym (slot-same (L .side (nextIn L)) own (like k right L d ok (nextIn L) h) (rule k right L d ok (nextIn L) h))) (served-ok h)
 
-  pub take-step : (room : ℕ) → Ok k (pick (leb 128 room) (taking L (nextIn L)) L) (takeCall k d room .state)
+  pub take-step : (room : ℕ) → Ok k (pick (mayTake room) (taking L (nextIn L)) L) (takeCall k d room .state)
   unfolding takeCall
   take-step room =
-      ok-call k right L d ok (leb 128 room) (takeRows k d room) _ (taking L (nextIn L)) (take-rows room)
+      ok-call k right L d ok (ltb room leastOutput) (mayTake room) [] _ (taking L (nextIn L)) refl
       (λ e. subst (λ (n : ℕ). Ok k (taking L (nextIn L)) (takenBy k d n .state)) (sym next-agrees) taken-ok)
 
-  -- a refusal has no values
-  no-values : (rows : List Row) → saidBy rows .values ≡ []
-  no-values [] = refl
-  no-values (r ∷ rows) = go (r .applies) (no-values rows)
-    where
-      go : (t : Bool) → saidBy rows .values ≡ [] → pick t (refused (r .number)) (saidBy rows) .values ≡ []
-      go true h = refl
-      go false h = h
+  -- the refusals of a take carry nothing
+  no-values : (right small stands : Bool) → saidBy (row 200 right ∷ row 205 small ∷ row 201 stands ∷ []) .values ≡ []
+  no-values true small stands = refl
+  no-values false true stands = refl
+  no-values false false true = refl
+  no-values false false false = refl
 
   -- what the desk says of a take, and what it hands out
-  pub take-agrees : (room : ℕ) → spoken (takeCall k d room .said .values) (takeOctets k d) ≡ pick (leb 128 room) (pick (leb clientCount (nextIn L)) none (some (answerIn k L (nextIn L)))) none
-  unfolding takeCall takeOctets handedTo
+  pub take-agrees : (room : ℕ) → spoken (takeCall k d room .said .values) (takeOctets k d) ≡ pick (mayTake room) (pick (leb clientCount (nextIn L)) none (some (answerIn k L (nextIn L)))) none
+  unfolding takeCall takeOctets
   take-agrees room =
-      ap (λ (s : Said). spoken (s .values) (takeOctets k d)) (said-of d (takeRows k d room) (takenBy k d (nextClient d)) ∙ (λ i. pick (take-rows room i) (takenBy k d (next-agrees i) .said) (saidBy (takeRows k d room))))
-      ∙ enough (leb 128 room)
+      ap (λ (s : Said). spoken (s .values) (takeOctets k d)) (said-of d rows (takenBy k d (nextClient d)) ∙ (λ i. pick (guard k right L d ok (ltb room leastOutput) [] i) (takenBy k d (next-agrees i) .said) (saidBy rows)))
+      ∙ enough (mayTake room)
     where
+      rows : List Row
+      rows = fronted k (ltb room leastOutput) d ++ []
+
       octets : ℕ → List ℕ
       octets n = pick (leb clientCount n) [] (handedOctets k (d .player) (clientAt (d .clients) n))
 
       serves : (u : Bool) → leb clientCount (nextIn L) ≡ u
-          → spoken (pick u (leaves (granted []) d) (servedAt d (nextIn L) (handedTo k (d .player) (nextIn L) (clientAt (d .clients) (nextIn L)))) .said .values) (pick u [] (handedOctets k (d .player) (clientAt (d .clients) (nextIn L))))
+          → spoken (pick u (leaves (granted []) d) (leaves (granted (nextIn L ∷ handedValues k (d .player) (caller d (nextIn L)))) (withServed (nextIn L) (afterServing (caller d (nextIn L))) d)) .said .values) (pick u [] (handedOctets k (d .player) (clientAt (d .clients) (nextIn L))))
           ≡ pick u none (some (answerIn k L (nextIn L)))
       serves true e = refl
       serves false e =
@@ -248,7 +239,7 @@ module _ (k : Tables) (right : catalogueRule k ≡ true) (L : Ledger) (d : Desk)
           let back = ap (λ (s : ℕ). slotOf (characteristicOf s)) same ∙ slot-back (slotIn (L .side (nextIn L))) (slot h .inside) in
           λ i. some (record { client = nextIn L; slot = back i; octets = octets-agree h i })
 
-      enough : (t : Bool) → spoken (pick t (takenBy k d (nextIn L) .said) (saidBy (takeRows k d room)) .values) (octets (nextClient d))
+      enough : (t : Bool) → spoken (pick t (takenBy k d (nextIn L) .said) (saidBy rows) .values) (octets (nextClient d))
           ≡ pick t (pick (leb clientCount (nextIn L)) none (some (answerIn k L (nextIn L)))) none
       enough true = (λ i. spoken (takenBy k d (nextIn L) .said .values) (octets (next-agrees i))) ∙ serves (leb clientCount (nextIn L)) refl
-      enough false = ap (λ (v : List ℕ). spoken v (octets (nextClient d))) (no-values (takeRows k d room))
+      enough false = ap (λ (v : List ℕ). spoken v (octets (nextClient d))) (no-values (not (catalogueRule k)) (ltb room leastOutput) (not (stateRight k d)))

@@ -4,7 +4,7 @@ use mathlib.Core.Bool.{Bool}
 use mathlib.Core.List.{List}
 use Prim.Native.Nat.{ℕ}
 use Rattle.catalogue_tables.specs.Tables.{Tables}
-use Rattle.admission.specs.Refusals.{Left}
+use Rattle.ground.specs.Refusals.{Left}
 use Rattle.desk_state.specs.declared.Desk.{Desk}
 use Rattle.desk_links.specs.Links.{connectCall, disconnectCall, subscribeCall, unsubscribeCall}
 use Rattle.desk_console.specs.Console.{nameCall, activateCall, deactivateCall, advanceCall}

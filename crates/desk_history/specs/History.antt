@@ -21,7 +21,7 @@ use Rattle.desk_console.specs.Console.{startCall}
 use Rattle.desk_take.specs.Serving.{resultOctets}
 use Rattle.desk_take.specs.Take.{takeCall, takeOctets}
 use Rattle.desk_history.specs.Calls.{Call, setName, activate, deactivate, advance, connect, disconnect, subscribe, unsubscribe, read, write, take, left}
-use Rattle.desk_history.specs.Ledger.{Side, Ledger, opening, after, nextIn, slotIn, mayWrite, resultOf}
+use Rattle.desk_history.specs.Ledger.{Side, Ledger, opening, after, nextIn, slotIn, mayWrite, mayTake, resultOf}
 use Rattle.desk_history.specs.Rounds.{Answer, isFor, prepend}
 
 -- by the rules: "the present value, its first ATT_MTU − 3"; of 18 the oldest result
@@ -48,7 +48,7 @@ dueOut k (subscribe who c) L = none
 dueOut k (unsubscribe who c) L = none
 dueOut k (read who c offset room) L = none
 dueOut k (write who c value) L = none
-dueOut k (take room) L = pick (leb 128 room) (pick (leb clientCount (nextIn L)) none (some (answerIn k L (nextIn L)))) none
+dueOut k (take room) L = pick (mayTake room) (pick (leb clientCount (nextIn L)) none (some (answerIn k L (nextIn L)))) none
 
 -- by the desk: what a take says, and the octets that it puts over the front of the output
 abbrev pub spoken : List ℕ → List ℕ → Option Answer

@@ -6,25 +6,27 @@ use mathlib.Core.List.{List, [], _∷_, _++_}
 use Prim.Native.Nat.{ℕ, zero, suc, _-_}
 use lib.Dec.{eqb, leb, ltb}
 use lib.ListN.{length}
-use Rattle.ground.specs.Cases.{pick, within}
+use Rattle.ground.specs.Cases.{pick}
+use Rattle.ground.specs.Limits.{leastOutput}
+use Rattle.ground.specs.Refusals.{row, accepted}
 use Rattle.ground.specs.Words.{wordAt}
 use Rattle.catalogue_tables.specs.Tables.{Tables}
 use Rattle.player_state.specs.declared.Player.{Player}
 use Rattle.player_state.specs.Player.{renamed, deactivated, withOrder, withSpeed}
-use Rattle.player_check.specs.Standing.{textRule, groupRule}
 use Rattle.player_moves.specs.declared.Controlled.{Controlled}
 use Rattle.player_moves.specs.Control.{controlled}
 use Rattle.player_moves.specs.Clock.{advanced, positioned, activated}
 use Rattle.desk_slots.specs.Slots.{slotCount, clientCount, slotOf, characteristicOf}
-use Rattle.desk_slots.specs.Characteristics.{writables, isIn}
 use Rattle.desk_slots.specs.Round.{next}
 use Rattle.desk_client.specs.declared.Entry.{Entry}
-use Rattle.desk_client.specs.Client.{mtuRight, controlSlot, mostResults}
+use Rattle.desk_client.specs.Client.{controlSlot}
 use Rattle.desk_notices.specs.Changes.{changed, trackChanged}
 use Rattle.desk_notices.specs.declared.Cause.{Cause}
 use Rattle.desk_notices.specs.Owed.{fallsDue, spared, noWriter, byWriter}
-use Rattle.desk_console.specs.Console.{quietAdvance}
-use Rattle.desk_exchange.specs.Write.{firstOctet, lengthRight, numberOf}
+use Rattle.desk_replies.specs.Replies.{ofClient}
+use Rattle.desk_links.specs.Links.{connectRows, slotRows}
+use Rattle.desk_console.specs.Console.{nameRows, activateRows, quietAdvance}
+use Rattle.desk_exchange.specs.Write.{firstOctet, writeRows, numberOf}
 use Rattle.desk_history.specs.Calls.{Call, setName, activate, deactivate, advance, connect, disconnect, subscribe, unsubscribe, read, write, take}
 
 -- of a client: whether it is connected, encrypted, its ATT_MTU, the slots that it is subscribed to, the values that are owed, the results that wait,
@@ -171,23 +173,21 @@ servingNext L who =
 abbrev pub taking : Ledger → ℕ → Ledger
 taking L who = pick (leb clientCount who) L (servingNext L who)
 
--- a client that may ask: 202, 203
+-- which calls are accepted: by the same rows as the desk's, with what the ledger knows of the client
+abbrev pub mayConnect : Ledger → ℕ → ℕ → Bool
+mayConnect L who mtu = accepted (connectRows who (L .side who .on) mtu)
+
 abbrev pub asks : Ledger → ℕ → Bool
-asks L who = ltb who clientCount && L .side who .on
+asks L who = accepted (ofClient who (L .side who .on))
 
--- 0x01, 209, 0x0F
 abbrev pub mayJoin : Ledger → ℕ → ℕ → Bool
-mayJoin L who c = asks L who && ltb (slotOf c) slotCount && L .side who .safe
+mayJoin L who c = accepted (slotRows who (L .side who .on) (L .side who .safe) c)
 
--- 0x01, 0x03, 0x0F, 0x0D, 0x13, 0x11
 abbrev pub mayWrite : Ledger → ℕ → ℕ → List ℕ → Bool
-mayWrite L who c value =
-    asks L who
-    && isIn writables c
-    && L .side who .safe
-    && lengthRight c value
-    && not (eqb c 15 && not (within 1 8 (firstOctet value)))
-    && not (eqb c 18 && leb mostResults (length (L .side who .waiting)))
+mayWrite L who c value = accepted (writeRows who (L .side who .on) (L .side who .safe) (length (L .side who .waiting)) c value)
+
+abbrev pub mayTake : ℕ → Bool
+mayTake room = accepted (row 205 (ltb room leastOutput) ∷ [])
 
 -- a control write: the requested opcode and the result
 abbrev pub outcome : Tables → Ledger → List ℕ → Controlled
@@ -210,16 +210,16 @@ writing k L who c value =
 
 -- a call that is refused alters nothing
 abbrev pub after : Tables → Call → Ledger → Ledger
-after k (setName name) L = pick (textRule name) (becoming k (noWriter false) (renamed name (L .player)) L) L
-after k (activate g) L = pick (groupRule (k .groups) g) (becoming k (noWriter false) (activated (k .groups) (k .tracks) g (L .player)) L) L
+after k (setName name) L = pick (accepted (nameRows name)) (becoming k (noWriter false) (renamed name (L .player)) L) L
+after k (activate g) L = pick (accepted (activateRows k g)) (becoming k (noWriter false) (activated (k .groups) (k .tracks) g (L .player)) L) L
 after k deactivate L = becoming k (noWriter false) (deactivated (L .player)) L
 after k (advance step) L =
     becoming k (noWriter (quietAdvance (k .tracks) step (L .player))) (advanced (k .groups) (k .tracks) step (L .player)) L
 after k (connect who mtu encrypted) L =
-    pick (ltb who clientCount && not (L .side who .on) && mtuRight mtu) (changing who (λ x. linked true encrypted mtu) L) L
+    pick (mayConnect L who mtu) (changing who (λ x. linked true encrypted mtu) L) L
 after k (disconnect who) L = pick (asks L who) (changing who (λ x. nobody) L) L
 after k (subscribe who c) L = pick (mayJoin L who c) (changing who (joining (slotOf c)) L) L
 after k (unsubscribe who c) L = pick (mayJoin L who c) (changing who (leaving (slotOf c)) L) L
 after k (read who c offset room) L = L
 after k (write who c value) L = pick (mayWrite L who c value) (writing k L who c value) L
-after k (take room) L = pick (leb 128 room) (taking L (nextIn L)) L
+after k (take room) L = pick (mayTake room) (taking L (nextIn L)) L

@@ -1,18 +1,20 @@
 -- The rows of each call stand in the order of document 01's table. Assumes nothing.
 use mathlib.Core.Path.{_≡_, refl}
-use mathlib.Core.Bool.{true}
+use mathlib.Core.Bool.{Bool, true, false}
+use mathlib.Core.List.{_++_}
 use Prim.Native.Nat.{ℕ}
+use Rattle.ground.specs.Refusals.{table, inOrder}
 use Rattle.catalogue_tables.specs.Tables.{Tables}
-use Rattle.admission.specs.Refusals.{table, inOrder}
 use Rattle.desk_state.specs.declared.Desk.{Desk}
-use Rattle.desk_links.specs.Links.{connectRows, disconnectRows, slotRows}
+use Rattle.desk_replies.specs.Replies.{fronted, ofClient}
+use Rattle.desk_links.specs.Links.{connectRows, slotRows}
 
-module _ (k : Tables) (d : Desk) (who : ℕ) where
-  pub connect-order : (mtu : ℕ) → inOrder table (connectRows k d who mtu) ≡ true
+module _ (k : Tables) (d : Desk) (who : ℕ) (connected : Bool) where
+  pub connect-order : (mtu : ℕ) → inOrder table (fronted k false d ++ connectRows who connected mtu) ≡ true
   connect-order mtu = refl
 
-  pub disconnect-order : inOrder table (disconnectRows k d who) ≡ true
+  pub disconnect-order : inOrder table (fronted k false d ++ ofClient who connected) ≡ true
   disconnect-order = refl
 
-  pub slot-order : (characteristic : ℕ) → inOrder table (slotRows k d who characteristic) ≡ true
-  slot-order characteristic = refl
+  pub slot-order : (encrypted : Bool) (characteristic : ℕ) → inOrder table (fronted k false d ++ slotRows who connected encrypted characteristic) ≡ true
+  slot-order encrypted characteristic = refl

@@ -1,8 +1,13 @@
 // Devices come and go, and say which values they want to be told of. Each call checks catalogue and state itself, and refuses by document 01's numbers.
 ghost use mathlib.Core.Path.{_≡_};
+ghost use mathlib.Core.Bool.{Bool};
+ghost use Prim.Native.Nat.{_<_};
+ghost use Rattle.ground.specs.Cases.{pick};
 ghost use Rattle.catalogue_tables.specs.Tables.{tables};
-ghost use Rattle.desk_replies.specs.Replies.{Gated, leftBy};
-ghost use Rattle.desk_links.specs.Links.{connectCall, disconnectCall, slotRows, subscribeCall, unsubscribeCall};
+ghost use Rattle.desk_slots.specs.Slots.{slotCount};
+ghost use Rattle.desk_client.specs.Duties.{joined, dropped};
+ghost use Rattle.desk_replies.specs.Replies.{leftBy};
+ghost use Rattle.desk_links.specs.Links.{connectCall, disconnectCall, slotCall, subscribeCall, unsubscribeCall};
 
 // A device connects, with its ATT_MTU, encrypted or not.
 pub fn connect(
@@ -22,15 +27,14 @@ pub fn connect(
         return desk_replies::shut(g, d);
     }
     if desk_slots::CLIENTS <= who {
-        return desk_replies::left(desk_replies::Answer::NoClient, d);
+        return desk_replies::refuse(ground::NO_CLIENT, d);
     }
     let c = desk_state::client_at(d, who);
-    let right = (23 <= mtu) & (mtu <= 517);
     if c.connected {
-        return desk_replies::left(desk_replies::Answer::AlreadyConnected, d);
+        return desk_replies::refuse(ground::ALREADY_CONNECTED, d);
     }
-    if !right {
-        return desk_replies::left(desk_replies::Answer::BadMtu, d);
+    if !desk_client::mtu_right(mtu) {
+        return desk_replies::refuse(ground::BAD_MTU, d);
     }
     let fresh = desk_client::connected_client(mtu, encrypted);
     let e = desk_state::with_client(d, who, fresh);
@@ -57,8 +61,19 @@ pub fn disconnect(
     desk_replies::left(desk_replies::Answer::Done, e)
 }
 
-// The refusals of subscribe and unsubscribe.
-fn slot_gate(
+// A record that subscribes to a slot, or unsubscribes from it.
+fn with_slot(c: desk_client::Client, s: u32, on: bool) -> desk_client::Client
+    requires { ⌜ s < slotCount ⌝ }
+    ensures { λ r. ⌜ r ≡ pick on joined dropped s c ⌝ }
+{
+    if on {
+        return desk_client::join(c, s);
+    }
+    desk_client::leave(c, s)
+}
+
+// Subscribe, where `on` says so, and unsubscribe else.
+fn set_slot(
     groups: &[u32],
     tracks: &[u32],
     segments: &[u32],
@@ -66,24 +81,30 @@ fn slot_gate(
     d: desk_state::Desk,
     who: u32,
     characteristic: u32,
-) -> desk_replies::Gate
-    ensures { λ r. ⌜ Gated (slotRows (tables (now (groups .entry)) (now (tracks .entry)) (now (segments .entry)) (now (text .entry))) d who characteristic) r ⌝ }
+    on: bool,
+) -> desk_replies::Outcome
+    ensures { λ r. ⌜ leftBy r ≡ slotCall (tables (now (groups .entry)) (now (tracks .entry)) (now (segments .entry)) (now (text .entry))) d who characteristic (pick on joined dropped) ⌝ }
 {
-    let g = desk_replies::client_gate(groups, tracks, segments, text, false, d, who);
+    let s = desk_slots::slot_of(characteristic);
+    let g = desk_replies::characteristic_gate(
+        groups,
+        tracks,
+        segments,
+        text,
+        false,
+        d,
+        who,
+        characteristic,
+        ground::NO_SLOT,
+        s < desk_slots::SLOTS,
+    );
     if !g.passes {
-        return g;
-    }
-    if !desk_slots::is_characteristic(characteristic) {
-        return desk_replies::gate_at(false, desk_replies::Answer::NoCharacteristic);
-    }
-    if desk_slots::SLOTS <= desk_slots::slot_of(characteristic) {
-        return desk_replies::gate_at(false, desk_replies::Answer::NoSlot);
+        return desk_replies::shut(g, d);
     }
     let c = desk_state::client_at(d, who);
-    if !c.encrypted {
-        return desk_replies::gate_at(false, desk_replies::Answer::NotEncrypted);
-    }
-    desk_replies::gate_at(true, desk_replies::Answer::Done)
+    let next = with_slot(c, s, on);
+    let e = desk_state::with_client(d, who, next);
+    desk_replies::left(desk_replies::Answer::Done, e)
 }
 
 // A client asks to be told of a characteristic.
@@ -98,15 +119,7 @@ pub fn subscribe(
 ) -> desk_replies::Outcome
     ensures { λ r. ⌜ leftBy r ≡ subscribeCall (tables (now (groups .entry)) (now (tracks .entry)) (now (segments .entry)) (now (text .entry))) d who characteristic ⌝ }
 {
-    let g = slot_gate(groups, tracks, segments, text, d, who, characteristic);
-    if !g.passes {
-        return desk_replies::shut(g, d);
-    }
-    let s = desk_slots::slot_of(characteristic);
-    let c = desk_state::client_at(d, who);
-    let next = desk_client::join(c, s);
-    let e = desk_state::with_client(d, who, next);
-    desk_replies::left(desk_replies::Answer::Done, e)
+    set_slot(groups, tracks, segments, text, d, who, characteristic, true)
 }
 
 // A client no longer wants to be told of a characteristic.
@@ -121,13 +134,14 @@ pub fn unsubscribe(
 ) -> desk_replies::Outcome
     ensures { λ r. ⌜ leftBy r ≡ unsubscribeCall (tables (now (groups .entry)) (now (tracks .entry)) (now (segments .entry)) (now (text .entry))) d who characteristic ⌝ }
 {
-    let g = slot_gate(groups, tracks, segments, text, d, who, characteristic);
-    if !g.passes {
-        return desk_replies::shut(g, d);
-    }
-    let s = desk_slots::slot_of(characteristic);
-    let c = desk_state::client_at(d, who);
-    let next = desk_client::leave(c, s);
-    let e = desk_state::with_client(d, who, next);
-    desk_replies::left(desk_replies::Answer::Done, e)
+    set_slot(
+        groups,
+        tracks,
+        segments,
+        text,
+        d,
+        who,
+        characteristic,
+        false,
+    )
 }

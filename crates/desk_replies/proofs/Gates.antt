@@ -1,53 +1,52 @@
 -- What a gate tells the call that asked it. Assumes nothing.
 use mathlib.Core.Path.{_≡_, refl, sym, ap, _∙_}
-use mathlib.Core.Bool.{Bool, true, false, not}
-use mathlib.Core.List.{List, [], _∷_}
+use mathlib.Core.Bool.{Bool, true, false}
+use mathlib.Core.List.{List, [], _++_}
 use Prim.Native.Nat.{ℕ}
 use borrow.Author.Tests.{not-false}
-use lib.Dec.{eqb}
-use Rattle.ground.specs.Cases.{Said, granted}
-use Rattle.ground.specs.Lists.{filled}
-use Rattle.ground.proofs.Cases.{past, here, clash}
+use Rattle.ground.specs.Refusals.{Said, granted, Row, answered, saidBy}
+use Rattle.ground.specs.Lists.{filled, tableAfter}
+use Rattle.ground.proofs.Cases.{past, here}
+use Rattle.ground.proofs.Rows.{NoneApplies, shut, kept, more, beyond, all-of}
 use Rattle.catalogue_tables.specs.Tables.{Tables}
 use Rattle.catalogue_check.specs.Catalogue.{catalogueRule, Right}
 use Rattle.catalogue_check.proofs.Laws.{is-right}
 use Rattle.player_check.specs.Standing.{playerRule}
-use Rattle.admission.specs.Refusals.{Left, leaves, Row, row, answered, saidBy}
-use Rattle.admission.proofs.Rows.{NoneApplies, numbered, shut, opened}
 use Rattle.desk_state.specs.declared.Desk.{Desk}
 use Rattle.desk_state.proofs.Laws.{player-stands}
 use Rattle.desk_replies.specs.declared.Gate.{Gate}
-use Rattle.desk_replies.specs.Replies.{saidOf, stateRight, lentRows, fronted, askedBy, Gated, outputAfter}
+use Rattle.desk_replies.specs.Replies.{saidOf, stateRight, fronted, Gated}
 
 module _ (rows : List Row) (g : Gate) (gated : Gated rows g) where
-  -- the gate is shut: its answer is the call's, whatever stands behind
-  pub refuses : {S : Type 0} → g .passes ≡ false → (s : S) (rest : Left S) → leaves (saidOf (g .answer)) s ≡ answered s rows rest
-  refuses {S} e s rest = ap (λ (said : Said). leaves said s) (gated .0) ∙ shut s rows rest (sym (gated .1) ∙ e)
+  -- the gate is shut: its answer is the call's, whatever rows and work stand behind
+  pub refuses : {A : Type 0} → g .passes ≡ false → (refuse : Said → A) (behind : List Row) (work : A) → refuse (saidOf (g .answer)) ≡ answered refuse (rows ++ behind) work
+  refuses {A} e refuse behind work =
+      let q = more rows behind (sym (gated .1) ∙ e) in
+      ap refuse (gated .0 ∙ q) ∙ shut refuse (rows ++ behind) work (sym (ap (λ (s : Said). s .isGranted) q) ∙ sym (gated .1) ∙ e)
+
+  -- a gate of more rows is shut with it
+  pub stays-shut : g .passes ≡ false → (behind : List Row) → Gated (rows ++ behind) g
+  stays-shut e behind =
+      let q = more rows behind (sym (gated .1) ∙ e) in
+      (gated .0 ∙ q, gated .1 ∙ ap (λ (s : Said). s .isGranted) q)
 
   -- it passes: none of its rows applies
-  pub none : numbered rows ≡ true → g .passes ≡ true → NoneApplies rows
-  none n e = opened rows n (sym (gated .1) ∙ e)
+  pub none : g .passes ≡ true → NoneApplies rows
+  none e = kept rows (granted []) (sym (gated .1) ∙ e)
+
+  -- and it is a gate of more rows of which none applies
+  pub stays-open : g .passes ≡ true → (behind : List Row) → NoneApplies behind → Gated (rows ++ behind) g
+  stays-open e behind n =
+      let q : granted [] ≡ saidBy (rows ++ behind) = beyond rows behind (none e) (all-of behind n) in
+      let p : granted [] ≡ saidBy rows = all-of rows (none e) in
+      (gated .0 ∙ sym p ∙ q, gated .1 ∙ ap (λ (s : Said). s .isGranted) (sym p ∙ q))
 
 -- a gate that says what the rows say
-pub says : (rows : List Row) (g : Gate) (said : Said) → saidOf (g .answer) ≡ said → g .passes ≡ eqb (said .number) 0 → said ≡ saidBy rows → Gated rows g
-says rows g said p q e = (p ∙ e, q ∙ ap (λ (s : Said). eqb (s .number) 0) e)
-
--- the state is asked last: a gate that is shut before that is shut whatever the state
-pub shut-before : (k : Tables) (small stands : Bool) (g : Gate) → Gated (lentRows k small true) g → g .passes ≡ false → Gated (lentRows k small stands) g
-shut-before k small stands g gated e =
-    let q = same (catalogueRule k) small (sym (gated .1) ∙ e) in
-    (gated .0 ∙ q, gated .1 ∙ ap (λ (s : Said). eqb (s .number) 0) q)
-  where
-    asked : Bool → Bool → Bool → Said
-    asked right small stands = saidBy (row 200 (not right) ∷ row 205 small ∷ row 201 (not stands) ∷ [])
-
-    same : (right small : Bool) → eqb (asked right small true .number) 0 ≡ false → asked right small true ≡ asked right small stands
-    same false small h = refl
-    same true true h = refl
-    same true false h = clash (sym h)
+pub says : (rows : List Row) (g : Gate) (said : Said) → saidOf (g .answer) ≡ said → g .passes ≡ said .isGranted → said ≡ saidBy rows → Gated rows g
+says rows g said p q e = (p ∙ e, q ∙ ap (λ (s : Said). s .isGranted) e)
 
 -- what the first rows tell where none of them applies
-module _ (k : Tables) (small : Bool) (d : Desk) (passed : NoneApplies (fronted k small d)) where
+module _ (k : Tables) (small : Bool) (d : Desk) (behind : List Row) (passed : NoneApplies (fronted k small d ++ behind)) where
   pub right : Right k
   right = is-right k (not-false _ (passed .0))
 
@@ -57,14 +56,10 @@ module _ (k : Tables) (small : Bool) (d : Desk) (passed : NoneApplies (fronted k
   pub player : playerRule (k .groups) (k .tracks) (d .player) ≡ true
   player = player-stands (k .groups) (k .tracks) d stands
 
--- those of a connected client have them in front
-pub front-of : (k : Tables) (small : Bool) (d : Desk) (who : ℕ) → NoneApplies (askedBy k small d who) → NoneApplies (fronted k small d)
-front-of k small d who n = (n .0, (n .1 .0, (n .1 .1 .0, tt)))
-
 -- the lent output: as it was where the gate does not pass, its front filled where the call is accepted
-pub kept : (rows : List Row) (g : Gate) → Gated rows g → g .passes ≡ false → (said : Said) → said ≡ saidOf (g .answer) → (octets old : List ℕ)
-    → old ≡ outputAfter said octets old
-kept rows g gated e said q octets old = past _ (ap (λ (s : Said). eqb (s .number) 0) (q ∙ gated .0) ∙ sym (gated .1) ∙ e) refl
+pub as-it-was : (rows : List Row) (g : Gate) → Gated rows g → g .passes ≡ false → (said : Said) → said ≡ saidOf (g .answer) → (octets old : List ℕ)
+    → old ≡ tableAfter said octets old
+as-it-was rows g gated e said q octets old = past _ (ap (λ (s : Said). s .isGranted) (q ∙ gated .0) ∙ sym (gated .1) ∙ e) refl
 
-pub shown : (said : Said) (values octets old : List ℕ) → said ≡ granted values → filled octets old ≡ outputAfter said octets old
-shown said values octets old e = here _ (ap (λ (s : Said). eqb (s .number) 0) e) refl
+pub shown : (said : Said) (values octets old : List ℕ) → said ≡ granted values → filled octets old ≡ tableAfter said octets old
+shown said values octets old e = here _ (ap (λ (s : Said). s .isGranted) e) refl

@@ -2,12 +2,12 @@
 use mathlib.Core.Path.{_≡_, refl, sym, ap, _∙_}
 use mathlib.Core.List.{List, [], _∷_}
 use Prim.Native.Nat.{ℕ}
-use lib.Dec.{eqb}
-use Rattle.ground.specs.Cases.{pick, Said}
-use Rattle.admission.specs.Refusals.{Left}
+use Rattle.ground.specs.Cases.{pick}
+use Rattle.ground.specs.Refusals.{Said, Left}
+use Rattle.ground.proofs.Settled.{settled-by, refusalAs, refusal-back}
 use Rattle.desk_state.specs.declared.Desk.{Desk}
 use Rattle.desk_replies.specs.declared.Answer.{Answer}
-use Rattle.desk_replies.specs.declared.Answer.the-variants.{Done, Octets, Served, BadCatalogue, SmallOutput, BadState, NoClient, NotConnected, AlreadyConnected, BadMtu, NoCharacteristic, NoSlot, NotReadable, NotWritable, NotEncrypted, ValueChanged, BeyondEnd, BadLength, BadOrder, TooManyResults, BadName, BadGroup}
+use Rattle.desk_replies.specs.declared.Answer.the-variants.{Done, Octets, Served, Handed, Refused}
 use Rattle.desk_replies.specs.declared.Outcome.{Outcome}
 use Rattle.desk_replies.specs.Replies.{saidOf, leftBy}
 
@@ -15,59 +15,23 @@ use Rattle.desk_replies.specs.Replies.{saidOf, leftBy}
 grantedAs : List ℕ → Answer
 grantedAs [] = Done
 grantedAs (n ∷ []) = Octets n
-grantedAs (a ∷ b ∷ []) = Done
+grantedAs (a ∷ b ∷ []) = Handed a b
 grantedAs (a ∷ b ∷ c ∷ l) = Served a b c
 
 answerOf : Said → Answer
-answerOf said =
-    pick (eqb (said .number) 0) (grantedAs (said .values))
-    (pick (eqb (said .number) 200) BadCatalogue
-    (pick (eqb (said .number) 205) SmallOutput
-    (pick (eqb (said .number) 201) BadState
-    (pick (eqb (said .number) 202) NoClient
-    (pick (eqb (said .number) 203) NotConnected
-    (pick (eqb (said .number) 204) AlreadyConnected
-    (pick (eqb (said .number) 206) BadMtu
-    (pick (eqb (said .number) 0x01) NoCharacteristic
-    (pick (eqb (said .number) 209) NoSlot
-    (pick (eqb (said .number) 0x02) NotReadable
-    (pick (eqb (said .number) 0x03) NotWritable
-    (pick (eqb (said .number) 0x0F) NotEncrypted
-    (pick (eqb (said .number) 0x80) ValueChanged
-    (pick (eqb (said .number) 0x07) BeyondEnd
-    (pick (eqb (said .number) 0x0D) BadLength
-    (pick (eqb (said .number) 0x13) BadOrder
-    (pick (eqb (said .number) 0x11) TooManyResults
-    (pick (eqb (said .number) 207) BadName BadGroup))))))))))))))))))
+answerOf said = pick (said .isGranted) (grantedAs (said .values)) (Refused (refusalAs said))
 
 said-back : (a : Answer) → answerOf (saidOf a) ≡ a
 unfolding answerOf grantedAs
 said-back Done = refl
 said-back (Octets n) = refl
 said-back (Served who c n) = refl
-said-back BadCatalogue = refl
-said-back SmallOutput = refl
-said-back BadState = refl
-said-back NoClient = refl
-said-back NotConnected = refl
-said-back AlreadyConnected = refl
-said-back BadMtu = refl
-said-back NoCharacteristic = refl
-said-back NoSlot = refl
-said-back NotReadable = refl
-said-back NotWritable = refl
-said-back NotEncrypted = refl
-said-back ValueChanged = refl
-said-back BeyondEnd = refl
-said-back BadLength = refl
-said-back BadOrder = refl
-said-back TooManyResults = refl
-said-back BadName = refl
-said-back BadGroup = refl
+said-back (Handed c n) = refl
+said-back (Refused r) = ap Refused (refusal-back r)
 
 -- an answer is settled by what it says
 pub answer-settles : (a b : Answer) → saidOf a ≡ saidOf b → a ≡ b
-answer-settles a b e = sym (said-back a) ∙ ap answerOf e ∙ said-back b
+answer-settles = settled-by saidOf answerOf said-back
 
 -- outcomes that leave the same are the same
 pub left-settles : (o₁ o₂ : Outcome) → leftBy o₁ ≡ leftBy o₂ → o₁ ≡ o₂

@@ -4,17 +4,17 @@ use mathlib.Core.Path.{_≡_}
 use mathlib.Core.Bool.{Bool, not}
 use mathlib.Core.List.{List, [], _∷_, _++_}
 use Prim.Native.Nat.{ℕ}
-use lib.Dec.{eqb, leb}
-use Rattle.ground.specs.Cases.{pick, Said, granted, refused}
-use Rattle.ground.specs.Lists.{filled}
+use lib.Dec.{leb}
+use Rattle.ground.specs.Refusals.{Said, granted, refusalOf, Left, leaves, keeping, Row, row, answered, saidBy}
 use Rattle.catalogue_tables.specs.Tables.{Tables}
-use Rattle.catalogue_check.specs.Catalogue.{catalogueRule}
+use Rattle.catalogue_check.specs.Catalogue.{catalogueRow}
 use Rattle.desk_slots.specs.Slots.{clientCount}
-use Rattle.admission.specs.Refusals.{Left, leaves, Row, row, saidBy}
+use Rattle.desk_slots.specs.Characteristics.{thirteen, isIn}
+use Rattle.desk_client.specs.declared.Client.{Client}
 use Rattle.desk_state.specs.declared.Desk.{Desk}
 use Rattle.desk_state.specs.Desk.{clientAt, deskRule}
 use Rattle.desk_replies.specs.declared.Answer.{Answer}
-use Rattle.desk_replies.specs.declared.Answer.the-variants.{Done, Octets, Served, BadCatalogue, SmallOutput, BadState, NoClient, NotConnected, AlreadyConnected, BadMtu, NoCharacteristic, NoSlot, NotReadable, NotWritable, NotEncrypted, ValueChanged, BeyondEnd, BadLength, BadOrder, TooManyResults, BadName, BadGroup}
+use Rattle.desk_replies.specs.declared.Answer.the-variants.{Done, Octets, Served, Handed, Refused}
 use Rattle.desk_replies.specs.declared.Gate.{Gate}
 use Rattle.desk_replies.specs.declared.Outcome.{Outcome}
 
@@ -23,51 +23,45 @@ abbrev pub saidOf : Answer → Said
 saidOf Done = granted []
 saidOf (Octets n) = granted (n ∷ [])
 saidOf (Served who characteristic n) = granted (who ∷ characteristic ∷ n ∷ [])
-saidOf BadCatalogue = refused 200
-saidOf SmallOutput = refused 205
-saidOf BadState = refused 201
-saidOf NoClient = refused 202
-saidOf NotConnected = refused 203
-saidOf AlreadyConnected = refused 204
-saidOf BadMtu = refused 206
-saidOf NoCharacteristic = refused 0x01
-saidOf NoSlot = refused 209
-saidOf NotReadable = refused 0x02
-saidOf NotWritable = refused 0x03
-saidOf NotEncrypted = refused 0x0F
-saidOf ValueChanged = refused 0x80
-saidOf BeyondEnd = refused 0x07
-saidOf BadLength = refused 0x0D
-saidOf BadOrder = refused 0x13
-saidOf TooManyResults = refused 0x11
-saidOf BadName = refused 207
-saidOf BadGroup = refused 208
+saidOf (Handed characteristic n) = granted (characteristic ∷ n ∷ [])
+saidOf (Refused r) = refusalOf r
 
 abbrev pub leftBy : Outcome → Left Desk
 leftBy o = leaves (saidOf (o .answer)) (o .desk)
 
--- 201 over the whole
+-- 200, 205: "the lent output of a read or take is under 128 octets"; small is false where no output is lent
+abbrev pub lentRows : Tables → Bool → List Row
+lentRows k small = catalogueRow k ∷ row 205 small ∷ []
+
+-- 201
+abbrev pub stateRow : Bool → Row
+stateRow stands = row 201 (not stands)
+
+-- over the whole
 abbrev pub stateRight : Tables → Desk → Bool
 stateRight k d = deskRule (k .groups) (k .tracks) d
 
--- 200, 205, 201: "the lent output of a read or take is under 128 octets"; small is false where no output is lent
-abbrev pub lentRows : Tables → Bool → Bool → List Row
-lentRows k small stands = row 200 (not (catalogueRule k)) ∷ row 205 small ∷ row 201 (not stands) ∷ []
-
+-- 200, 205, 201: what every call on the whole asks first
 abbrev pub fronted : Tables → Bool → Desk → List Row
-fronted k small d = lentRows k small (stateRight k d)
+fronted k small d = lentRows k small ++ (stateRow (stateRight k d) ∷ [])
 
 -- 202, "client over 3"; 203, "not connected"
-abbrev pub ofClient : Desk → ℕ → List Row
-ofClient d who = row 202 (leb clientCount who) ∷ row 203 (not (clientAt (d .clients) who .connected)) ∷ []
+abbrev pub ofClient : ℕ → Bool → List Row
+ofClient who connected = row 202 (leb clientCount who) ∷ row 203 (not connected) ∷ []
 
-abbrev pub askedBy : Tables → Bool → Desk → ℕ → List Row
-askedBy k small d who = fronted k small d ++ ofClient d who
+-- 0x01, "not one of the thirteen"; the number by which what is asked of the characteristic is not allowed; 0x0F, ".. by a client connected unencrypted"
+abbrev pub ofCharacteristic : Bool → ℕ → ℕ → Bool → List Row
+ofCharacteristic encrypted characteristic number allowed =
+    row 0x01 (not (isIn thirteen characteristic)) ∷ row number (not allowed) ∷ row 0x0F (not encrypted) ∷ []
+
+-- what a call says and leaves, by these and by its own rows
+abbrev pub asked : Tables → Bool → Desk → List Row → Left Desk → Left Desk
+asked k small d rows work = answered (keeping d) (fronted k small d ++ rows) work
+
+-- the client that calls
+abbrev pub caller : Desk → ℕ → Client
+caller d who = clientAt (d .clients) who
 
 -- what a gate says of rows: the first that applies, and whether none does
 abbrev pub Gated : List Row → Gate → Type 0
-Gated rows g = (saidOf (g .answer) ≡ saidBy rows) × (g .passes ≡ eqb (saidBy rows .number) 0)
-
--- "lent octets behind the answer stay", and all of them where the call is refused
-abbrev pub outputAfter : Said → List ℕ → List ℕ → List ℕ
-outputAfter said octets old = pick (eqb (said .number) 0) (filled octets old) old
+Gated rows g = (saidOf (g .answer) ≡ saidBy rows) × (g .passes ≡ saidBy rows .isGranted)

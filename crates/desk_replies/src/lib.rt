@@ -1,8 +1,10 @@
 // What the calls on the whole answer, and the rows of the refusal table that many of them share.
 ghost use mathlib.Core.Path.{_≡_};
+ghost use mathlib.Core.Bool.{false, true};
+ghost use mathlib.Core.List.{[], _++_};
+ghost use Rattle.ground.specs.Refusals.{granted, refused, refusalOf, leaves};
 ghost use Rattle.catalogue_tables.specs.Tables.{tables};
-ghost use Rattle.admission.specs.Refusals.{leaves};
-ghost use Rattle.desk_replies.specs.Replies.{saidOf, leftBy, Gated, lentRows, fronted, askedBy};
+ghost use Rattle.desk_replies.specs.Replies.{saidOf, leftBy, Gated, lentRows, fronted, ofClient, ofCharacteristic, caller};
 
 pub enum Answer {
     // Accepted. Of a take: nothing is owed.
@@ -11,44 +13,9 @@ pub enum Answer {
     Octets(usize),
     // A take served this client this characteristic in so many octets.
     Served(u32, u32, usize),
-    // 200
-    BadCatalogue,
-    // 205
-    SmallOutput,
-    // 201
-    BadState,
-    // 202
-    NoClient,
-    // 203
-    NotConnected,
-    // 204
-    AlreadyConnected,
-    // 206
-    BadMtu,
-    // 0x01
-    NoCharacteristic,
-    // 209
-    NoSlot,
-    // 0x02
-    NotReadable,
-    // 0x03
-    NotWritable,
-    // 0x0F
-    NotEncrypted,
-    // 0x80
-    ValueChanged,
-    // 0x07
-    BeyondEnd,
-    // 0x0D
-    BadLength,
-    // 0x13
-    BadOrder,
-    // 0x11
-    TooManyResults,
-    // 207
-    BadName,
-    // 208
-    BadGroup,
+    // A take of a client's own record handed out this characteristic in so many octets.
+    Handed(u32, usize),
+    Refused(ground::Refusal),
 }
 
 pub struct Outcome {
@@ -71,6 +38,14 @@ pub fn left(answer: Answer, d: desk_state::Desk) -> Outcome
     }
 }
 
+// A refusal by its number alone.
+pub fn refuse(number: u32, d: desk_state::Desk) -> Outcome
+    ensures { λ r. ⌜ leftBy r ≡ leaves (refused number) d ⌝ }
+{
+    let r = ground::refuse(number);
+    left(Answer::Refused(r), d)
+}
+
 // What a gate that does not pass answers.
 pub fn shut(g: Gate, d: desk_state::Desk) -> Outcome
     ensures { λ r. ⌜ leftBy r ≡ leaves (saidOf (g .answer)) d ⌝ }
@@ -79,45 +54,48 @@ pub fn shut(g: Gate, d: desk_state::Desk) -> Outcome
     left(answer, d)
 }
 
-pub fn gate_at(passes: bool, answer: Answer) -> Gate
-    ensures { λ r. ⌜ (saidOf (r .answer) ≡ saidOf answer) × (r .passes ≡ passes) ⌝ }
+pub fn gate_open() -> Gate
+    ensures { λ r. ⌜ (saidOf (r .answer) ≡ granted []) × (r .passes ≡ true) ⌝ }
 {
     Gate {
-        passes: passes,
-        answer: answer,
+        passes: true,
+        answer: Answer::Done,
     }
 }
 
-// 200, 205, 201. small: the lent output has under 128 octets; false where none is lent. stands: whether the state keeps 201.
-pub fn state_gate(
-    groups: &[u32],
-    tracks: &[u32],
-    segments: &[u32],
-    text: &[u8],
-    small: bool,
-    stands: bool,
-) -> Gate
-    ensures { λ r. ⌜ Gated (lentRows (tables (now (groups .entry)) (now (tracks .entry)) (now (segments .entry)) (now (text .entry))) small stands) r ⌝ }
+pub fn gate_with(refusal: ground::Refusal) -> Gate
+    ensures { λ r. ⌜ (saidOf (r .answer) ≡ refusalOf refusal) × (r .passes ≡ false) ⌝ }
 {
-    let a = admission::admit(groups, tracks, segments, text, stands);
-    match a {
-        admission::Admitted::Catalogue => gate_at(false, Answer::BadCatalogue),
-        admission::Admitted::State => {
+    Gate {
+        passes: false,
+        answer: Answer::Refused(refusal),
+    }
+}
+
+pub fn gate_shut(number: u32) -> Gate
+    ensures { λ r. ⌜ (saidOf (r .answer) ≡ refused number) × (r .passes ≡ false) ⌝ }
+{
+    let refusal = ground::refuse(number);
+    gate_with(refusal)
+}
+
+// 200, 205. small: the lent output has under 128 octets; false where none is lent.
+pub fn lent_gate(groups: &[u32], tracks: &[u32], segments: &[u32], text: &[u8], small: bool) -> Gate
+    ensures { λ r. ⌜ Gated (lentRows (tables (now (groups .entry)) (now (tracks .entry)) (now (segments .entry)) (now (text .entry))) small) r ⌝ }
+{
+    let c = catalogue_check::check(groups, tracks, segments, text);
+    match c {
+        catalogue_check::Catalogue::Refused(refusal) => gate_with(refusal),
+        catalogue_check::Catalogue::Fine => {
             if small {
-                return gate_at(false, Answer::SmallOutput);
+                return gate_shut(ground::SMALL_OUTPUT);
             }
-            gate_at(false, Answer::BadState)
-        }
-        admission::Admitted::Fine => {
-            if small {
-                return gate_at(false, Answer::SmallOutput);
-            }
-            gate_at(true, Answer::Done)
+            gate_open()
         }
     }
 }
 
-// The same over the whole.
+// 200, 205, 201: the state is looked at last.
 pub fn front_gate(
     groups: &[u32],
     tracks: &[u32],
@@ -128,14 +106,14 @@ pub fn front_gate(
 ) -> Gate
     ensures { λ r. ⌜ Gated (fronted (tables (now (groups .entry)) (now (tracks .entry)) (now (segments .entry)) (now (text .entry))) small d) r ⌝ }
 {
-    let g = state_gate(groups, tracks, segments, text, small, true);
+    let g = lent_gate(groups, tracks, segments, text, small);
     if !g.passes {
         return g;
     }
     if desk_state::desk_right(groups, tracks, d) {
         return g;
     }
-    gate_at(false, Answer::BadState)
+    gate_shut(ground::BAD_STATE)
 }
 
 // The same, and then 202 and 203: of a call by a connected client.
@@ -148,18 +126,50 @@ pub fn client_gate(
     d: desk_state::Desk,
     who: u32,
 ) -> Gate
-    ensures { λ r. ⌜ Gated (askedBy (tables (now (groups .entry)) (now (tracks .entry)) (now (segments .entry)) (now (text .entry))) small d who) r ⌝ }
+    ensures { λ r. ⌜ Gated (fronted (tables (now (groups .entry)) (now (tracks .entry)) (now (segments .entry)) (now (text .entry))) small d ++ ofClient who (caller d who .connected)) r ⌝ }
 {
     let g = front_gate(groups, tracks, segments, text, small, d);
     if !g.passes {
         return g;
     }
     if desk_slots::CLIENTS <= who {
-        return gate_at(false, Answer::NoClient);
+        return gate_shut(ground::NO_CLIENT);
     }
     let c = desk_state::client_at(d, who);
     if !c.connected {
-        return gate_at(false, Answer::NotConnected);
+        return gate_shut(ground::NOT_CONNECTED);
     }
-    gate_at(true, Answer::Done)
+    g
+}
+
+// The same, and then what read, write, subscribe and unsubscribe ask of the characteristic; `number` is the refusal where it is not allowed.
+pub fn characteristic_gate(
+    groups: &[u32],
+    tracks: &[u32],
+    segments: &[u32],
+    text: &[u8],
+    small: bool,
+    d: desk_state::Desk,
+    who: u32,
+    characteristic: u32,
+    number: u32,
+    allowed: bool,
+) -> Gate
+    ensures { λ r. ⌜ Gated (fronted (tables (now (groups .entry)) (now (tracks .entry)) (now (segments .entry)) (now (text .entry))) small d ++ (ofClient who (caller d who .connected) ++ ofCharacteristic (caller d who .encrypted) characteristic number allowed)) r ⌝ }
+{
+    let g = client_gate(groups, tracks, segments, text, small, d, who);
+    if !g.passes {
+        return g;
+    }
+    if !desk_slots::is_characteristic(characteristic) {
+        return gate_shut(ground::NO_CHARACTERISTIC);
+    }
+    if !allowed {
+        return gate_shut(number);
+    }
+    let c = desk_state::client_at(d, who);
+    if !c.encrypted {
+        return gate_shut(ground::NOT_ENCRYPTED);
+    }
+    g
 }

@@ -29,6 +29,9 @@ placeIn (y ∷ s) x = pick (eqb x y) 0 (suc (placeIn s x))
 unfoldable pub slotOf : ℕ → ℕ
 slotOf characteristic = placeIn slotTable characteristic
 
+abbrev pub hasSlot : ℕ → Bool
+hasSlot characteristic = ltb (slotOf characteristic) slotCount
+
 unfoldable pub characteristicOf : ℕ → ℕ
 characteristicOf slot = getD slotTable slot 0
 

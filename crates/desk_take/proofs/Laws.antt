@@ -6,7 +6,6 @@ use native.Mathlib.Omega.{arith}
 use borrow.Author.Tests.{eq-eqb, ne-eqb}
 use lib.ListN.{length, take, getD}
 use lib.Seq.{take-all}
-use Rattle.ground.specs.Cases.{granted}
 use Rattle.ground.proofs.Cases.{past, here}
 use Rattle.catalogue_tables.specs.Tables.{Tables}
 use Rattle.desk_slots.specs.Slots.{clientCount, characteristicOf, owing}
@@ -18,7 +17,7 @@ use Rattle.desk_client.specs.declared.Client.{Client}
 use Rattle.desk_client.specs.Client.{controlSlot, blankEntry}
 use Rattle.desk_state.specs.declared.Desk.{Desk}
 use Rattle.desk_state.specs.Desk.{clientAt}
-use Rattle.desk_take.specs.Serving.{nextSlot, resultOctets, handedOctets, handedTo}
+use Rattle.desk_take.specs.Serving.{nextSlot, resultOctets, handedOctets}
 use Rattle.desk_take.specs.Take.{owedSets, nextClient}
 
 -- four records' sets, written out
@@ -40,10 +39,6 @@ module _ (k : Tables) (p : Player) (c : Client) where
   pub value-handed : (nextSlot c ≡ controlSlot → ⊥) → take (c .mtu - 3) (valueOf (k .tracks) (k .text) p (characteristicOf (nextSlot c))) ≡ handedOctets k p c
   unfolding handedOctets
   value-handed n = ap (take (c .mtu - 3)) (past _ (ne-eqb (nextSlot c) controlSlot n) refl)
-
-  pub handed-said : (who : ℕ) → handedTo k p who c .said ≡ granted (who ∷ characteristicOf (nextSlot c) ∷ length (handedOctets k p c) ∷ [])
-  unfolding handedTo
-  handed-said who = refl
 
 -- the set of a client is its record's
 pub set-of : (cs : List Client) (i : ℕ) → getD (owedSets cs) i 0 ≡ clientAt cs i .owed

@@ -6,14 +6,15 @@ use contract.Lifetimes.{Lfts}
 use denote.Ref.{RefT, at-last}
 use Rattle.catalogue_tables.specs.Tables.{Tables, tables}
 use Rattle.player_state.specs.declared.Player.{Player}
-use Rattle.admission.specs.Refusals.{Left}
+use Rattle.ground.specs.Lists.{tableAfter}
+use Rattle.ground.specs.Refusals.{Left}
 use Rattle.desk_client.specs.declared.Client.{Client}
 use Rattle.desk_state.specs.declared.Desk.{Desk}
 use Rattle.desk_replies.specs.declared.Answer.{Answer}
 use Rattle.desk_replies.specs.declared.Outcome.{Outcome}
-use Rattle.desk_replies.specs.Replies.{saidOf, outputAfter}
+use Rattle.desk_replies.specs.Replies.{saidOf}
 use Rattle.desk_replies.proofs.Settled.{answer-settles, one-outcome}
-use Rattle.desk_take.specs.declared.Handed.{Handed}
+use Rattle.desk_take.specs.declared.Own.{Own}
 use Rattle.desk_take.specs.Serving.{ownOctets, OwnTake}
 use Rattle.desk_take.specs.Take.{takeOctets}
 use Rattle.desk_take.proofs.take.Reads as take
@@ -27,20 +28,20 @@ module _ (κs : Lfts 5) (groups tracks segments text out : RefT (List ℕ)) (out
   take-settled d o₁ o₂ p q =
       let e = one-outcome o₁ o₂ (p .0) (q .0) in
       let octets = takeOctets (tables (groups .now) (tracks .now) (segments .now) (text .now)) d in
-      (e, p .1 ∙ ap (λ (o : Outcome). outputAfter (saidOf (o .answer)) octets (out .now)) e ∙ sym (q .1))
+      (e, p .1 ∙ ap (λ (o : Outcome). tableAfter (saidOf (o .answer)) octets (out .now)) e ∙ sym (q .1))
 
 -- a take of one's own record, lent or by value: the answer, the record and the output
-pub own-settled : (k : Tables) (p : Player) (who : ℕ) (c : Client) (out : List ℕ) (a₁ a₂ : Answer) (c₁ c₂ : Client) (out₁ out₂ : List ℕ)
-    → OwnTake k p who c out a₁ c₁ out₁ → OwnTake k p who c out a₂ c₂ out₂ → (a₁ ≡ a₂) × (c₁ ≡ c₂) × (out₁ ≡ out₂)
-own-settled k p who c out a₁ a₂ c₁ c₂ out₁ out₂ h g =
+pub own-settled : (k : Tables) (p : Player) (c : Client) (out : List ℕ) (a₁ a₂ : Answer) (c₁ c₂ : Client) (out₁ out₂ : List ℕ)
+    → OwnTake k p c out a₁ c₁ out₁ → OwnTake k p c out a₂ c₂ out₂ → (a₁ ≡ a₂) × (c₁ ≡ c₂) × (out₁ ≡ out₂)
+own-settled k p c out a₁ a₂ c₁ c₂ out₁ out₂ h g =
     let e = h .0 ∙ sym (g .0) in
     let a = answer-settles a₁ a₂ (ap (λ (l : Left Client). l .said) e) in
-    (a, ap (λ (l : Left Client). l .state) e, h .1 ∙ ap (λ (x : Answer). outputAfter (saidOf x) (ownOctets k p c) out) a ∙ sym (g .1))
+    (a, ap (λ (l : Left Client). l .state) e, h .1 ∙ ap (λ (x : Answer). tableAfter (saidOf x) (ownOctets k p c) out) a ∙ sym (g .1))
 
-module _ (κs : Lfts 5) (groups tracks segments text out : RefT (List ℕ)) (out₁ out₂ : List ℕ) (p : Player) (who : ℕ) (c : Client) (h₁ h₂ : Handed) where
-  pub take-own-settled : take-own.Post κs (c, (groups, (tracks, (segments, (text, (p, (who, (out, tt)))))))) h₁ (c, (groups, (tracks, (segments, (text, (p, (who, (at-last out out₁, tt))))))))
-      → take-own.Post κs (c, (groups, (tracks, (segments, (text, (p, (who, (out, tt)))))))) h₂ (c, (groups, (tracks, (segments, (text, (p, (who, (at-last out out₂, tt))))))))
+module _ (κs : Lfts 5) (groups tracks segments text out : RefT (List ℕ)) (out₁ out₂ : List ℕ) (p : Player) (c : Client) (h₁ h₂ : Own) where
+  pub take-own-settled : take-own.Post κs (c, (groups, (tracks, (segments, (text, (p, (out, tt))))))) h₁ (c, (groups, (tracks, (segments, (text, (p, (at-last out out₁, tt)))))))
+      → take-own.Post κs (c, (groups, (tracks, (segments, (text, (p, (out, tt))))))) h₂ (c, (groups, (tracks, (segments, (text, (p, (at-last out out₂, tt)))))))
       → (h₁ ≡ h₂) × (out₁ ≡ out₂)
   take-own-settled f g =
-      let e = own-settled (tables (groups .now) (tracks .now) (segments .now) (text .now)) p who c (out .now) (h₁ .answer) (h₂ .answer) (h₁ .client) (h₂ .client) out₁ out₂ f g in
+      let e = own-settled (tables (groups .now) (tracks .now) (segments .now) (text .now)) p c (out .now) (h₁ .answer) (h₂ .answer) (h₁ .client) (h₂ .client) out₁ out₂ f g in
       (λ k. record { answer = e .0 k; client = e .1 k }, e .2)

@@ -2,25 +2,26 @@
 -- Assumes nothing.
 use mathlib.Core.Path.{_≡_}
 use mathlib.Core.Bool.{Bool, _&&_}
-use mathlib.Core.List.{List, [], _∷_}
+use mathlib.Core.List.{List, [], _∷_, _++_}
 use Prim.Native.Nat.{ℕ, _-_}
 use lib.Dec.{eqb, ltb}
 use lib.ListN.{length, take, getD}
-use Rattle.ground.specs.Cases.{pick, has, granted}
+use Rattle.ground.specs.Cases.{pick, has}
+use Rattle.ground.specs.Limits.{leastOutput}
+use Rattle.ground.specs.Lists.{tableAfter}
+use Rattle.ground.specs.Refusals.{granted, Left, leaves, keeping, Row, answered}
 use Rattle.catalogue_tables.specs.Tables.{Tables}
 use Rattle.desk_slots.specs.Slots.{slotCount, characteristicOf}
 use Rattle.desk_slots.specs.Round.{next}
 use Rattle.player_state.specs.declared.Player.{Player}
 use Rattle.player_check.specs.Standing.{playerRule}
 use Rattle.player_values.specs.Values.{valueOf}
-use Rattle.admission.specs.Refusals.{Left, leaves, Row, answered}
 use Rattle.desk_client.specs.declared.Entry.{Entry}
 use Rattle.desk_client.specs.declared.Client.{Client}
 use Rattle.desk_client.specs.Client.{controlSlot, blankEntry, clientRule}
 use Rattle.desk_client.specs.Duties.{served}
 use Rattle.desk_replies.specs.declared.Answer.{Answer}
-use Rattle.desk_replies.specs.Replies.{saidOf, lentRows, outputAfter}
-use Rattle.desk_take.specs.declared.Handed.{Handed}
+use Rattle.desk_replies.specs.Replies.{saidOf, lentRows, stateRow}
 
 -- "within it, the first owed slot after its last served, round the ten"
 abbrev pub nextSlot : Client → ℕ
@@ -39,29 +40,28 @@ presentOctets k p c s =
 unfoldable pub handedOctets : Tables → Player → Client → List ℕ
 handedOctets k p c = take (c .mtu - 3) (presentOctets k p c (nextSlot c))
 
--- client who is served its next slot
-unfoldable pub handedTo : Tables → Player → ℕ → Client → Left Client
-handedTo k p who c =
-    leaves (granted (who ∷ characteristicOf (nextSlot c) ∷ length (handedOctets k p c) ∷ [])) (served (nextSlot c) c)
+-- a client that is served its next slot: what is said of it, and its record afterwards
+abbrev pub handedValues : Tables → Player → Client → List ℕ
+handedValues k p c = characteristicOf (nextSlot c) ∷ length (handedOctets k p c) ∷ []
 
-abbrev pub leftOf : Handed → Left Client
-leftOf h = leaves (saidOf (h .answer)) (h .client)
+abbrev pub afterServing : Client → Client
+afterServing c = served (nextSlot c) c
 
 -- a take of one's own record: 200, 205, 201 of the player and of this record; "Nothing owed: the answer says so and nothing changes."
 abbrev pub recordRight : Tables → Player → Client → Bool
 recordRight k p c = playerRule (k .groups) (k .tracks) p && clientRule c
 
 abbrev pub ownRows : Tables → Player → Client → ℕ → List Row
-ownRows k p c room = lentRows k (ltb room 128) (recordRight k p c)
+ownRows k p c room = lentRows k (ltb room leastOutput) ++ (stateRow (recordRight k p c) ∷ [])
 
-unfoldable pub ownCall : Tables → Player → ℕ → Client → ℕ → Left Client
-ownCall k p who c room =
-    answered c (ownRows k p c room) (pick (eqb (c .owed) 0) (leaves (granted []) c) (handedTo k p who c))
+unfoldable pub ownCall : Tables → Player → Client → ℕ → Left Client
+ownCall k p c room =
+    answered (keeping c) (ownRows k p c room) (pick (eqb (c .owed) 0) (leaves (granted []) c) (leaves (granted (handedValues k p c)) (afterServing c)))
 
 unfoldable pub ownOctets : Tables → Player → Client → List ℕ
 ownOctets k p c = pick (eqb (c .owed) 0) [] (handedOctets k p c)
 
--- the same, of a record that is lent: its answer, the record and the output afterwards
-abbrev pub OwnTake : Tables → Player → ℕ → Client → List ℕ → Answer → Client → List ℕ → Type 0
-OwnTake k p who c out answer c′ out′ =
-    (leaves (saidOf answer) c′ ≡ ownCall k p who c (length out)) × (out′ ≡ outputAfter (saidOf answer) (ownOctets k p c) out)
+-- its answer, the record and the output afterwards
+abbrev pub OwnTake : Tables → Player → Client → List ℕ → Answer → Client → List ℕ → Type 0
+OwnTake k p c out answer c′ out′ =
+    (leaves (saidOf answer) c′ ≡ ownCall k p c (length out)) × (out′ ≡ tableAfter (saidOf answer) (ownOctets k p c) out)

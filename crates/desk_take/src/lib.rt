@@ -3,31 +3,29 @@ ghost use mathlib.Core.Path.{_≡_};
 ghost use mathlib.Core.Bool.{true};
 ghost use Prim.Native.Nat.{_<_, _≤_};
 ghost use lib.ListN.{length};
-ghost use Rattle.ground.specs.Lists.{filled};
+ghost use mathlib.Core.List.{_∷_, []};
+ghost use Rattle.ground.specs.Lists.{filled, tableAfter};
 ghost use Rattle.catalogue_tables.specs.Tables.{tables};
 ghost use Rattle.catalogue_check.specs.Catalogue.{Right};
 ghost use Rattle.player_check.specs.Standing.{playerRule};
 ghost use Rattle.desk_slots.specs.Slots.{clientCount, owing};
 ghost use Rattle.desk_slots.specs.Round.{next};
 ghost use Rattle.desk_client.specs.Client.{clientRule};
-ghost use Rattle.admission.specs.Refusals.{leaves};
-ghost use Rattle.desk_replies.specs.Replies.{saidOf, leftBy, outputAfter};
-ghost use Rattle.desk_take.specs.Serving.{handedOctets, handedTo, leftOf, OwnTake};
+ghost use Rattle.desk_replies.specs.Replies.{saidOf, leftBy};
+ghost use Rattle.desk_take.specs.Serving.{handedOctets, handedValues, afterServing, OwnTake};
 ghost use Rattle.desk_take.specs.Take.{owedSets, withServed, takeCall, takeOctets};
 
-// An answer, and a client's record afterwards.
-pub struct Handed {
-    pub answer: desk_replies::Answer,
-    pub client: desk_client::Client,
+// What a client was served, in how many octets, and its record afterwards.
+struct Serving {
+    characteristic: u32,
+    len: usize,
+    client: desk_client::Client,
 }
 
-fn handed_over(answer: desk_replies::Answer, c: desk_client::Client) -> Handed
-    ensures { λ r. ⌜ leftOf r ≡ leaves (saidOf answer) c ⌝ }
-{
-    Handed {
-        answer: answer,
-        client: c,
-    }
+// An answer, and a client's record afterwards.
+pub struct Own {
+    pub answer: desk_replies::Answer,
+    pub client: desk_client::Client,
 }
 
 // A client is served its next slot: the present value over the front of out, or of 18 the oldest result.
@@ -37,14 +35,13 @@ fn hand_out(
     segments: &[u32],
     text: &[u8],
     p: player_state::Player,
-    who: u32,
     c: desk_client::Client,
     out: &mut [u8],
-) -> Handed
+) -> Serving
     requires { ⌜ Right (tables (now groups) (now tracks) (now segments) (now text)) ⌝ }
     requires { ⌜ playerRule (now groups) (now tracks) p ≡ true ⌝ }
     requires { ⌜ (clientRule c ≡ true) × (0 < c .owed) × (128 ≤ length (now out)) ⌝ }
-    ensures { λ r. ⌜ leftOf r ≡ handedTo (tables (now (groups .entry)) (now (tracks .entry)) (now (segments .entry)) (now (text .entry))) p who c ⌝ }
+    ensures { λ r. ⌜ (r .characteristic ∷ r .len ∷ [] ≡ handedValues (tables (now (groups .entry)) (now (tracks .entry)) (now (segments .entry)) (now (text .entry))) p c) × (r .client ≡ afterServing c) ⌝ }
     ensures { λ _. ⌜ now (out .exit) ≡ filled (handedOctets (tables (now (groups .entry)) (now (tracks .entry)) (now (segments .entry)) (now (text .entry))) p c) (now (out .entry)) ⌝ }
 {
     let s = desk_slots::next_slot(c.owed, c.mark);
@@ -55,12 +52,20 @@ fn hand_out(
         let e = results[0];
         let octets = [e.opcode, e.code];
         let n = player_values::put(out, &octets);
-        return handed_over(desk_replies::Answer::Served(who, characteristic, n), next);
+        return Serving {
+            characteristic: characteristic,
+            len: n,
+            client: next,
+        };
     }
     let h = player_values::hold(tracks, text, p, characteristic);
     let most = ground::wide_word(c.mtu - 3);
     let n = player_values::hand(out, h, 0, most);
-    handed_over(desk_replies::Answer::Served(who, characteristic, n), next)
+    Serving {
+        characteristic: characteristic,
+        len: n,
+        client: next,
+    }
 }
 
 // A client takes what its own record owes it.
@@ -71,23 +76,45 @@ pub fn take_own(
     segments: &[u32],
     text: &[u8],
     p: player_state::Player,
-    who: u32,
     out: &mut [u8],
-) -> Handed
-    ensures { λ r. ⌜ OwnTake (tables (now (groups .entry)) (now (tracks .entry)) (now (segments .entry)) (now (text .entry))) p who c (now (out .entry)) (r .answer) (r .client) (now (out .exit)) ⌝ }
+) -> Own
+    ensures { λ r. ⌜ OwnTake (tables (now (groups .entry)) (now (tracks .entry)) (now (segments .entry)) (now (text .entry))) p c (now (out .entry)) (r .answer) (r .client) (now (out .exit)) ⌝ }
 {
-    let player = player_check::player_right(groups, tracks, p);
-    let record = desk_client::client_right(c);
-    let small = out.len() < 128;
-    let g = desk_replies::state_gate(groups, tracks, segments, text, small, player & record);
+    let g = desk_replies::lent_gate(
+        groups,
+        tracks,
+        segments,
+        text,
+        out.len() < ground::LEAST_OUTPUT,
+    );
     if !g.passes {
         let answer = g.answer;
-        return handed_over(answer, c);
+        return Own {
+            answer: answer,
+            client: c,
+        };
+    }
+    let player = player_check::player_right(groups, tracks, p);
+    let record = desk_client::client_right(c);
+    if !(player & record) {
+        let refusal = ground::refuse(ground::BAD_STATE);
+        return Own {
+            answer: desk_replies::Answer::Refused(refusal),
+            client: c,
+        };
     }
     if c.owed == 0 {
-        return handed_over(desk_replies::Answer::Done, c);
+        return Own {
+            answer: desk_replies::Answer::Done,
+            client: c,
+        };
     }
-    hand_out(groups, tracks, segments, text, p, who, c, out)
+    let h = hand_out(groups, tracks, segments, text, p, c, out);
+    let next = h.client;
+    Own {
+        answer: desk_replies::Answer::Handed(h.characteristic, h.len),
+        client: next,
+    }
 }
 
 // The same on a record that is lent, and updated where it stands.
@@ -98,12 +125,11 @@ pub fn take_in(
     segments: &[u32],
     text: &[u8],
     p: player_state::Player,
-    who: u32,
     out: &mut [u8],
 ) -> desk_replies::Answer
-    ensures { λ r. ⌜ OwnTake (tables (now (groups .entry)) (now (tracks .entry)) (now (segments .entry)) (now (text .entry))) p who (now (c .entry)) (now (out .entry)) r (now (c .exit)) (now (out .exit)) ⌝ }
+    ensures { λ r. ⌜ OwnTake (tables (now (groups .entry)) (now (tracks .entry)) (now (segments .entry)) (now (text .entry))) p (now (c .entry)) (now (out .entry)) r (now (c .exit)) (now (out .exit)) ⌝ }
 {
-    let h = take_own(*c, groups, tracks, segments, text, p, who, out);
+    let h = take_own(*c, groups, tracks, segments, text, p, out);
     *c = h.client;
     h.answer
 }
@@ -147,10 +173,16 @@ pub fn take(
     out: &mut [u8],
 ) -> desk_replies::Outcome
     ensures { λ r. ⌜ leftBy r ≡ takeCall (tables (now (groups .entry)) (now (tracks .entry)) (now (segments .entry)) (now (text .entry))) d (length (now (out .entry))) ⌝ }
-    ensures { λ r. ⌜ now (out .exit) ≡ outputAfter (saidOf (r .answer)) (takeOctets (tables (now (groups .entry)) (now (tracks .entry)) (now (segments .entry)) (now (text .entry))) d) (now (out .entry)) ⌝ }
+    ensures { λ r. ⌜ now (out .exit) ≡ tableAfter (saidOf (r .answer)) (takeOctets (tables (now (groups .entry)) (now (tracks .entry)) (now (segments .entry)) (now (text .entry))) d) (now (out .entry)) ⌝ }
 {
-    let small = out.len() < 128;
-    let g = desk_replies::front_gate(groups, tracks, segments, text, small, d);
+    let g = desk_replies::front_gate(
+        groups,
+        tracks,
+        segments,
+        text,
+        out.len() < ground::LEAST_OUTPUT,
+        d,
+    );
     if !g.passes {
         return desk_replies::shut(g, d);
     }
@@ -162,9 +194,11 @@ pub fn take(
     }
     let p = d.player;
     let c = desk_state::client_at(d, who);
-    let h = hand_out(groups, tracks, segments, text, p, who, c, out);
+    let h = hand_out(groups, tracks, segments, text, p, c, out);
     let next = h.client;
-    let answer = h.answer;
     let e = with_served(d, who, next);
-    desk_replies::left(answer, e)
+    desk_replies::left(
+        desk_replies::Answer::Served(who, h.characteristic, h.len),
+        e,
+    )
 }

@@ -29,3 +29,7 @@ mostDuration = 8640000
 -- a name or a title has "at most 128 octets"
 abbrev pub mostTitle : ℕ
 mostTitle = 128
+
+-- 205: "the lent output of a read or take is under 128 octets"
+abbrev pub leastOutput : ℕ
+leastOutput = 128

@@ -3,9 +3,9 @@
 use mathlib.Core.Bool.{Bool, true, _&&_}
 use mathlib.Core.List.{List, [], _∷_, _++_}
 use Prim.Native.Nat.{ℕ, zero, suc, _+_, _-_}
-use lib.Dec.{eqb}
 use lib.ListN.{length, take, drop}
-use Rattle.ground.specs.Cases.{pick, Said}
+use Rattle.ground.specs.Cases.{pick}
+use Rattle.ground.specs.Refusals.{Said}
 
 -- the elements from the place a up to the place e
 abbrev pub part : {A : Type 0} → List A → ℕ → ℕ → List A
@@ -15,9 +15,9 @@ part s a e = take (e - a) (drop a s)
 abbrev pub filled : {A : Type 0} → List A → List A → List A
 filled front old = front ++ drop (length front) old
 
--- a lent table afterwards: "on success fills the front of each table"; a refusal alters nothing
+-- a lent table or output afterwards: "on success fills the front of each table", "lent octets behind the answer stay"; a refusal alters nothing
 abbrev pub tableAfter : Said → List ℕ → List ℕ → List ℕ
-tableAfter said front old = pick (eqb (said .number) 0) (filled front old) old
+tableAfter said front old = pick (said .isGranted) (filled front old) old
 
 -- each element by f, which is told its place, from the place i on
 abbrev pub mapFrom : {A : Type 0} → (ℕ → A → A) → ℕ → List A → List A

@@ -1,8 +1,10 @@
-// Numbers out of octets, and wider; the limits of a catalogue.
+// Numbers out of octets, and wider; the limits of a catalogue; refusals.
 ghost use mathlib.Core.Path.{_≡_};
 ghost use Prim.Native.Nat.{_+_, _<_, _≤_};
 ghost use lib.ListN.{length, getD};
+ghost use mathlib.Core.List.{_∷_, []};
 ghost use Rattle.ground.specs.Cases.{has};
+ghost use Rattle.ground.specs.Refusals.{refused, refusedWith, refusalOf};
 ghost use Rattle.ground.specs.Words.{halfOf, halfAt, wordOf, wordAt};
 
 pub const MOST_GROUPS: usize = 64;
@@ -16,6 +18,92 @@ pub const MOST_TEXT: usize = 32768;
 pub const MOST_DURATION: u32 = 8640000;
 
 pub const MOST_TITLE: usize = 128;
+
+pub const LEAST_OUTPUT: usize = 128;
+
+// The numbers of document 01's table, in its order, and of document 02's cue sheets.
+pub const BAD_CATALOGUE: u32 = 200;
+
+pub const SMALL_OUTPUT: u32 = 205;
+
+pub const BAD_STATE: u32 = 201;
+
+pub const NO_CLIENT: u32 = 202;
+
+pub const NOT_CONNECTED: u32 = 203;
+
+pub const ALREADY_CONNECTED: u32 = 204;
+
+pub const BAD_MTU: u32 = 206;
+
+pub const NO_CHARACTERISTIC: u32 = 0x01;
+
+pub const NO_SLOT: u32 = 209;
+
+pub const NOT_READABLE: u32 = 0x02;
+
+pub const NOT_WRITABLE: u32 = 0x03;
+
+pub const NOT_ENCRYPTED: u32 = 0x0F;
+
+pub const VALUE_CHANGED: u32 = 0x80;
+
+pub const BEYOND_END: u32 = 0x07;
+
+pub const BAD_LENGTH: u32 = 0x0D;
+
+pub const BAD_ORDER: u32 = 0x13;
+
+pub const TOO_MANY_RESULTS: u32 = 0x11;
+
+pub const BAD_NAME: u32 = 207;
+
+pub const BAD_GROUP: u32 = 208;
+
+pub const BAD_CARD_LENGTH: u32 = 210;
+
+pub const BAD_BLOCK: u32 = 211;
+
+pub const NO_ROOM: u32 = 212;
+
+pub const LONG_SHEET: u32 = 225;
+
+pub const BAD_LINE: u32 = 226;
+
+pub const NOT_RISING: u32 = 227;
+
+pub const MANY_STARTS: u32 = 228;
+
+// What a refusal carries besides its number.
+pub enum Carried {
+    Nothing,
+    One(usize),
+}
+
+pub struct Refusal {
+    pub number: u32,
+    pub carried: Carried,
+}
+
+// A refusal by its number alone.
+pub fn refuse(number: u32) -> Refusal
+    ensures { λ r. ⌜ refusalOf r ≡ refused number ⌝ }
+{
+    Refusal {
+        number: number,
+        carried: Carried::Nothing,
+    }
+}
+
+// A refusal that carries a number besides.
+pub fn refuse_at(number: u32, place: usize) -> Refusal
+    ensures { λ r. ⌜ refusalOf r ≡ refusedWith number (place ∷ []) ⌝ }
+{
+    Refusal {
+        number: number,
+        carried: Carried::One(place),
+    }
+}
 
 pub fn wide_octet(x: u8) -> u32
     ensures { λ r. ⌜ (r ≡ x) × (r < 256) ⌝ }

@@ -29,8 +29,8 @@ fn write_counts(counts: Counts) {
 fn check(counts: Counts, groups: &[u32], tracks: &[u32], segments: &[u32], text: &[u8]) {
     let answer = catalogue_check::check(groups, tracks, segments, text);
     match answer {
-        Catalogue::Wrong => {
-            refuse(200);
+        Catalogue::Refused(r) => {
+            refuse(ground::wide_word(r.number));
         }
         Catalogue::Fine => {
             write_counts(counts);
@@ -56,14 +56,8 @@ fn inspect(card: &[u8]) {
     let mut text = [0u8; 32768];
     let answer = card_load::load(card, &mut groups, &mut tracks, &mut segments, &mut text);
     match answer {
-        Loaded::BadLength => {
-            refuse(210);
-        }
-        Loaded::BadBlock => {
-            refuse(211);
-        }
-        Loaded::NoRoom => {
-            refuse(212);
+        Loaded::Refused(r) => {
+            refuse(ground::wide_word(r.number));
         }
         Loaded::Done(counts) => {
             let g = within(counts.groups, ground::MOST_GROUPS) * 3;

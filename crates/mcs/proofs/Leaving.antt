@@ -2,7 +2,7 @@
 use mathlib.Core.Path.{_≡_, sym, subst, _∙_}
 use mathlib.Core.List.{List}
 use Prim.Native.Nat.{ℕ}
-use Rattle.admission.specs.Refusals.{Left}
+use Rattle.ground.specs.Refusals.{Left}
 use Rattle.desk_state.specs.declared.Desk.{Desk}
 use Rattle.mcs.specs.Calls.{Leaves}
 

@@ -1,5 +1,4 @@
 -- The laws that belong to no one function.
 pub mod Leaving
 pub mod Short
-pub mod Carried
 pub mod Settled

@@ -1,33 +1,34 @@
 -- What a call says fits words of 32 bits, so C is told the numbers themselves. Assumes nothing.
-use mathlib.Core.Path.{_≡_, refl}
-use mathlib.Core.Bool.{Bool, true, false, not, _&&_}
-use mathlib.Core.List.{List, [], _∷_}
+use mathlib.Core.Path.{_≡_, refl, sym, subst, _∙_}
+use mathlib.Core.Bool.{Bool, true, false, _&&_}
+use mathlib.Core.List.{List, [], _∷_, _++_}
 use Prim.Native.Nat.{ℕ, zero, suc, _-_, _/_, _≤_, _<_}
 use native.Mathlib.Omega.{arith}
 use borrow.Author.Tests.{not-false, leb-true, leb-false}
 use lib.Dec.{eqb, leb, ltb, lit≤}
 use lib.ListN.{length, take, drop, getD, length-take, length-drop}
-use Rattle.ground.specs.Cases.{pick, Said, granted, refused, refuseIf}
-use Rattle.ground.specs.Limits.{mostGroups, mostTracks, mostSegments, mostText, groupWords, trackWords}
+use Rattle.ground.specs.Cases.{pick}
+use Rattle.ground.specs.Refusals.{Said, granted, refusedWith, Row, answered, Left, leaves, keeping}
+use Rattle.ground.specs.Limits.{mostGroups, mostTracks, mostSegments, mostText, groupWords, trackWords, leastOutput}
 use Rattle.ground.proofs.Cases.{and-left, and-right}
 use Rattle.catalogue_tables.specs.Tables.{Tables}
-use Rattle.card_load.specs.Card.{blocksOf, recordCount, lengthRule, blocksRule}
-use Rattle.card_load.specs.Load.{fits, roomRule, loadSaid}
+use Rattle.card_load.specs.Card.{blocksOf, recordCount}
+use Rattle.card_load.specs.Load.{fits, roomRule, loadRows, loadSaid}
+use Rattle.catalogue_cue.specs.Sheet.{cueSaid}
+use Rattle.catalogue_cue.proofs.Small.{cue-small}
 use Rattle.desk_slots.specs.Slots.{clientCount, slotTable, characteristicOf}
 use Rattle.player_values.specs.Values.{valueOf}
 use Rattle.player_values.proofs.Fits.{value-fits}
-use Rattle.admission.specs.Refusals.{Left, leaves, Row, answered}
-use Rattle.admission.proofs.Rows.{NoneApplies}
+use Rattle.ground.proofs.Rows.{NoneApplies}
 use Rattle.desk_client.specs.declared.Client.{Client}
 use Rattle.desk_client.specs.Client.{controlSlot, blankEntry}
 use Rattle.desk_state.specs.declared.Desk.{Desk}
-use Rattle.desk_state.specs.Desk.{clientAt}
-use Rattle.desk_replies.specs.Replies.{askedBy, fronted}
+use Rattle.desk_replies.specs.Replies.{fronted, caller}
 use Rattle.desk_replies.proofs.Gates.{right, player}
-use Rattle.desk_exchange.specs.Read.{valueNow, readRows, allReadRows, readOctets, readCall}
-use Rattle.desk_take.specs.Serving.{nextSlot, resultOctets, handedOctets, handedTo}
-use Rattle.desk_take.specs.Take.{nextClient, servedAt, takeRows, takenBy, takeCall}
-use Rattle.mcs.specs.Calls.{lowWord, toldOf, toldAfter, wordsAfter}
+use Rattle.desk_exchange.specs.Read.{valueNow, readRows, readOctets, readCall}
+use Rattle.desk_take.specs.Serving.{nextSlot, resultOctets, handedOctets, handedValues, afterServing}
+use Rattle.desk_take.specs.Take.{nextClient, withServed, takenBy, takeCall}
+use Rattle.mcs.specs.Calls.{lowWord, toldOf, toldAfter, saidWords, wordsAfter}
 
 -- each of them is below 2^32
 abbrev pub AllWords : List ℕ → Type 0
@@ -43,39 +44,39 @@ pub low : (n : ℕ) → n < 4294967296 → lowWord n ≡ n
 low n h = omega arith
 
 -- what is told is what is said
-pub told-by-places : (said : Said) (old : List ℕ) → ((i : ℕ) → getD (said .values) i 0 < 4294967296)
-    → toldAfter (toldOf said .number) (toldOf said .values) old ≡ wordsAfter said old
-told-by-places said old h =
+pub told-by-places : (on : Bool) (said : Said) (old : List ℕ) → ((i : ℕ) → getD (said .values) i 0 < 4294967296)
+    → toldAfter on (toldOf said .values) old ≡ toldAfter on (saidWords said) old
+told-by-places on said old h =
     let v : List ℕ = said .values in
-    λ k.
-    toldAfter (said .number) (low (getD v 0 0) (h 0) k ∷ low (getD v 1 0) (h 1) k ∷ low (getD v 2 0) (h 2) k ∷ low (getD v 3 0) (h 3) k ∷ []) old
+    λ k. toldAfter on (low (getD v 0 0) (h 0) k ∷ low (getD v 1 0) (h 1) k ∷ low (getD v 2 0) (h 2) k ∷ low (getD v 3 0) (h 3) k ∷ []) old
 
-pub told-as-said : (said : Said) (old : List ℕ) → AllWords (said .values) → toldAfter (toldOf said .number) (toldOf said .values) old ≡ wordsAfter said old
-told-as-said said old h = told-by-places said old (λ i. at-word (said .values) i h)
+pub told-as-said : (said : Said) (old : List ℕ) → AllWords (said .values) → toldAfter (toldOf said .granted) (toldOf said .values) old ≡ wordsAfter said old
+told-as-said said old h = told-by-places (said .isGranted) said old (λ i. at-word (said .values) i h)
 
--- a refusal says no value, so only the work is asked
-behind-refusal : (t : Bool) (n : ℕ) (behind : Said) → (t ≡ false → AllWords (behind .values)) → AllWords (refuseIf t n behind .values)
-behind-refusal true n behind h = tt
-behind-refusal false n behind h = h refl
+-- a cue sheet's line and its number of starts are small
+pub cue-words : (sheet : List ℕ) (room i : ℕ) → getD (cueSaid sheet room .values) i 0 < 4294967296
+cue-words sheet room i = omega (arith, cue-small sheet room i)
 
-behind-rows : (d : Desk) (rows : List Row) (work : Left Desk) → (NoneApplies rows → AllWords (work .said .values)) → AllWords (answered d rows work .said .values)
-behind-rows d [] work h = h tt
-behind-rows d (r ∷ rows) work h = at (r .applies) (λ e. behind-rows d rows work (λ n. h (e, n)))
+-- the rows' numbers carry nothing, so only the work is asked
+bare : List Row → Type 0
+bare [] = Unit
+bare (r ∷ rows) = (r .values ≡ []) × bare rows
+
+behind-rows : {A : Type 0} (said : A → Said) (refuse : Said → A) → ((s : Said) → said (refuse s) .values ≡ s .values)
+    → (rows : List Row) → bare rows → (work : A) → (NoneApplies rows → AllWords (said work .values)) → AllWords (said (answered refuse rows work) .values)
+unfolding bare
+behind-rows said refuse e [] n work h = h tt
+behind-rows {A} said refuse e (r ∷ rows) n work h = at (r .applies) (λ q. behind-rows said refuse e rows (n .1) work (λ m. h (q, m)))
   where
-    at : (t : Bool) → (t ≡ false → AllWords (answered d rows work .said .values)) → AllWords (pick t (leaves (refused (r .number)) d) (answered d rows work) .said .values)
-    at true k = tt
+    at : (t : Bool) → (t ≡ false → AllWords (said (answered refuse rows work) .values)) → AllWords (said (pick t (refuse (refusedWith (r .number) (r .values))) (answered refuse rows work)) .values)
+    at true k = subst AllWords (sym (e (refusedWith (r .number) (r .values)) ∙ n .0)) tt
     at false k = k refl
 
 -- a card's counts keep within the limits
 pub load-words : (card : List ℕ) (groups tracks segments text : ℕ) → AllWords (loadSaid card groups tracks segments text .values)
-unfolding loadSaid roomRule
+unfolding loadSaid roomRule bare
 load-words card groups tracks segments text =
-    let bs = blocksOf card in
-    let work = granted (recordCount 1 bs ∷ recordCount 2 bs ∷ recordCount 3 bs ∷ recordCount 4 bs ∷ []) in
-    let room = not (roomRule bs groups tracks segments text) in
-    let blocks = not (blocksRule 0 1 bs) in
-    behind-refusal (not (lengthRule card)) 210 (refuseIf blocks 211 (refuseIf room 212 work)) (λ a.
-    behind-refusal blocks 211 (refuseIf room 212 work) (λ b. behind-refusal room 212 work (λ c. counts (not-false _ c))))
+    behind-rows (λ said. said) (λ said. said) (λ said. refl) (loadRows card groups tracks segments text) (refl, (refl, (refl, tt))) _ (λ n. counts (not-false _ (n .1 .1 .0)))
   where
     few : {n most : ℕ} → n ≤ most → most < 4294967296 → n < 4294967296
     few h k = omega (arith, h, k)
@@ -105,12 +106,13 @@ load-words card groups tracks segments text =
 module _ (k : Tables) (d : Desk) where
   -- a read's length is at most its value's, which is at most 128
   pub read-words : (who characteristic offset room : ℕ) → AllWords (readCall k d who characteristic offset room .said .values)
-  unfolding readCall readOctets
+  unfolding readCall readOctets bare
   read-words who characteristic offset room =
-      behind-rows d (allReadRows k d who characteristic offset room) _ (λ n.
-      let passed : NoneApplies (fronted k (ltb room 128) d) = (n .0, (n .1 .0, (n .1 .1 .0, tt))) in
-      let short : length (valueNow k d characteristic) ≤ 128 = value-fits k (right k _ d passed) (d .player) (player k _ d passed) characteristic in
-      (part-short (clientAt (d .clients) who .mtu - 1) offset (valueNow k d characteristic) short, tt))
+      let rows = readRows who (caller d who) characteristic offset (length (valueNow k d characteristic)) in
+      let small = ltb room leastOutput in
+      behind-rows (λ (l : Left Desk). l .said) (keeping d) (λ said. refl) (fronted k small d ++ rows) (refl, (refl, (refl, (refl, (refl, (refl, (refl, (refl, (refl, (refl, tt)))))))))) _ (λ n.
+      let short : length (valueNow k d characteristic) ≤ 128 = value-fits k (right k small d rows n) (d .player) (player k small d rows n) characteristic in
+      (part-short (caller d who .mtu - 1) offset (valueNow k d characteristic) short, tt))
     where
       part-short : (most from : ℕ) (value : List ℕ) → length value ≤ 128 → length (take most (drop from value)) < 4294967296
       part-short most from value h = simp (length-take, length-drop) (omega arith)
@@ -129,13 +131,16 @@ module _ (k : Tables) (d : Desk) where
 
   -- so is a take's; clients and characteristics are few
   pub take-words : (room : ℕ) → AllWords (takeCall k d room .said .values)
-  unfolding takeCall handedTo
-  take-words room = behind-rows d (takeRows k d room) _ (λ n. served (leb clientCount (nextClient d)) refl (value-fits k (right k _ d n) (d .player) (player k _ d n)))
+  unfolding takeCall bare
+  take-words room =
+      let small = ltb room leastOutput in
+      behind-rows (λ (l : Left Desk). l .said) (keeping d) (λ said. refl) (fronted k small d ++ []) (refl, (refl, (refl, tt))) _ (λ n.
+      served (leb clientCount (nextClient d)) refl (value-fits k (right k small d [] n) (d .player) (player k small d [] n)))
     where
       own : Client
-      own = clientAt (d .clients) (nextClient d)
+      own = caller d (nextClient d)
 
       served : (t : Bool) → leb clientCount (nextClient d) ≡ t → ((x : ℕ) → length (valueOf (k .tracks) (k .text) (d .player) x) ≤ 128)
-          → AllWords (pick t (leaves (granted []) d) (servedAt d (nextClient d) (handedTo k (d .player) (nextClient d) own)) .said .values)
+          → AllWords (pick t (leaves (granted []) d) (leaves (granted (nextClient d ∷ handedValues k (d .player) own)) (withServed (nextClient d) (afterServing own) d)) .said .values)
       served true e h = tt
       served false e h = let there = leb-false clientCount (nextClient d) e in (omega (arith, there), (few (nextSlot own), (handed-short own h, tt)))

@@ -1,13 +1,13 @@
 -- What a call tells C, and what it leaves of the state's octets: "A refusal returns its number alone and alters nothing."
 -- Assumes nothing.
 use mathlib.Core.Path.{_≡_}
+use mathlib.Core.Bool.{Bool, not, _&&_}
 use mathlib.Core.List.{List, [], _∷_, _++_}
 use Prim.Native.Nat.{ℕ, _%_}
-use lib.Dec.{eqb}
+use lib.Dec.{ltb}
 use lib.ListN.{length, take, drop, getD}
-use Rattle.ground.specs.Cases.{pick, Said}
-use Rattle.ground.specs.Lists.{filled}
-use Rattle.admission.specs.Refusals.{Left}
+use Rattle.ground.specs.Cases.{pick}
+use Rattle.ground.specs.Refusals.{Said, Left}
 use Rattle.desk_state.specs.declared.Desk.{Desk}
 use Rattle.mcs_state.specs.Codec.{deskOf, deskOctets}
 use Rattle.mcs.specs.declared.Told.{Told}
@@ -16,34 +16,43 @@ use Rattle.mcs.specs.declared.Told.{Told}
 abbrev pub lowWord : ℕ → ℕ
 lowWord n = n % 4294967296
 
--- what C is told: the number, and four values
+-- a refusal that carries something besides its number
+abbrev pub carries : Said → Bool
+carries said = not (said .isGranted) && ltb 0 (length (said .values))
+
+-- what C is told: whether the call is accepted, or else whether its refusal carries something; the number; and four values
 abbrev pub toldOf : Said → Told
 toldOf said =
     record {
+      granted = said .isGranted;
+      carries = carries said;
       number = said .number;
       values = lowWord (getD (said .values) 0 0) ∷ lowWord (getD (said .values) 1 0) ∷ lowWord (getD (said .values) 2 0) ∷ lowWord (getD (said .values) 3 0) ∷ [];
     }
 
 -- words afterwards that are for values: as many of them as there are words, or as they were
-abbrev pub toldAfter : ℕ → List ℕ → List ℕ → List ℕ
-toldAfter number values old = pick (eqb number 0) (take (length old) values) old
+abbrev pub toldAfter : Bool → List ℕ → List ℕ → List ℕ
+toldAfter on values old = pick on (take (length old) values) old
 
--- those of a call: 0 where it says no value; as they were where it is refused. A read's is its number of octets; a take's are client, characteristic and
--- number of octets, 0, 0, 0 where nothing is owed; a card load's are the four counts
+-- the values that are said, 0 where there is none
+abbrev pub saidWords : Said → List ℕ
+saidWords said = getD (said .values) 0 0 ∷ getD (said .values) 1 0 ∷ getD (said .values) 2 0 ∷ getD (said .values) 3 0 ∷ []
+
+-- those of a call; as they were where it is refused. A read's is its number of octets; a take's are client, characteristic and number of octets, 0, 0, 0
+-- where nothing is owed; a card load's are the four counts
 abbrev pub wordsAfter : Said → List ℕ → List ℕ
-wordsAfter said old =
-    toldAfter (said .number) (getD (said .values) 0 0 ∷ getD (said .values) 1 0 ∷ getD (said .values) 2 0 ∷ getD (said .values) 3 0 ∷ []) old
+wordsAfter said old = toldAfter (said .isGranted) (saidWords said) old
 
--- words afterwards that a refusal has for what it carries: as they were where it carries nothing, and where the call is accepted
+-- those for what a refusal carries; as they were where it carries nothing, and where the call is accepted
 abbrev pub carriedAfter : Said → List ℕ → List ℕ
-carriedAfter said old = pick (eqb (said .number) 0) old (filled (said .values) old)
+carriedAfter said old = toldAfter (carries said) (saidWords said) old
 
 -- the octets of the next state, or as they were
 abbrev pub stateAfter : Left Desk → List ℕ → List ℕ
-stateAfter l old = pick (eqb (l .said .number) 0) (deskOctets (l .state) ++ drop 338 old) old
+stateAfter l old = pick (l .said .isGranted) (deskOctets (l .state) ++ drop 338 old) old
 
 -- the number, the octets afterwards, and the state that they are
 pub record Leaves (l : Left Desk) (old : List ℕ) (number : ℕ) (new : List ℕ) : Type 0 where
   pub told : number ≡ l .said .number
   pub octets : new ≡ stateAfter l old
-  pub state : deskOf new ≡ pick (eqb (l .said .number) 0) (l .state) (deskOf old)
+  pub state : deskOf new ≡ pick (l .said .isGranted) (l .state) (deskOf old)

@@ -5,12 +5,12 @@ ghost use mathlib.Core.List.{[], _∷_};
 ghost use Prim.Native.Nat.{_≤_};
 ghost use lib.ListN.{length as len};
 ghost use Rattle.catalogue_tables.specs.Tables.{tables};
-ghost use Rattle.desk_replies.specs.Replies.{saidOf, leftBy, outputAfter};
+ghost use Rattle.desk_replies.specs.Replies.{saidOf, leftBy};
 ghost use Rattle.ground.specs.Lists.{tableAfter};
 ghost use Rattle.ground.specs.Words.{words};
 ghost use Rattle.card_load.specs.Card.{blocksOf, gather, octets};
 ghost use Rattle.card_load.specs.Load.{saidOf as loadSaidOf, loadSaid};
-ghost use Rattle.ground.specs.Cases.{refused as refusedBy, refusedWith, granted as grantedWith};
+ghost use Rattle.ground.specs.Refusals.{refusalOf, granted as grantedWith};
 ghost use Rattle.catalogue_cue.specs.Sheet.{saidOf as cueSaidOf, cueSaid, sheetLines, startsOf};
 ghost use Rattle.mcs_state.specs.Codec.{flag, deskOf};
 ghost use Rattle.desk_console.specs.Console.{startCall, nameCall, activateCall, deactivateCall, advanceCall};
@@ -24,28 +24,33 @@ use catalogue_cue::Cued;
 use desk_replies::Answer;
 use desk_replies::Outcome;
 
-// What C is told of an answer: document 01's number, 0 where the call is accepted, and then its values as words, 0 where there is none.
+// What C is told of an answer: whether the call is accepted, or else whether its refusal carries something; document 01's number, 0 where the call is
+// accepted; and the values as words, 0 where there is none.
 pub struct Told {
+    pub granted: bool,
+    pub carries: bool,
     pub number: u32,
     pub values: [u32; 4],
 }
 
-fn refused(number: u32) -> Told
-    ensures { λ r. ⌜ r ≡ toldOf (refusedBy number) ⌝ }
+fn refused(r: ground::Refusal) -> Told
+    ensures { λ t. ⌜ t ≡ toldOf (refusalOf r) ⌝ }
 {
-    Told {
-        number: number,
-        values: [0; 4],
-    }
-}
-
-// A refusal that carries a value.
-fn refused_at(number: u32, value: usize) -> Told
-    ensures { λ r. ⌜ r ≡ toldOf (refusedWith number (value ∷ [])) ⌝ }
-{
-    Told {
-        number: number,
-        values: [(value % 4294967296) as u32, 0, 0, 0],
+    let number = r.number;
+    let carried = r.carried;
+    match carried {
+        ground::Carried::Nothing => Told {
+            granted: false,
+            carries: false,
+            number: number,
+            values: [0; 4],
+        },
+        ground::Carried::One(value) => Told {
+            granted: false,
+            carries: true,
+            number: number,
+            values: [(value % 4294967296) as u32, 0, 0, 0],
+        },
     }
 }
 
@@ -53,6 +58,8 @@ fn granted(first: usize, second: usize, third: usize, fourth: usize) -> Told
     ensures { λ r. ⌜ r ≡ toldOf (grantedWith (first ∷ second ∷ third ∷ fourth ∷ [])) ⌝ }
 {
     Told {
+        granted: true,
+        carries: false,
         number: 0,
         values: [
             (first % 4294967296) as u32,
@@ -78,25 +85,8 @@ fn told_of(a: Answer) -> Told
                 0,
             )
         }
-        Answer::BadCatalogue => refused(200),
-        Answer::SmallOutput => refused(205),
-        Answer::BadState => refused(201),
-        Answer::NoClient => refused(202),
-        Answer::NotConnected => refused(203),
-        Answer::AlreadyConnected => refused(204),
-        Answer::BadMtu => refused(206),
-        Answer::NoCharacteristic => refused(0x01),
-        Answer::NoSlot => refused(209),
-        Answer::NotReadable => refused(0x02),
-        Answer::NotWritable => refused(0x03),
-        Answer::NotEncrypted => refused(0x0F),
-        Answer::ValueChanged => refused(0x80),
-        Answer::BeyondEnd => refused(0x07),
-        Answer::BadLength => refused(0x0D),
-        Answer::BadOrder => refused(0x13),
-        Answer::TooManyResults => refused(0x11),
-        Answer::BadName => refused(207),
-        Answer::BadGroup => refused(208),
+        Answer::Handed(characteristic, n) => granted(ground::wide_word(characteristic), n, 0, 0),
+        Answer::Refused(r) => refused(r),
     }
 }
 
@@ -105,9 +95,7 @@ fn told_of_load(l: Loaded) -> Told
 {
     match l {
         Loaded::Done(c) => granted(c.groups, c.tracks, c.segments, c.text),
-        Loaded::BadLength => refused(210),
-        Loaded::BadBlock => refused(211),
-        Loaded::NoRoom => refused(212),
+        Loaded::Refused(r) => refused(r),
     }
 }
 
@@ -116,19 +104,16 @@ fn told_of_cue(c: Cued) -> Told
 {
     match c {
         Cued::Done(count) => granted(count, 0, 0, 0),
-        Cued::TooLong => refused(225),
-        Cued::BadLine(line) => refused_at(226, line),
-        Cued::NotRising(line) => refused_at(227, line),
-        Cued::NoRoom => refused(228),
+        Cued::Refused(r) => refused(r),
     }
 }
 
-// The values, over words that the caller has for them, where the call is accepted.
-fn tell(number: u32, values: [u32; 4], words: &mut [u32])
+// The values, over words that the caller has for them, where `on` says so.
+fn tell(on: bool, values: [u32; 4], words: &mut [u32])
     requires { ⌜ len (now words) ≤ 4 ⌝ }
-    ensures { λ _. ⌜ now (words .exit) ≡ toldAfter number values (now (words .entry)) ⌝ }
+    ensures { λ _. ⌜ now (words .exit) ≡ toldAfter on values (now (words .entry)) ⌝ }
 {
-    if number == 0 {
+    if on {
         let mut i: usize = 0;
         while i < words.len() {
             words[i] = values[i];
@@ -144,13 +129,11 @@ fn finish(o: Outcome, state: &mut [u8]) -> u32
 {
     let answer = o.answer;
     let t = told_of(answer);
-    let n = t.number;
-    if n == 0 {
+    if t.granted {
         let next = o.desk;
         mcs_state::encode(next, state);
-        return n;
     }
-    n
+    t.number
 }
 
 // Card load.
@@ -173,7 +156,7 @@ pub extern "C" fn mcs_card_load(
     let l = card_load::load(card, groups, tracks, segments, text);
     let t = told_of_load(l);
     let values = t.values;
-    tell(t.number, values, counts);
+    tell(t.granted, values, counts);
     t.number
 }
 
@@ -193,12 +176,9 @@ pub extern "C" fn mcs_cue_sheet(
     let a = catalogue_cue::read(sheet, starts);
     let t = told_of_cue(a);
     let values = t.values;
-    let number = t.number;
-    tell(number, values, count);
-    if (number == 226) | (number == 227) {
-        tell(0, values, line);
-    }
-    number
+    tell(t.granted, values, count);
+    tell(t.carries, values, line);
+    t.number
 }
 
 // Start.
@@ -383,7 +363,7 @@ pub extern "C" fn mcs_read(
     length: &mut [u32; 1],
 ) -> u32
     ensures { λ r. ⌜ Leaves (readCall (tables (now (groups .entry)) (now (tracks .entry)) (now (segments .entry)) (now (text .entry))) (deskOf (now (state .entry))) client characteristic offset (len (now (out .entry)))) (now (state .entry)) r (now (state .exit)) ⌝ }
-    ensures { λ r. ⌜ now (out .exit) ≡ outputAfter (readCall (tables (now (groups .entry)) (now (tracks .entry)) (now (segments .entry)) (now (text .entry))) (deskOf (now (state .entry))) client characteristic offset (len (now (out .entry))) .said) (readOctets (tables (now (groups .entry)) (now (tracks .entry)) (now (segments .entry)) (now (text .entry))) (deskOf (now (state .entry))) client characteristic offset) (now (out .entry)) ⌝ }
+    ensures { λ r. ⌜ now (out .exit) ≡ tableAfter (readCall (tables (now (groups .entry)) (now (tracks .entry)) (now (segments .entry)) (now (text .entry))) (deskOf (now (state .entry))) client characteristic offset (len (now (out .entry))) .said) (readOctets (tables (now (groups .entry)) (now (tracks .entry)) (now (segments .entry)) (now (text .entry))) (deskOf (now (state .entry))) client characteristic offset) (now (out .entry)) ⌝ }
     ensures { λ r. ⌜ now (length .exit) ≡ wordsAfter (readCall (tables (now (groups .entry)) (now (tracks .entry)) (now (segments .entry)) (now (text .entry))) (deskOf (now (state .entry))) client characteristic offset (len (now (out .entry))) .said) (now (length .entry)) ⌝ }
 {
     let d = mcs_state::decode(state);
@@ -401,7 +381,7 @@ pub extern "C" fn mcs_read(
     let answer = o.answer;
     let t = told_of(answer);
     let values = t.values;
-    tell(t.number, values, length);
+    tell(t.granted, values, length);
     finish(o, state)
 }
 
@@ -417,7 +397,7 @@ pub extern "C" fn mcs_take(
     served: &mut [u32; 3],
 ) -> u32
     ensures { λ r. ⌜ Leaves (takeCall (tables (now (groups .entry)) (now (tracks .entry)) (now (segments .entry)) (now (text .entry))) (deskOf (now (state .entry))) (len (now (out .entry)))) (now (state .entry)) r (now (state .exit)) ⌝ }
-    ensures { λ r. ⌜ now (out .exit) ≡ outputAfter (takeCall (tables (now (groups .entry)) (now (tracks .entry)) (now (segments .entry)) (now (text .entry))) (deskOf (now (state .entry))) (len (now (out .entry))) .said) (takeOctets (tables (now (groups .entry)) (now (tracks .entry)) (now (segments .entry)) (now (text .entry))) (deskOf (now (state .entry)))) (now (out .entry)) ⌝ }
+    ensures { λ r. ⌜ now (out .exit) ≡ tableAfter (takeCall (tables (now (groups .entry)) (now (tracks .entry)) (now (segments .entry)) (now (text .entry))) (deskOf (now (state .entry))) (len (now (out .entry))) .said) (takeOctets (tables (now (groups .entry)) (now (tracks .entry)) (now (segments .entry)) (now (text .entry))) (deskOf (now (state .entry)))) (now (out .entry)) ⌝ }
     ensures { λ r. ⌜ now (served .exit) ≡ wordsAfter (takeCall (tables (now (groups .entry)) (now (tracks .entry)) (now (segments .entry)) (now (text .entry))) (deskOf (now (state .entry))) (len (now (out .entry))) .said) (now (served .entry)) ⌝ }
 {
     let d = mcs_state::decode(state);
@@ -425,7 +405,7 @@ pub extern "C" fn mcs_take(
     let answer = o.answer;
     let t = told_of(answer);
     let values = t.values;
-    tell(t.number, values, served);
+    tell(t.granted, values, served);
     finish(o, state)
 }
 

@@ -228,16 +228,28 @@ fn write_state(d: desk_state::Desk) {
     write_client(desk_state::client_at(d, 3));
 }
 
-// A refusal by a number of this project.
-fn refuse(number: u64) {
-    io::write_all(1, b"refused ");
-    io::print_decimal(1, number);
+// A digit of a code of ATT, as the document writes it.
+fn write_digit(x: u32) {
+    let digit = (x % 16) as u8;
+    if digit < 10 {
+        let text = [digit + 48];
+        io::write_all(1, &text);
+        return;
+    }
+    let text = [digit + 55];
+    io::write_all(1, &text);
 }
 
-// A refusal by a code of ATT, in the document's digits.
-fn refuse_att(code: &[u8]) {
+// A refusal: a number of this project, or below 200 a code of ATT.
+fn refuse(number: u32) {
     io::write_all(1, b"refused ");
-    io::write_all(1, code);
+    if number < 200 {
+        io::write_all(1, b"0x");
+        write_digit(number / 16);
+        write_digit(number);
+        return;
+    }
+    io::print_decimal(1, number as u64);
 }
 
 fn write_answer(answer: Answer) {
@@ -253,62 +265,12 @@ fn write_answer(answer: Answer) {
             write_number(who);
             write_number(characteristic);
         }
-        Answer::BadCatalogue => {
-            refuse(200);
+        Answer::Handed(characteristic, _) => {
+            io::write_all(1, b"own take");
+            write_number(characteristic);
         }
-        Answer::SmallOutput => {
-            refuse(205);
-        }
-        Answer::BadState => {
-            refuse(201);
-        }
-        Answer::NoClient => {
-            refuse(202);
-        }
-        Answer::NotConnected => {
-            refuse(203);
-        }
-        Answer::AlreadyConnected => {
-            refuse(204);
-        }
-        Answer::BadMtu => {
-            refuse(206);
-        }
-        Answer::NoCharacteristic => {
-            refuse_att(b"0x01");
-        }
-        Answer::NoSlot => {
-            refuse(209);
-        }
-        Answer::NotReadable => {
-            refuse_att(b"0x02");
-        }
-        Answer::NotWritable => {
-            refuse_att(b"0x03");
-        }
-        Answer::NotEncrypted => {
-            refuse_att(b"0x0F");
-        }
-        Answer::ValueChanged => {
-            refuse_att(b"0x80");
-        }
-        Answer::BeyondEnd => {
-            refuse_att(b"0x07");
-        }
-        Answer::BadLength => {
-            refuse_att(b"0x0D");
-        }
-        Answer::BadOrder => {
-            refuse_att(b"0x13");
-        }
-        Answer::TooManyResults => {
-            refuse_att(b"0x11");
-        }
-        Answer::BadName => {
-            refuse(207);
-        }
-        Answer::BadGroup => {
-            refuse(208);
+        Answer::Refused(r) => {
+            refuse(r.number);
         }
     }
 }

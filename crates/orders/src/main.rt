@@ -99,8 +99,8 @@ fn check(count: usize, groups: &[u32], tracks: &[u32], segments: &[u32], text: &
 {
     let answer = catalogue_check::check(groups, tracks, segments, text);
     match answer {
-        Catalogue::Wrong => {
-            refuse(200);
+        Catalogue::Refused(r) => {
+            refuse(r.number as u64);
         }
         Catalogue::Fine => {
             write_groups(groups, tracks, count);
@@ -125,14 +125,8 @@ fn write_card(card: &[u8]) {
     let mut text = [0u8; 32768];
     let answer = card_load::load(card, &mut groups, &mut tracks, &mut segments, &mut text);
     match answer {
-        Loaded::BadLength => {
-            refuse(210);
-        }
-        Loaded::BadBlock => {
-            refuse(211);
-        }
-        Loaded::NoRoom => {
-            refuse(212);
+        Loaded::Refused(r) => {
+            refuse(r.number as u64);
         }
         Loaded::Done(counts) => {
             let n = within(counts.groups, ground::MOST_GROUPS);

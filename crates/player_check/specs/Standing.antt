@@ -1,12 +1,13 @@
 -- The player's part of 201 (document 01, "Refusal numbers"): "the state breaks a player rule above for this catalogue (group, track in it, position,
 -- state, seeking speed, order), its name breaks 207".
 -- Assumes nothing.
-use mathlib.Core.Bool.{Bool, true, false, _&&_}
+use mathlib.Core.Bool.{Bool, true, false, _&&_, not}
 use mathlib.Core.List.{List, [], _∷_}
 use Prim.Native.Nat.{ℕ, _+_}
 use lib.Dec.{eqb, ltb, leb}
 use lib.ListN.{length, take}
 use Rattle.ground.specs.Cases.{pick, within}
+use Rattle.ground.specs.Refusals.{Row, row}
 use Rattle.ground.specs.Limits.{mostTitle}
 use Rattle.text.specs.Utf8.{textOf, isFine}
 use Rattle.catalogue_tables.specs.Tables.{groupCount, firstTrackOf, tracksIn, durationOf}
@@ -21,6 +22,9 @@ use Rattle.player_state.specs.Modes.{rungs}
 unfoldable pub textRule : List ℕ → Bool
 textRule name = leb (length name) mostTitle && isFine (textOf name)
 
+abbrev pub nameRow : List ℕ → Row
+nameRow name = row 207 (not (textRule name))
+
 -- a stored name; its array has 128 octets, so the length is asked by itself
 unfoldable pub nameRule : Name → Bool
 nameRule n = leb (n .len) mostTitle && isFine (textOf (take (n .len) (n .octets)))
@@ -28,6 +32,9 @@ nameRule n = leb (n .len) mostTitle && isFine (textOf (take (n .len) (n .octets)
 -- 208: "group absent or without tracks"
 unfoldable pub groupRule : List ℕ → ℕ → Bool
 groupRule groups g = ltb g (groupCount groups) && ltb 0 (tracksIn groups g)
+
+abbrev pub groupRow : List ℕ → ℕ → Row
+groupRow groups g = row 208 (not (groupRule groups g))
 
 abbrev pub member : ℕ → List ℕ → Bool
 member x [] = false

@@ -96,14 +96,8 @@ fn prefill(s: &mut [u32]) {
 
 fn write_answer(answer: Loaded) {
     match answer {
-        Loaded::BadLength => {
-            write_number(210);
-        }
-        Loaded::BadBlock => {
-            write_number(211);
-        }
-        Loaded::NoRoom => {
-            write_number(212);
+        Loaded::Refused(r) => {
+            write_number(ground::wide_word(r.number));
         }
         Loaded::Done(counts) => {
             write_number(counts.groups);
@@ -196,8 +190,8 @@ fn check_catalogue(groups: &[u32], tracks: &[u32], segments: &[u32], text: &[u8]
         Catalogue::Fine => {
             io::write_all(1, b" fine");
         }
-        Catalogue::Wrong => {
-            write_number(200);
+        Catalogue::Refused(r) => {
+            write_number(ground::wide_word(r.number));
         }
     }
 }
@@ -255,24 +249,25 @@ fn text_case(s: &[u8]) -> &[u8]
     rest(octets, len)
 }
 
+// A refusal: its number, and what it carries.
+fn write_refusal(r: ground::Refusal) {
+    write_number(ground::wide_word(r.number));
+    let carried = r.carried;
+    match carried {
+        ground::Carried::Nothing => {}
+        ground::Carried::One(place) => {
+            write_number(place);
+        }
+    }
+}
+
 fn write_cued(answer: Cued) {
     match answer {
         Cued::Done(count) => {
             write_number(count);
         }
-        Cued::TooLong => {
-            write_number(225);
-        }
-        Cued::BadLine(line) => {
-            write_number(226);
-            write_number(line);
-        }
-        Cued::NotRising(line) => {
-            write_number(227);
-            write_number(line);
-        }
-        Cued::NoRoom => {
-            write_number(228);
+        Cued::Refused(r) => {
+            write_refusal(r);
         }
     }
 }

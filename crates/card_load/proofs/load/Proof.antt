@@ -1,7 +1,7 @@
 -- `card_load::load`: a refusal comes before anything is lent, and after `Done` each table is filled by its own call.
 use mathlib.Core.Path.{_≡_, refl, sym, ap, _∙_}
 use lib.ListN.{length}
-use Rattle.ground.specs.Cases.{Said}
+use Rattle.ground.specs.Refusals.{Said}
 use Rattle.card_load.specs.declared.Loaded.{Loaded}
 use Rattle.card_load.specs.declared.Loaded.the-variants.{Done}
 use Rattle.card_load.specs.Load.{saidOf, loadSaid}
@@ -15,16 +15,16 @@ answered : {v r : Loaded} {said : Said} → saidOf v ≡ said → v ≡ r → sa
 answered e q = sym (ap saidOf q) ∙ e
 
 -- the arm of `Done`: what it says, and what that tells
-abbrev begun : tie.After-known-told → tie.Start
+abbrev begun : tie.After-known-told2 → tie.Start
 begun c = c .before .before .before .before .before .before .before .before .before
 
-done-said : (c : tie.After-known-told)
+done-said : (c : tie.After-known-told2)
     → let a = begun c .args in
-    saidOf (Done (c .before .v .given .0 .0))
+    saidOf (Done (c .before .v2 .given .0 .0))
     ≡ loadSaid (a .card .now) (length (a .groups .now)) (length (a .tracks .now)) (length (a .segments .now)) (length (a .text .now))
-done-said c = answered (c .before .before .before .survey .ensures) (c .before .v .given .1)
+done-said c = answered (c .before .before .before .survey .ensures) (c .before .v2 .given .1)
 
-good : (c : tie.After-known-told)
+good : (c : tie.After-known-told2)
     → let a = begun c .args in
     Sound (a .card .now) (length (a .groups .now)) (length (a .tracks .now)) (length (a .segments .now)) (length (a .text .now))
 good c = sound _ _ _ _ _ _ (done-said c)
@@ -32,17 +32,11 @@ good c = sound _ _ _ _ _ _ (done-said c)
 survey-requires : tie.Need-survey-requires
 survey-requires c κs = search needs
 
-enum-told : tie.Need-enum-told
-enum-told c = search needs
-
-enum-told-2 : tie.Need-enum-told-2
-enum-told-2 c = search needs
-
-enum-told-3 : tie.Need-enum-told-3
-enum-told-3 c = search needs
-
 enum-known-v : tie.Need-enum-known-v
 enum-known-v c = search needs
+
+enum-known-v-2 : tie.Need-enum-known-v-2
+enum-known-v-2 c = search needs
 
 fill-words-requires : tie.Need-fill-words-requires
 fill-words-requires c κs = let z = good (c .before) in (z .long, (z .fit, z .groups-room))
@@ -57,13 +51,7 @@ fill-octets-requires : tie.Need-fill-octets-requires
 fill-octets-requires c κs = let z = good (c .before .before .before .before .before .before .before .before .before .before .before .before .before) in (z .long, (z .fit, z .text-room))
 
 returns : tie.Need-returns
-returns c = (answered (c .before .before .survey .ensures) (c .enum-told .given .1), (refl, (refl, (refl, refl))))
-
-returns-2 : tie.Need-returns-2
-returns-2 c = (answered (c .before .before .survey .ensures) (c .enum-told2 .given .1), (refl, (refl, (refl, refl))))
-
-returns-3 : tie.Need-returns-3
-returns-3 c = (answered (c .before .before .survey .ensures) (c .enum-told3 .given .1), (refl, (refl, (refl, refl))))
+returns c = (answered (c .before .before .before .survey .ensures) (c .before .v .given .1), (refl, (refl, (refl, refl))))
 
 same-length : tie.Need-same-length
 same-length c = search needs
@@ -77,8 +65,8 @@ same-length-3 c = search needs
 same-length-4 : tie.Need-same-length-4
 same-length-4 c = search needs
 
-returns-4 : tie.Need-returns-4
-returns-4 c =
+returns-2 : tie.Need-returns-2
+returns-2 c =
     let o = c .before .before in
     let w3 = o .before .before .before .before in
     let w2 = w3 .before .before .before .before in
@@ -93,19 +81,15 @@ load-spec =
     tie.close
     (tie.spec
     survey-requires
-    enum-told
-    enum-told-2
-    enum-told-3
     enum-known-v
+    enum-known-v-2
     fill-words-requires
     fill-words-requires-2
     fill-words-requires-3
     fill-octets-requires
     returns
-    returns-2
-    returns-3
     same-length
     same-length-2
     same-length-3
     same-length-4
-    returns-4)
+    returns-2)

@@ -70,18 +70,28 @@ room-is c =
     (c .before .within3 .ensures)
     (c .within4 .ensures)
 
+refused-requires : tie.Need-refused-requires
+refused-requires c κs = search needs
+
 returns : tie.Need-returns
-returns c = says-length _ _ _ _ _ (length-odd c)
+returns c = c .refused .ensures ∙ says-length _ _ _ _ _ (length-odd (c .before))
+
+refused-requires-2 : tie.Need-refused-requires-2
+refused-requires-2 c κs = search needs
 
 returns-2 : tie.Need-returns-2
-returns-2 c = says-length _ _ _ _ _ (length-above c)
+returns-2 c = c .refused2 .ensures ∙ says-length _ _ _ _ _ (length-above (c .before))
 
 blocks-right-requires : tie.Need-blocks-right-requires
 blocks-right-requires c κs = search needs
 
+refused-requires-3 : tie.Need-refused-requires-3
+refused-requires-3 c κs = search needs
+
 returns-3 : tie.Need-returns-3
 returns-3 c =
-    says-block _ _ _ _ _ (length-holds (c .before .before)) (sym (c .before .blocks-right .ensures) ∙ not-true _ (c .if3 .taken))
+    let f = c .before in
+    c .refused3 .ensures ∙ says-block _ _ _ _ _ (length-holds (f .before .before)) (sym (f .before .blocks-right .ensures) ∙ not-true _ (f .if3 .taken))
 
 record-count-requires : tie.Need-record-count-requires
 record-count-requires c κs = search needs
@@ -117,18 +127,25 @@ returns-4 c =
     (q .before .record-count3 .ensures .0)
     (q .record-count4 .ensures .0)
 
+refused-requires-4 : tie.Need-refused-requires-4
+refused-requires-4 c κs = search needs
+
 returns-5 : tie.Need-returns-5
 returns-5 c =
-    let e = judged (c .before) in
-    says-room _ _ _ _ _ (length-holds (e .before .before)) (blocks-hold e) (room-is (c .before) ∙ c .if4 .left)
+    let f = c .before in
+    let e = judged (f .before) in
+    c .refused4 .ensures ∙ says-room _ _ _ _ _ (length-holds (e .before .before)) (blocks-hold e) (room-is (f .before) ∙ f .if4 .left)
 
 pub survey-spec : {M : Type 1} → statement M
 survey-spec =
     tie.close
     (tie.spec
+    refused-requires
     returns
+    refused-requires-2
     returns-2
     blocks-right-requires
+    refused-requires-3
     returns-3
     record-count-requires
     record-count-requires-2
@@ -139,4 +156,5 @@ survey-spec =
     within-requires-3
     within-requires-4
     returns-4
+    refused-requires-4
     returns-5)

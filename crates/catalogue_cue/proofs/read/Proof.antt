@@ -2,7 +2,7 @@
 use native.Mathlib.Omega.{arith}
 use lib.ListN.{length, getD}
 use mathlib.Core.Path.{_≡_, refl, sym, ap, _∙_}
-use Rattle.ground.specs.Cases.{Said}
+use Rattle.ground.specs.Refusals.{Said}
 use Rattle.catalogue_cue.specs.declared.Cued.{Cued}
 use Rattle.catalogue_cue.specs.Sheet.{saidOf}
 use Rattle.catalogue_cue.proofs.Accepted.{accepted}
@@ -25,21 +25,12 @@ fill-requires c κs =
     let f = c .before .before .before .before in
     let a = f .before .before .before .args in
     let said = answered (f .survey .ensures) (c .before .before .answer .given .1) in
-    let granted = accepted (a .sheet .now) (length (a .starts .now)) (sym (ap (λ (s : Said). s .number) said)) in
+    let granted = accepted (a .sheet .now) (length (a .starts .now)) (sym (ap (λ (s : Said). s .isGranted) said)) in
     let count = ap (λ (s : Said). getD (s .values) 0 0) (said ∙ granted .said) in
     (count, (omega (arith, count, granted .fits), granted .understood))
 
-enum-told : tie.Need-enum-told
-enum-told c = search needs
-
 enum-known-answer-2 : tie.Need-enum-known-answer-2
 enum-known-answer-2 c = search needs
-
-enum-known-answer-3 : tie.Need-enum-known-answer-3
-enum-known-answer-3 c = search needs
-
-enum-told-2 : tie.Need-enum-told-2
-enum-told-2 c = search needs
 
 same-length : tie.Need-same-length
 same-length c = search needs
@@ -50,16 +41,7 @@ returns c =
     (answered (k .before .before .survey .ensures) (k .answer .given .1), c .before .before .fill .ensures)
 
 returns-2 : tie.Need-returns-2
-returns-2 c = (answered (c .before .before .survey .ensures) (c .enum-told .given .1), refl)
-
-returns-3 : tie.Need-returns-3
-returns-3 c = (answered (c .before .before .before .survey .ensures) (c .before .answer2 .given .1), refl)
-
-returns-4 : tie.Need-returns-4
-returns-4 c = (answered (c .before .before .before .survey .ensures) (c .before .answer3 .given .1), refl)
-
-returns-5 : tie.Need-returns-5
-returns-5 c = (answered (c .before .before .survey .ensures) (c .enum-told2 .given .1), refl)
+returns-2 c = (answered (c .before .before .before .survey .ensures) (c .before .answer2 .given .1), refl)
 
 pub read-spec : {M : Type 1} → statement M
 read-spec =
@@ -68,13 +50,7 @@ read-spec =
     survey-requires
     enum-known-answer
     fill-requires
-    enum-told
     enum-known-answer-2
-    enum-known-answer-3
-    enum-told-2
     same-length
     returns
-    returns-2
-    returns-3
-    returns-4
-    returns-5)
+    returns-2)

@@ -7,18 +7,15 @@ use native.Mathlib.Omega.{arith}
 use borrow.Author.Tests.{lt-ltb, le-ltb}
 use lib.Dec.{ltb}
 use lib.ListN.{length}
-use Rattle.ground.specs.Cases.{Said, granted, refuseIf}
+use Rattle.ground.specs.Refusals.{granted}
 use Rattle.ground.proofs.Cases.{past, here}
-use Rattle.catalogue_cue.specs.Sheet.{sheetLines, startsOf, judged, cueSaid}
+use Rattle.catalogue_cue.specs.Scan.{judged}
+use Rattle.catalogue_cue.specs.Sheet.{sheetLines, startsOf, cueSaid}
+use Rattle.catalogue_cue.proofs.Said.{behindOf, cue-said}
 use Rattle.catalogue_cue.proofs.Judging.{Judging, Turned, judging-starts, judging-ends, all-counted, turned}
 use borrow.Author.Needs.{needs}
 use Rattle.catalogue_cue.proofs.survey.Statement.{statement}
 use Rattle.catalogue_cue.proofs.survey.Tie as tie
-
--- what stands behind the lines: the room, and the number of starts
-abbrev behindOf : List ℕ → ℕ → Said
-behindOf sheet room =
-    refuseIf (ltb room (length (startsOf (sheetLines sheet)))) 228 (granted (length (startsOf (sheetLines sheet)) ∷ []))
 
 abbrev Inv-loop : tie.InvT-loop
 Inv-loop sheet room at₀ number₀ count₀ last₀ at number count last = (at ≤ length sheet + 1) × (number ≤ at + 1) × (count ≤ number) × Judging sheet (behindOf sheet room) at number count last
@@ -57,9 +54,11 @@ turn w =
     turned (a .sheet .now) (behindOf (a .sheet .now) (a .room)) (l .loop .at) (l .loop .number) (l .loop .count) (l .loop .last) (l .loop .inv .3)
     (f .read-line .result .line) (f .read-line .result .next) (f .read-line .ensures .gives) (w .weigh .result) (w .weigh .ensures)
 
+refuse-requires : tie.Need-refuse-requires Inv-loop μ-loop
+refuse-requires c κs = search needs
+
 returns : tie.Need-returns Inv-loop μ-loop
-unfolding cueSaid
-returns c = here _ (lt-ltb _ _ (c .if1 .taken)) refl
+returns c = here _ (lt-ltb _ _ (c .before .if1 .taken)) (c .refuse .ensures) ∙ sym (cue-said _ _)
 
 loop-holds : tie.Need-loop-holds Inv-loop μ-loop
 loop-holds c = (search needs, search needs, search needs, judging-starts _ _)
@@ -70,13 +69,21 @@ read-line-requires c κs = search needs
 weigh-requires : tie.Need-weigh-requires Inv-loop μ-loop
 weigh-requires c κs = search needs
 
+refuse-at-requires : tie.Need-refuse-at-requires Inv-loop μ-loop
+refuse-at-requires c κs = search needs
+
 returns-2 : tie.Need-returns-2 Inv-loop μ-loop
-unfolding cueSaid
-returns-2 c = past _ (small (c .before .before .before .before .before .before)) (turn (c .before .before) .bad (c .if2 .taken))
+returns-2 c =
+    let t = c .before in
+    past _ (small (t .before .before .before .before .before .before)) (c .refuse-at .ensures ∙ turn (t .before .before) .bad (t .if2 .taken)) ∙ sym (cue-said _ _)
+
+refuse-at-requires-2 : tie.Need-refuse-at-requires-2 Inv-loop μ-loop
+refuse-at-requires-2 c κs = search needs
 
 returns-3 : tie.Need-returns-3 Inv-loop μ-loop
-unfolding cueSaid
-returns-3 c = past _ (small (c .before .before .before .before .before .before .before .before)) (turn (c .before .before .before .before) .fallen (c .if3 .taken))
+returns-3 c =
+    let t = c .before in
+    past _ (small (t .before .before .before .before .before .before .before .before)) (c .refuse-at2 .ensures ∙ turn (t .before .before .before .before) .fallen (t .if3 .taken)) ∙ sym (cue-said _ _)
 
 add-number : tie.Need-add-number Inv-loop μ-loop
 add-number c = search needs
@@ -91,19 +98,21 @@ loop-again c =
     let r = w .before .read-line .ensures in
     (r .bound, omega (arith, r .onward), omega (arith, t .counts), t .goes (c .before .before .if2 .left) (c .if3 .left))
 
+refuse-requires-2 : tie.Need-refuse-requires-2 Inv-loop μ-loop
+refuse-requires-2 c κs = search needs
+
 returns-4 : tie.Need-returns-4 Inv-loop μ-loop
-unfolding cueSaid
 returns-4 c =
-    let l = c .before .before in
-    let ended = end (c .before) in
-    past _ (small (l .before)) (here _ (lt-ltb _ _ (rw (ended .1) at (c .if4 .taken))) refl ∙ sym (ended .0))
+    let t = c .before in
+    let l = t .before .before in
+    let ended = end (t .before) in
+    past _ (small (l .before)) (here _ (lt-ltb _ _ (rw (ended .1) at (t .if4 .taken))) (c .refuse2 .ensures) ∙ sym (ended .0)) ∙ sym (cue-said _ _)
 
 returns-5 : tie.Need-returns-5 Inv-loop μ-loop
-unfolding cueSaid
 returns-5 c =
     let l = c .before .before in
     let ended = end (c .before) in
-    past _ (small (l .before)) (past _ (le-ltb _ _ (rw (ended .1) at (c .if4 .left))) (ap (λ (n : ℕ). granted (n ∷ [])) (ended .1)) ∙ sym (ended .0))
+    past _ (small (l .before)) (past _ (le-ltb _ _ (rw (ended .1) at (c .if4 .left))) (ap (λ (n : ℕ). granted (n ∷ [])) (ended .1)) ∙ sym (ended .0)) ∙ sym (cue-said _ _)
 
 pub survey-spec : {M : Type 1} → statement M
 survey-spec =
@@ -111,14 +120,18 @@ survey-spec =
     (tie.spec
     Inv-loop
     μ-loop
+    refuse-requires
     returns
     loop-holds
     read-line-requires
     weigh-requires
+    refuse-at-requires
     returns-2
+    refuse-at-requires-2
     returns-3
     add-number
     loop-less
     loop-again
+    refuse-requires-2
     returns-4
     returns-5)

@@ -26,6 +26,9 @@ returns : tie.Need-returns
 unfolding connectedRule
 returns c = many (c .before .before .args .c) (not-true _ (c .if1 .taken))
 
+mtu-right-requires : tie.Need-mtu-right-requires
+mtu-right-requires c κs = search needs
+
 only-slots-requires : tie.Need-only-slots-requires
 only-slots-requires c κs = search needs
 
@@ -39,7 +42,7 @@ agree-requires : tie.Need-agree-requires
 agree-requires c κs = search needs
 
 codes-right-requires : tie.Need-codes-right-requires
-codes-right-requires c κs = leb-true _ _ (not-false _ (c .before .before .before .before .before .before .before .before .before .before .before .before .if1 .left))
+codes-right-requires c κs = leb-true _ _ (not-false _ (c .before .before .before .before .before .before .before .before .before .before .before .if1 .left))
 
 returns-2 : tie.Need-returns-2
 unfolding connectedRule inter
@@ -48,9 +51,9 @@ returns-2 c =
     let a = k .before .before in
     let h = a .before .before in
     let o = h .before .before .before .before .before in
-    let x = o .before .before .before .before .before .before .args .c in
+    let x = o .before .before .before .before .before .args .c in
     λ i.
-    mtuRight (x .mtu)
+    o .before .before .mtu-right .ensures i
     && o .before .only-slots .ensures i
     && o .only-slots2 .ensures i
     && eqb (bitAnd (x .fresh) (sym readable-word i)) (x .fresh)
@@ -66,6 +69,7 @@ connected-right-spec =
     tie.close
     (tie.spec
     returns
+    mtu-right-requires
     only-slots-requires
     only-slots-requires-2
     has-bit-requires

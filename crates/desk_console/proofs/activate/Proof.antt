@@ -1,18 +1,19 @@
--- `desk_console::activate`: 200, 201, 208, then the group.
-use mathlib.Core.Path.{_≡_, refl, sym, ap, _∙_}
+-- `desk_console::activate`: 200, 201, 208, then the group's first track.
+use mathlib.Core.Path.{sym, ap, _∙_}
 use mathlib.Core.Bool.{false, not}
-use mathlib.Core.List.{List, []}
+use mathlib.Core.List.{List, [], _∷_}
 use borrow.Author.Tests.{not-true, not-false}
-use Rattle.ground.specs.Cases.{granted}
+use Rattle.ground.specs.Refusals.{granted, Row, leaves, keeping}
 use Rattle.ground.proofs.Cases.{past, here}
+use Rattle.ground.proofs.Rows.{NoneApplies, through}
 use Rattle.catalogue_tables.specs.Tables.{Tables, tables}
-use Rattle.admission.specs.Refusals.{Row, leaves}
-use Rattle.admission.proofs.Rows.{NoneApplies, through}
-use Rattle.desk_notices.specs.Owed.{settled}
-use Rattle.desk_replies.specs.Replies.{fronted}
-use Rattle.desk_replies.proofs.Gates.{refuses, none, right}
+use Rattle.player_state.specs.declared.Player.{Player}
+use Rattle.player_check.specs.Standing.{groupRow}
 use Rattle.player_check.proofs.Laws.{group-there}
 use Rattle.player_moves.proofs.Ready.{shaped, run-of}
+use Rattle.desk_notices.specs.Owed.{settled, noWriter}
+use Rattle.desk_replies.specs.Replies.{fronted}
+use Rattle.desk_replies.proofs.Gates.{refuses, none, right}
 use Rattle.desk_console.specs.Console.{activateCall}
 use borrow.Author.Needs.{needs}
 use Rattle.desk_console.proofs.activate.Statement.{statement}
@@ -21,11 +22,14 @@ use Rattle.desk_console.proofs.activate.Tie as tie
 abbrev lent : tie.Start → Tables
 lent s = tables (s .args .groups .now) (s .args .tracks .now) (s .args .segments .now) (s .args .text .now)
 
-abbrev rows : tie.Start → List Row
-rows s = fronted (lent s) false (s .args .d)
+abbrev front : tie.Start → List Row
+front s = fronted (lent s) false (s .args .d)
 
-passed : (g : tie.After-front-gate) → not (g .front-gate .result .passes) ≡ false → NoneApplies (rows (g .before .before .before .before .before))
-passed g e = none (rows (g .before .before .before .before .before)) (g .front-gate .result) (g .front-gate .ensures) refl (not-false _ e)
+abbrev begun : tie.Else1 → tie.Start
+begun e = e .before .before .before .before .before .before .before
+
+passed : (e : tie.Else1) → NoneApplies (front (begun e))
+passed e = let g = e .before .before in none (front (begun e)) (g .front-gate .result) (g .front-gate .ensures) (not-false _ (e .if1 .left))
 
 front-gate-requires : tie.Need-front-gate-requires
 front-gate-requires c κs = search needs
@@ -38,48 +42,41 @@ unfolding activateCall
 returns c =
     let g = c .before .before .before in
     let s = g .before .before .before .before .before in
-    c .shut .ensures ∙ refuses (rows s) (g .front-gate .result) (g .front-gate .ensures) (not-true _ (c .before .if1 .taken)) (s .args .d) _
+    c .shut .ensures ∙ refuses (front s) (g .front-gate .result) (g .front-gate .ensures) (not-true _ (c .before .if1 .taken)) (keeping (s .args .d)) (groupRow (s .args .groups .now) (s .args .group .0) ∷ []) _
 
 group-right-requires : tie.Need-group-right-requires
 group-right-requires c κs = search needs
 
-left-requires : tie.Need-left-requires
-left-requires c κs = search needs
+refuse-requires : tie.Need-refuse-requires
+refuse-requires c κs = search needs
 
 returns-2 : tie.Need-returns-2
 unfolding activateCall
 returns-2 c =
-    let g = c .before .before .before .before .before in
-    let s = g .before .before .before .before .before in
-    through (s .args .d) (rows s) (passed g (c .before .before .before .if1 .left))
-    (here _ (sym (ap not (c .before .before .group-right .ensures)) ∙ c .before .if2 .taken) (c .left .ensures))
+    let t = c .before .before in
+    let s = begun (t .before) in
+    through (keeping (s .args .d)) (front s) (passed (t .before))
+    (here _ (sym (ap not (t .group-right .ensures)) ∙ c .before .if2 .taken) (c .refuse .ensures))
 
 activate-requires : tie.Need-activate-requires
 activate-requires c κs =
-    let g = c .before .before .before .before .before in
-    let s = g .before .before .before .before .before in
-    run-of _ _ _ (shaped (lent s) (right (lent s) false (s .args .d) (passed g (c .before .before .before .if1 .left)))) _
-    (group-there (s .args .groups .now) (s .args .group .0) (sym (c .before .before .group-right .ensures) ∙ not-false _ (c .before .if2 .left)))
+    let t = c .before .before in
+    let s = begun (t .before) in
+    run-of _ _ _ (shaped (lent s) (right (lent s) false (s .args .d) [] (passed (t .before)))) _
+    (group-there (s .args .groups .now) (s .args .group .0) (sym (t .group-right .ensures) ∙ not-false _ (c .before .if2 .left)))
 
-no-writer-requires : tie.Need-no-writer-requires
-no-writer-requires c κs = search needs
-
-settle-requires : tie.Need-settle-requires
-settle-requires c κs = search needs
-
-left-requires-2 : tie.Need-left-requires-2
-left-requires-2 c κs = search needs
+becoming-requires : tie.Need-becoming-requires
+becoming-requires c κs = search needs
 
 returns-3 : tie.Need-returns-3
 unfolding activateCall
 returns-3 c =
-    let g = c .before .before .before .before .before .before .before .before .before in
-    let s = g .before .before .before .before .before in
-    through (s .args .d) (rows s) (passed g (c .before .before .before .before .before .before .before .if1 .left))
-    (past _ (sym (ap not (c .before .before .before .before .before .before .group-right .ensures)) ∙ c .before .before .before .before .before .if2 .left)
-    (c .left2 .ensures
-    ∙ ap (leaves (granted []))
-    (c .before .settle .ensures ∙ (λ k. settled (s .args .tracks .now) (s .args .text .now) (c .before .before .no-writer .ensures k) (c .before .before .before .activate .ensures k) (s .args .d)))))
+    let e = c .before .before .before in
+    let t = e .before in
+    let s = begun (t .before) in
+    through (keeping (s .args .d)) (front s) (passed (t .before))
+    (past _ (sym (ap not (t .group-right .ensures)) ∙ e .if2 .left)
+    (c .becoming .ensures ∙ ap (λ (q : Player). leaves (granted []) (settled (s .args .tracks .now) (s .args .text .now) (noWriter false) q (s .args .d))) (c .before .activate .ensures)))
 
 pub activate-spec : {M : Type 1} → statement M
 activate-spec =
@@ -89,10 +86,8 @@ activate-spec =
     shut-requires
     returns
     group-right-requires
-    left-requires
+    refuse-requires
     returns-2
     activate-requires
-    no-writer-requires
-    settle-requires
-    left-requires-2
+    becoming-requires
     returns-3)

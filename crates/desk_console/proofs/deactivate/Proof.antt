@@ -1,13 +1,13 @@
 -- `desk_console::deactivate`: 200, 201, then no track.
-use mathlib.Core.Path.{_≡_, refl, ap, _∙_}
-use mathlib.Core.Bool.{false, not}
+use mathlib.Core.Path.{ap, _∙_}
+use mathlib.Core.Bool.{false}
 use mathlib.Core.List.{List, []}
 use borrow.Author.Tests.{not-true, not-false}
-use Rattle.ground.specs.Cases.{granted}
+use Rattle.ground.specs.Refusals.{granted, Row, leaves, keeping}
+use Rattle.ground.proofs.Rows.{NoneApplies, through}
 use Rattle.catalogue_tables.specs.Tables.{Tables, tables}
-use Rattle.admission.specs.Refusals.{Row, leaves}
-use Rattle.admission.proofs.Rows.{NoneApplies, through}
-use Rattle.desk_notices.specs.Owed.{settled}
+use Rattle.player_state.specs.declared.Player.{Player}
+use Rattle.desk_notices.specs.Owed.{settled, noWriter}
 use Rattle.desk_replies.specs.Replies.{fronted}
 use Rattle.desk_replies.proofs.Gates.{refuses, none}
 use Rattle.desk_console.specs.Console.{deactivateCall}
@@ -18,11 +18,14 @@ use Rattle.desk_console.proofs.deactivate.Tie as tie
 abbrev lent : tie.Start → Tables
 lent s = tables (s .args .groups .now) (s .args .tracks .now) (s .args .segments .now) (s .args .text .now)
 
-abbrev rows : tie.Start → List Row
-rows s = fronted (lent s) false (s .args .d)
+abbrev front : tie.Start → List Row
+front s = fronted (lent s) false (s .args .d)
 
-passed : (g : tie.After-front-gate) → not (g .front-gate .result .passes) ≡ false → NoneApplies (rows (g .before .before .before .before .before))
-passed g e = none (rows (g .before .before .before .before .before)) (g .front-gate .result) (g .front-gate .ensures) refl (not-false _ e)
+abbrev begun : tie.Else1 → tie.Start
+begun e = e .before .before .before .before .before .before .before
+
+passed : (e : tie.Else1) → NoneApplies (front (begun e))
+passed e = let g = e .before .before in none (front (begun e)) (g .front-gate .result) (g .front-gate .ensures) (not-false _ (e .if1 .left))
 
 front-gate-requires : tie.Need-front-gate-requires
 front-gate-requires c κs = search needs
@@ -35,29 +38,21 @@ unfolding deactivateCall
 returns c =
     let g = c .before .before .before in
     let s = g .before .before .before .before .before in
-    c .shut .ensures ∙ refuses (rows s) (g .front-gate .result) (g .front-gate .ensures) (not-true _ (c .before .if1 .taken)) (s .args .d) _
+    c .shut .ensures ∙ refuses (front s) (g .front-gate .result) (g .front-gate .ensures) (not-true _ (c .before .if1 .taken)) (keeping (s .args .d)) [] _
 
 deactivate-requires : tie.Need-deactivate-requires
 deactivate-requires c κs = search needs
 
-no-writer-requires : tie.Need-no-writer-requires
-no-writer-requires c κs = search needs
-
-settle-requires : tie.Need-settle-requires
-settle-requires c κs = search needs
-
-left-requires : tie.Need-left-requires
-left-requires c κs = search needs
+becoming-requires : tie.Need-becoming-requires
+becoming-requires c κs = search needs
 
 returns-2 : tie.Need-returns-2
 unfolding deactivateCall
 returns-2 c =
-    let g = c .before .before .before .before .before .before .before in
-    let s = g .before .before .before .before .before in
-    through (s .args .d) (rows s) (passed g (c .before .before .before .before .before .if1 .left))
-    (c .left .ensures
-    ∙ ap (leaves (granted []))
-    (c .before .settle .ensures ∙ (λ k. settled (s .args .tracks .now) (s .args .text .now) (c .before .before .no-writer .ensures k) (c .before .before .before .deactivate .ensures k) (s .args .d))))
+    let e = c .before .before .before in
+    let s = begun e in
+    through (keeping (s .args .d)) (front s) (passed e)
+    (c .becoming .ensures ∙ ap (λ (q : Player). leaves (granted []) (settled (s .args .tracks .now) (s .args .text .now) (noWriter false) q (s .args .d))) (c .before .deactivate .ensures))
 
 pub deactivate-spec : {M : Type 1} → statement M
 deactivate-spec =
@@ -67,7 +62,5 @@ deactivate-spec =
     shut-requires
     returns
     deactivate-requires
-    no-writer-requires
-    settle-requires
-    left-requires
+    becoming-requires
     returns-2)

@@ -1,17 +1,18 @@
 -- `desk_console::set_name`: 200, 201, 207, then another name.
-use mathlib.Core.Path.{_≡_, refl, sym, ap, _∙_}
+use mathlib.Core.Path.{sym, ap, _∙_}
 use mathlib.Core.Bool.{false, not}
-use mathlib.Core.List.{List, []}
+use mathlib.Core.List.{List, [], _∷_}
 use borrow.Author.Tests.{not-true, not-false}
-use Rattle.ground.specs.Cases.{granted}
+use Rattle.ground.specs.Refusals.{granted, Row, leaves, keeping}
 use Rattle.ground.proofs.Cases.{past, here}
+use Rattle.ground.proofs.Rows.{NoneApplies, through}
 use Rattle.catalogue_tables.specs.Tables.{Tables, tables}
-use Rattle.admission.specs.Refusals.{Row, leaves}
-use Rattle.admission.proofs.Rows.{NoneApplies, through}
-use Rattle.desk_notices.specs.Owed.{settled}
+use Rattle.player_state.specs.declared.Player.{Player}
+use Rattle.player_check.specs.Standing.{nameRow}
+use Rattle.player_check.proofs.Laws.{text-short}
+use Rattle.desk_notices.specs.Owed.{settled, noWriter}
 use Rattle.desk_replies.specs.Replies.{fronted}
 use Rattle.desk_replies.proofs.Gates.{refuses, none}
-use Rattle.player_check.proofs.Laws.{text-short}
 use Rattle.desk_console.specs.Console.{nameCall}
 use borrow.Author.Needs.{needs}
 use Rattle.desk_console.proofs.set_name.Statement.{statement}
@@ -20,11 +21,14 @@ use Rattle.desk_console.proofs.set_name.Tie as tie
 abbrev lent : tie.Start → Tables
 lent s = tables (s .args .groups .now) (s .args .tracks .now) (s .args .segments .now) (s .args .text .now)
 
-abbrev rows : tie.Start → List Row
-rows s = fronted (lent s) false (s .args .d)
+abbrev front : tie.Start → List Row
+front s = fronted (lent s) false (s .args .d)
 
-passed : (g : tie.After-front-gate) → not (g .front-gate .result .passes) ≡ false → NoneApplies (rows (g .before .before .before .before .before .before))
-passed g e = none (rows (g .before .before .before .before .before .before)) (g .front-gate .result) (g .front-gate .ensures) refl (not-false _ e)
+abbrev begun : tie.Else1 → tie.Start
+begun e = e .before .before .before .before .before .before .before .before
+
+passed : (e : tie.Else1) → NoneApplies (front (begun e))
+passed e = let g = e .before .before in none (front (begun e)) (g .front-gate .result) (g .front-gate .ensures) (not-false _ (e .if1 .left))
 
 front-gate-requires : tie.Need-front-gate-requires
 front-gate-requires c κs = search needs
@@ -37,44 +41,37 @@ unfolding nameCall
 returns c =
     let g = c .before .before .before in
     let s = g .before .before .before .before .before .before in
-    c .shut .ensures ∙ refuses (rows s) (g .front-gate .result) (g .front-gate .ensures) (not-true _ (c .before .if1 .taken)) (s .args .d) _
+    c .shut .ensures ∙ refuses (front s) (g .front-gate .result) (g .front-gate .ensures) (not-true _ (c .before .if1 .taken)) (keeping (s .args .d)) (nameRow (s .args .name .now) ∷ []) _
 
 text-right-requires : tie.Need-text-right-requires
 text-right-requires c κs = search needs
 
-left-requires : tie.Need-left-requires
-left-requires c κs = search needs
+refuse-requires : tie.Need-refuse-requires
+refuse-requires c κs = search needs
 
 returns-2 : tie.Need-returns-2
 unfolding nameCall
 returns-2 c =
-    let g = c .before .before .before .before .before in
-    let s = g .before .before .before .before .before .before in
-    through (s .args .d) (rows s) (passed g (c .before .before .before .if1 .left))
-    (here _ (sym (ap not (c .before .before .text-right .ensures)) ∙ c .before .if2 .taken) (c .left .ensures))
+    let t = c .before .before in
+    let s = begun (t .before) in
+    through (keeping (s .args .d)) (front s) (passed (t .before))
+    (here _ (sym (ap not (t .text-right .ensures)) ∙ c .before .if2 .taken) (c .refuse .ensures))
 
 set-name-requires : tie.Need-set-name-requires
 set-name-requires c κs = text-short _ (sym (c .before .before .text-right .ensures) ∙ not-false _ (c .before .if2 .left))
 
-no-writer-requires : tie.Need-no-writer-requires
-no-writer-requires c κs = search needs
-
-settle-requires : tie.Need-settle-requires
-settle-requires c κs = search needs
-
-left-requires-2 : tie.Need-left-requires-2
-left-requires-2 c κs = search needs
+becoming-requires : tie.Need-becoming-requires
+becoming-requires c κs = search needs
 
 returns-3 : tie.Need-returns-3
 unfolding nameCall
 returns-3 c =
-    let g = c .before .before .before .before .before .before .before .before .before in
-    let s = g .before .before .before .before .before .before in
-    through (s .args .d) (rows s) (passed g (c .before .before .before .before .before .before .before .if1 .left))
-    (past _ (sym (ap not (c .before .before .before .before .before .before .text-right .ensures)) ∙ c .before .before .before .before .before .if2 .left)
-    (c .left2 .ensures
-    ∙ ap (leaves (granted []))
-    (c .before .settle .ensures ∙ (λ k. settled (s .args .tracks .now) (s .args .text .now) (c .before .before .no-writer .ensures k) (c .before .before .before .set-name .ensures k) (s .args .d)))))
+    let e = c .before .before .before in
+    let t = e .before in
+    let s = begun (t .before) in
+    through (keeping (s .args .d)) (front s) (passed (t .before))
+    (past _ (sym (ap not (t .text-right .ensures)) ∙ e .if2 .left)
+    (c .becoming .ensures ∙ ap (λ (q : Player). leaves (granted []) (settled (s .args .tracks .now) (s .args .text .now) (noWriter false) q (s .args .d))) (c .before .set-name .ensures)))
 
 pub set-name-spec : {M : Type 1} → statement M
 set-name-spec =
@@ -84,10 +81,8 @@ set-name-spec =
     shut-requires
     returns
     text-right-requires
-    left-requires
+    refuse-requires
     returns-2
     set-name-requires
-    no-writer-requires
-    settle-requires
-    left-requires-2
+    becoming-requires
     returns-3)

@@ -1,15 +1,15 @@
 -- `desk_exchange::read`: its rows, then a part of the value, and a read at 0 kept in mind.
 use mathlib.Core.Path.{_≡_, refl, ap, _∙_}
 use mathlib.Core.Bool.{true, false, not}
-use mathlib.Core.List.{List, [], _∷_}
+use mathlib.Core.List.{List, [], _∷_, _++_}
 use Prim.Native.Nat.{ℕ, _-_, _≤_, _<_}
 use native.Mathlib.Omega.{arith}
 use borrow.Author.Tests.{leb-false, ltb-false, not-true, not-false}
 use lib.Dec.{ltb}
 use lib.ListN.{length, take, drop, replicate}
 use lib.Seq.{take-append-seam}
-use Rattle.ground.specs.Cases.{granted}
-use Rattle.ground.specs.Limits.{mostTitle}
+use Rattle.ground.specs.Refusals.{granted, Left, leaves, keeping, Row}
+use Rattle.ground.specs.Limits.{mostTitle, leastOutput}
 use Rattle.ground.specs.Lists.{filled}
 use Rattle.catalogue_tables.specs.Tables.{Tables, tables}
 use Rattle.catalogue_check.specs.Catalogue.{Right}
@@ -20,16 +20,15 @@ use Rattle.desk_slots.proofs.SetLaws.{in-below}
 use Rattle.player_values.specs.declared.Held.{Held}
 use Rattle.player_values.specs.Handing.{partFrom}
 use Rattle.player_values.proofs.Fits.{name-short, title-fits, value-fits}
-use Rattle.admission.specs.Refusals.{Left, Row, leaves}
-use Rattle.admission.proofs.Rows.{NoneApplies, through}
+use Rattle.ground.proofs.Rows.{NoneApplies, through}
 use Rattle.desk_client.specs.declared.Client.{Client}
 use Rattle.desk_client.proofs.Rule.{mtu-least}
 use Rattle.desk_state.specs.declared.Desk.{Desk}
-use Rattle.desk_state.specs.Desk.{clientAt, withClient}
+use Rattle.desk_state.specs.Desk.{withClient}
 use Rattle.desk_state.proofs.Laws.{client-stands}
-use Rattle.desk_replies.specs.Replies.{fronted}
-use Rattle.desk_replies.proofs.Gates.{refuses, none, right, stands, player, kept, shown}
-use Rattle.desk_exchange.specs.Read.{valueNow, allReadRows, afterRead, readOctets, readCall}
+use Rattle.desk_replies.specs.Replies.{fronted, caller}
+use Rattle.desk_replies.proofs.Gates.{refuses, none, right, stands, player, as-it-was, shown}
+use Rattle.desk_exchange.specs.Read.{valueNow, readRows, afterRead, readOctets, readCall}
 use borrow.Author.Needs.{needs}
 use Rattle.desk_exchange.proofs.read.Statement.{statement}
 use Rattle.desk_exchange.proofs.read.Tie as tie
@@ -43,31 +42,32 @@ begin g = g .before .before .before .before .before .before
 abbrev room : tie.Start → ℕ
 room s = length (s .args .out .now)
 
+abbrev mine : tie.Start → List Row
+mine s =
+    readRows (s .args .who) (caller (s .args .d) (s .args .who)) (s .args .characteristic) (s .args .offset) (length (valueNow (lent s) (s .args .d) (s .args .characteristic)))
+
 abbrev rows : tie.Start → List Row
-rows s = allReadRows (lent s) (s .args .d) (s .args .who) (s .args .characteristic) (s .args .offset) (room s)
+rows s = fronted (lent s) (ltb (room s) leastOutput) (s .args .d) ++ mine s
 
 passed : (g : tie.After-read-gate) → not (g .read-gate .result .passes) ≡ false → NoneApplies (rows (begin g))
-passed g e = none (rows (begin g)) (g .read-gate .result) (g .read-gate .ensures) refl (not-false _ e)
+passed g e = none (rows (begin g)) (g .read-gate .result) (g .read-gate .ensures) (not-false _ e)
 
 -- of a read that is not refused
 module _ (s : tie.Start) (n : NoneApplies (rows s)) where
-  abbrev first : NoneApplies (fronted (lent s) (ltb (room s) 128) (s .args .d))
-  first = (n .0, (n .1 .0, (n .1 .1 .0, tt)))
-
   catalogue : Right (lent s)
-  catalogue = right (lent s) (ltb (room s) 128) (s .args .d) first
+  catalogue = right (lent s) (ltb (room s) leastOutput) (s .args .d) (mine s) n
 
   fine : playerRule (s .args .groups .now) (s .args .tracks .now) (s .args .d .player) ≡ true
-  fine = player (lent s) (ltb (room s) 128) (s .args .d) first
+  fine = player (lent s) (ltb (room s) leastOutput) (s .args .d) (mine s) n
 
   there : s .args .who < clientCount
   there = leb-false _ _ (n .1 .1 .1 .0)
 
   abbrev own : Client
-  own = clientAt (s .args .d .clients) (s .args .who)
+  own = caller (s .args .d) (s .args .who)
 
   mtu : 23 ≤ own .mtu
-  mtu = mtu-least own (client-stands (s .args .groups .now) (s .args .tracks .now) (s .args .d) (stands (lent s) (ltb (room s) 128) (s .args .d) first) (s .args .who) there)
+  mtu = mtu-least own (client-stands (s .args .groups .now) (s .args .tracks .now) (s .args .d) (stands (lent s) (ltb (room s) leastOutput) (s .args .d) (mine s) n) (s .args .who) there)
 
   abbrev value : List ℕ
   value = valueNow (lent s) (s .args .d) (s .args .characteristic)
@@ -90,8 +90,8 @@ returns c =
     let g = c .before .before .before in
     let s = begin g in
     let e = not-true _ (c .before .if1 .taken) in (
-      c .shut .ensures ∙ refuses (rows s) (g .read-gate .result) (g .read-gate .ensures) e (s .args .d) _,
-      kept (rows s) (g .read-gate .result) (g .read-gate .ensures) e _ (ap (λ (l : Left Desk). l .said) (c .shut .ensures))
+      c .shut .ensures ∙ refuses (rows s) (g .read-gate .result) (g .read-gate .ensures) e (keeping (s .args .d)) [] _,
+      as-it-was (rows s) (g .read-gate .result) (g .read-gate .ensures) e _ (ap (λ (l : Left Desk). l .said) (c .shut .ensures))
           (readOctets (lent s) (s .args .d) (s .args .who) (s .args .characteristic) (s .args .offset)) (s .args .out .now),
     )
 
@@ -145,10 +145,10 @@ returns-2 c =
     let most = c .before .before .before .before .before .before .before .wide-word2 .ensures .0 ∙ ap (λ (r : Client). r .mtu - 1) own in
     let part : partFrom (c .before .before .before .before .before .before .before .before .before .wide-word .result) (c .before .before .before .before .before .before .before .wide-word2 .result) (take (c .before .before .before .before .before .before .before .before .before .before .hold .result .len) (c .before .before .before .before .before .before .before .before .before .before .hold .result .octets)) ≡ readOctets (lent s) (s .args .d) (s .args .who) (s .args .characteristic) (s .args .offset) =
     (λ k. partFrom (from k) (most k) (take (hold k .len) (hold k .octets)))
-    ∙ ap (partFrom (s .args .offset) (clientAt (s .args .d .clients) (s .args .who) .mtu - 1)) (take-append-seam (value s n) (drop (length (value s n)) (replicate mostTitle 0))) in
+    ∙ ap (partFrom (s .args .offset) (caller (s .args .d) (s .args .who) .mtu - 1)) (take-append-seam (value s n) (drop (length (value s n)) (replicate mostTitle 0))) in
     let hand = c .before .before .before .before .before .hand in
     let next = c .before .before .after-read .ensures ∙ ap (afterRead (s .args .characteristic) (s .args .offset)) own in (
-      through (s .args .d) (rows s) n
+      through (keeping (s .args .d)) (rows s) n
           (c .left .ensures
           ∙ (λ k. leaves (granted ((hand .ensures .0 ∙ ap length part) k ∷ [])) ((c .before .with-client .ensures ∙ ap (λ (r : Client). withClient (s .args .who) r (s .args .d)) next) k))),
       hand .ensures .1

@@ -5,7 +5,6 @@ use Prim.Native.Nat.{ℕ, _-_}
 use native.Mathlib.Omega.{arith}
 use lib.ListN.{length, take, drop, replicate}
 use lib.Seq.{take-append-seam}
-use Rattle.ground.specs.Cases.{granted}
 use Rattle.ground.specs.Limits.{mostTitle}
 use Rattle.ground.specs.Lists.{filled}
 use Rattle.catalogue_tables.specs.Tables.{Tables, tables}
@@ -14,11 +13,10 @@ use Rattle.player_values.specs.Values.{valueOf}
 use Rattle.player_values.specs.declared.Held.{Held}
 use Rattle.player_values.specs.Handing.{partFrom}
 use Rattle.player_values.proofs.Fits.{name-short, title-fits, value-fits}
-use Rattle.admission.specs.Refusals.{Left, leaves}
 use Rattle.desk_client.specs.declared.Client.{Client}
 use Rattle.desk_client.specs.Duties.{served}
 use Rattle.desk_client.proofs.Rule.{mtu-least, owed-within, mark-within}
-use Rattle.desk_take.specs.Serving.{nextSlot, handedOctets, handedTo}
+use Rattle.desk_take.specs.Serving.{nextSlot, handedOctets, handedValues}
 use Rattle.desk_take.proofs.Laws.{result-handed, value-handed}
 use borrow.Author.Needs.{needs}
 use Rattle.desk_take.proofs.hand_out.Statement.{statement}
@@ -27,23 +25,23 @@ use Rattle.desk_take.proofs.hand_out.Tie as tie
 abbrev lent : tie.Start → Tables
 lent s = tables (s .args .groups .now) (s .args .tracks .now) (s .args .segments .now) (s .args .text .now)
 
+abbrev begun : tie.After-serve → tie.Start
+begun v = v .before .before .before .before .before .before .before .before
+
 -- the slot that is served, its characteristic, and the record afterwards
-slot : (v : tie.After-serve) → v .before .before .next-slot .result ≡ nextSlot (v .before .before .before .before .before .before .before .before .args .c)
+slot : (v : tie.After-serve) → v .before .before .next-slot .result ≡ nextSlot (begun v .args .c)
 slot v = v .before .before .next-slot .ensures .1
 
-number : (v : tie.After-serve) → v .before .characteristic-of .result ≡ characteristicOf (nextSlot (v .before .before .before .before .before .before .before .before .args .c))
+number : (v : tie.After-serve) → v .before .characteristic-of .result ≡ characteristicOf (nextSlot (begun v .args .c))
 number v = v .before .characteristic-of .ensures .1 ∙ ap characteristicOf (slot v)
 
-after : (v : tie.After-serve) → v .serve .result ≡ served (nextSlot (v .before .before .before .before .before .before .before .before .args .c)) (v .before .before .before .before .before .before .before .before .args .c)
-after v = v .serve .ensures ∙ ap (λ (n : ℕ). served n (v .before .before .before .before .before .before .before .before .args .c)) (slot v)
+after : (v : tie.After-serve) → v .serve .result ≡ served (nextSlot (begun v .args .c)) (begun v .args .c)
+after v = v .serve .ensures ∙ ap (λ (n : ℕ). served n (begun v .args .c)) (slot v)
 
--- the answer and the record, once the octets are known
-settled : (v : tie.After-serve) (l : Left Client) (n : ℕ)
-    → l ≡ leaves (granted (v .before .before .before .before .before .before .before .before .args .who ∷ v .before .characteristic-of .result ∷ n ∷ [])) (v .serve .result)
-    → n ≡ length (handedOctets (lent (v .before .before .before .before .before .before .before .before)) (v .before .before .before .before .before .before .before .before .args .p) (v .before .before .before .before .before .before .before .before .args .c))
-    → l ≡ handedTo (lent (v .before .before .before .before .before .before .before .before)) (v .before .before .before .before .before .before .before .before .args .p) (v .before .before .before .before .before .before .before .before .args .who) (v .before .before .before .before .before .before .before .before .args .c)
-unfolding handedTo
-settled v l n e q = e ∙ (λ k. leaves (granted (v .before .before .before .before .before .before .before .before .args .who ∷ number v k ∷ q k ∷ [])) (after v k))
+-- what is said and the record, once the octets are known
+said : (v : tie.After-serve) (n : ℕ) → n ≡ length (handedOctets (lent (begun v)) (begun v .args .p) (begun v .args .c))
+    → (v .before .characteristic-of .result ∷ n ∷ [] ≡ handedValues (lent (begun v)) (begun v .args .p) (begun v .args .c)) × (v .serve .result ≡ served (nextSlot (begun v .args .c)) (begun v .args .c))
+said v n e = (λ k. number v k ∷ e k ∷ [], after v)
 
 next-slot-requires : tie.Need-next-slot-requires
 next-slot-requires c κs =
@@ -65,19 +63,16 @@ slice-aggregate-put c = search needs
 put-requires : tie.Need-put-requires
 put-requires c κs = search needs
 
-handed-over-requires : tie.Need-handed-over-requires
-handed-over-requires c κs = search needs
-
 same-length : tie.Need-same-length
 same-length c = search needs
 
 returns : tie.Need-returns
 returns c =
-    let v = c .before .before .before .before .before .before .before .before .before in
+    let v = c .before .before .before .before .before .before .before .before in
     let s = v .before .before .before .before .before .before .before .before in
-    let octets = result-handed (lent s) (s .args .p) (s .args .c) (sym (slot v) ∙ c .before .before .before .before .before .before .before .before .if1 .taken) (mtu-least (s .args .c) (s .pre .1 .1 .0)) in
-    let put = c .before .before .before .put in (
-      settled v _ (put .result) (c .handed-over .ensures) (put .ensures .0 ∙ ap length octets),
+    let octets = result-handed (lent s) (s .args .p) (s .args .c) (sym (slot v) ∙ c .before .before .before .before .before .before .before .if1 .taken) (mtu-least (s .args .c) (s .pre .1 .1 .0)) in
+    let put = c .before .before .put in (
+      said v (put .result) (put .ensures .0 ∙ ap length octets),
       put .ensures .1 ∙ ap (λ (front : List ℕ). filled front (s .args .out .now)) octets,
     )
 
@@ -101,25 +96,22 @@ hand-requires c κs =
     let held = ap (λ (x : Held). x .len) (h .ensures) in
     (s .pre .1 .1 .2, (omega arith, omega (arith, held, value-fits (lent s) (s .pre .0) (s .args .p) (s .pre .1 .0) (c .before .before .before .before .before .before .characteristic-of .result))))
 
-handed-over-requires-2 : tie.Need-handed-over-requires-2
-handed-over-requires-2 c κs = search needs
-
 same-length-2 : tie.Need-same-length-2
 same-length-2 c = search needs
 
 returns-2 : tie.Need-returns-2
 returns-2 c =
-    let v = c .before .before .before .before .before .before .before .before .before in
+    let v = c .before .before .before .before .before .before .before .before in
     let s = v .before .before .before .before .before .before .before .before in
-    let hold = c .before .before .before .before .before .before .before .hold .ensures in
-    let most = c .before .before .before .before .before .wide-word .ensures .0 in
+    let hold = c .before .before .before .before .before .before .hold .ensures in
+    let most = c .before .before .before .before .wide-word .ensures .0 in
     let value = valueOf (s .args .tracks .now) (s .args .text .now) (s .args .p) (v .before .characteristic-of .result) in
-    let octets : partFrom 0 (c .before .before .before .before .before .wide-word .result) (take (c .before .before .before .before .before .before .before .hold .result .len) (c .before .before .before .before .before .before .before .hold .result .octets)) ≡ handedOctets (lent s) (s .args .p) (s .args .c) =
+    let octets : partFrom 0 (c .before .before .before .before .wide-word .result) (take (c .before .before .before .before .before .before .hold .result .len) (c .before .before .before .before .before .before .hold .result .octets)) ≡ handedOctets (lent s) (s .args .p) (s .args .c) =
     (λ k. partFrom 0 (most k) (take (hold k .len) (hold k .octets)))
     ∙ ap (take (s .args .c .mtu - 3)) (take-append-seam value (drop (length value) (replicate mostTitle 0)) ∙ ap (valueOf (s .args .tracks .now) (s .args .text .now) (s .args .p)) (number v))
-    ∙ value-handed (lent s) (s .args .p) (s .args .c) (λ e. c .before .before .before .before .before .before .before .before .if1 .left (slot v ∙ e)) in
-    let hand = c .before .before .before .hand in (
-      settled v _ (hand .result) (c .handed-over2 .ensures) (hand .ensures .0 ∙ ap length octets),
+    ∙ value-handed (lent s) (s .args .p) (s .args .c) (λ e. c .before .before .before .before .before .before .before .if1 .left (slot v ∙ e)) in
+    let hand = c .before .before .hand in (
+      said v (hand .result) (hand .ensures .0 ∙ ap length octets),
       hand .ensures .1 ∙ ap (λ (front : List ℕ). filled front (s .args .out .now)) octets,
     )
 
@@ -133,13 +125,11 @@ hand-out-spec =
     array-copy-out-e
     slice-aggregate-put
     put-requires
-    handed-over-requires
     same-length
     returns
     hold-requires
     sub-wide-word
     wide-word-requires
     hand-requires
-    handed-over-requires-2
     same-length-2
     returns-2)

@@ -1,7 +1,7 @@
 -- `desk_take::take`: 200, 205, 201, then the next client that is owed something.
 use mathlib.Core.Path.{_≡_, refl, sym, ap, _∙_, subst}
 use mathlib.Core.Bool.{Bool, true, false, not}
-use mathlib.Core.List.{List}
+use mathlib.Core.List.{List, [], _∷_}
 use Prim.Native.Nat.{ℕ, _<_}
 use borrow.Author.Tests.{le-leb, lt-leb, ltb-false, not-true, not-false}
 use lib.Dec.{ltb, leb}
@@ -10,17 +10,19 @@ use Rattle.ground.specs.Lists.{filled}
 use Rattle.ground.proofs.Cases.{past, here}
 use Rattle.catalogue_tables.specs.Tables.{Tables, tables}
 use Rattle.desk_slots.specs.Slots.{clientCount}
-use Rattle.admission.specs.Refusals.{Left, Row, leaves}
-use Rattle.admission.proofs.Rows.{NoneApplies, through}
+use Rattle.ground.specs.Limits.{leastOutput}
+use Rattle.ground.specs.Refusals.{granted, Left, leaves, keeping, Row}
+use Rattle.ground.proofs.Rows.{NoneApplies, through}
 use Rattle.desk_client.specs.declared.Client.{Client}
 use Rattle.desk_client.specs.Client.{clientRule}
 use Rattle.desk_state.specs.declared.Desk.{Desk}
 use Rattle.desk_state.specs.Desk.{clientAt}
+use Rattle.desk_replies.specs.Replies.{fronted}
 use Rattle.desk_state.proofs.Laws.{client-stands, turn-there}
-use Rattle.desk_replies.proofs.Gates.{refuses, none, right, stands, player, kept, shown}
-use Rattle.desk_take.specs.Serving.{handedOctets, handedTo}
-use Rattle.desk_take.specs.Take.{nextClient, withServed, takeRows, takeCall, takeOctets}
-use Rattle.desk_take.proofs.Laws.{handed-said, owed-there}
+use Rattle.desk_replies.proofs.Gates.{refuses, none, right, stands, player, as-it-was, shown}
+use Rattle.desk_take.specs.Serving.{handedOctets, handedValues, afterServing}
+use Rattle.desk_take.specs.Take.{nextClient, withServed, takeCall, takeOctets}
+use Rattle.desk_take.proofs.Laws.{owed-there}
 use borrow.Author.Needs.{needs}
 use Rattle.desk_take.proofs.take.Statement.{statement}
 use Rattle.desk_take.proofs.take.Tie as tie
@@ -32,17 +34,17 @@ abbrev begin : tie.After-front-gate → tie.Start
 begin g = g .before .before .before .before .before .before
 
 abbrev small : tie.Start → Bool
-small s = ltb (length (s .args .out .now)) 128
+small s = ltb (length (s .args .out .now)) leastOutput
 
 abbrev rows : tie.Start → List Row
-rows s = takeRows (lent s) (s .args .d) (length (s .args .out .now))
+rows s = fronted (lent s) (small s) (s .args .d)
 
 passed : (g : tie.After-front-gate) → not (g .front-gate .result .passes) ≡ false → NoneApplies (rows (begin g))
-passed g e = none (rows (begin g)) (g .front-gate .result) (g .front-gate .ensures) refl (not-false _ e)
+passed g e = none (rows (begin g)) (g .front-gate .result) (g .front-gate .ensures) (not-false _ e)
 
 -- the record of a client stands
 record-stands : (s : tie.Start) → NoneApplies (rows s) → (who : ℕ) → who < clientCount → clientRule (clientAt (s .args .d .clients) who) ≡ true
-record-stands s n who h = client-stands (s .args .groups .now) (s .args .tracks .now) (s .args .d) (stands (lent s) (small s) (s .args .d) n) who h
+record-stands s n who h = client-stands (s .args .groups .now) (s .args .tracks .now) (s .args .d) (stands (lent s) (small s) (s .args .d) [] n) who h
 
 front-gate-requires : tie.Need-front-gate-requires
 front-gate-requires c κs = search needs
@@ -56,14 +58,14 @@ returns c =
     let g = c .before .before .before in
     let s = begin g in
     let e = not-true _ (c .before .if1 .taken) in (
-      c .shut .ensures ∙ refuses (rows s) (g .front-gate .result) (g .front-gate .ensures) e (s .args .d) _,
-      kept (rows s) (g .front-gate .result) (g .front-gate .ensures) e _ (ap (λ (l : Left Desk). l .said) (c .shut .ensures)) (takeOctets (lent s) (s .args .d)) (s .args .out .now),
+      c .shut .ensures ∙ refuses (rows s) (g .front-gate .result) (g .front-gate .ensures) e (keeping (s .args .d)) [] _,
+      as-it-was (rows s) (g .front-gate .result) (g .front-gate .ensures) e _ (ap (λ (l : Left Desk). l .said) (c .shut .ensures)) (takeOctets (lent s) (s .args .d)) (s .args .out .now),
     )
 
 whose-turn-requires : tie.Need-whose-turn-requires
 whose-turn-requires c κs =
     let s = begin (c .before .before .before) in
-    turn-there (s .args .groups .now) (s .args .tracks .now) (s .args .d) (stands (lent s) (small s) (s .args .d) (passed (c .before .before .before) (c .before .if1 .left)))
+    turn-there (s .args .groups .now) (s .args .tracks .now) (s .args .d) (stands (lent s) (small s) (s .args .d) [] (passed (c .before .before .before) (c .before .if1 .left)))
 
 left-requires : tie.Need-left-requires
 left-requires c κs = search needs
@@ -74,7 +76,7 @@ returns-2 c =
     let s = begin (c .before .before .before .before .before .before) in
     let who = c .before .before .whose-turn .ensures in
     let over = sym (ap (leb clientCount) who) ∙ le-leb _ _ (c .before .if2 .taken) in (
-      through (s .args .d) (rows s) (passed (c .before .before .before .before .before .before) (c .before .before .before .before .if1 .left)) (here _ over (c .left .ensures)),
+      through (keeping (s .args .d)) (rows s) (passed (c .before .before .before .before .before .before) (c .before .before .before .before .if1 .left)) (here _ over (c .left .ensures)),
       ap (λ (octets : List ℕ). filled octets (s .args .out .now)) (here _ over refl)
           ∙ shown _ _ (takeOctets (lent s) (s .args .d)) (s .args .out .now) (ap (λ (l : Left Desk). l .said) (c .left .ensures)),
     )
@@ -90,12 +92,12 @@ hand-out-requires c κs =
     let w = c .before .before .before .before .whose-turn in
     let there = c .before .before .before .if2 .left in
     let own = c .before .client-at .ensures in (
-      right (lent s) (small s) (s .args .d) n,
+      right (lent s) (small s) (s .args .d) [] n,
       (
-        player (lent s) (small s) (s .args .d) n,
+        player (lent s) (small s) (s .args .d) [] n,
         (
           ap clientRule own ∙ record-stands s n (w .result) there,
-          subst (λ (r : Client). 0 < r .owed) (sym own) (owed-there (s .args .d) (turn-there (s .args .groups .now) (s .args .tracks .now) (s .args .d) (stands (lent s) (small s) (s .args .d) n)) (w .result) (w .ensures) there),
+          subst (λ (r : Client). 0 < r .owed) (sym own) (owed-there (s .args .d) (turn-there (s .args .groups .now) (s .args .tracks .now) (s .args .d) (stands (lent s) (small s) (s .args .d) [] n)) (w .result) (w .ensures) there),
           ltb-false _ _ (n .1 .0),
         ),
       ),
@@ -114,19 +116,20 @@ returns-3 : tie.Need-returns-3
 unfolding takeCall takeOctets nextClient
 returns-3 c =
     let s = begin (c .before .before .before .before .before .before .before .before .before .before .before .before .before .before) in
-    let who = c .before .before .before .before .before .before .before .before .before .before .whose-turn .ensures in
+    let w = c .before .before .before .before .before .before .before .before .before .before in
+    let who = w .whose-turn .ensures in
     let under = sym (ap (leb clientCount) who) ∙ lt-leb _ _ (c .before .before .before .before .before .before .before .before .before .if2 .left) in
-    let own = c .before .before .before .before .before .before .before .client-at .ensures in
+    let own = c .before .before .before .before .before .before .before .client-at .ensures ∙ ap (clientAt (s .args .d .clients)) who in
     let h = c .before .before .before .before .before .hand-out in
     let octets : handedOctets (lent s) (s .args .d .player) (c .before .before .before .before .before .before .before .client-at .result) ≡ takeOctets (lent s) (s .args .d) =
-    ap (handedOctets (lent s) (s .args .d .player)) (own ∙ ap (clientAt (s .args .d .clients)) who) ∙ past _ under refl in
-    let left = h .ensures .0 ∙ (λ k. handedTo (lent s) (s .args .d .player) (who k) ((own ∙ ap (clientAt (s .args .d .clients)) who) k)) in (
-      through (s .args .d) (rows s) (passed (c .before .before .before .before .before .before .before .before .before .before .before .before .before .before) (c .before .before .before .before .before .before .before .before .before .before .before .before .if1 .left))
+    ap (handedOctets (lent s) (s .args .d .player)) own ∙ past _ under refl in
+    let values = h .ensures .0 .0 ∙ ap (handedValues (lent s) (s .args .d .player)) own in
+    let after = h .ensures .0 .1 ∙ ap afterServing own in (
+      through (keeping (s .args .d)) (rows s) (passed (c .before .before .before .before .before .before .before .before .before .before .before .before .before .before) (c .before .before .before .before .before .before .before .before .before .before .before .before .if1 .left))
           (past _ under
-          (c .left2 .ensures ∙ (λ k. leaves (left k .said) ((c .before .with-served .ensures ∙ (λ j. withServed (who j) (left j .state) (s .args .d))) k)))),
+          (c .left2 .ensures ∙ (λ k. leaves (granted (who k ∷ values k)) ((c .before .with-served .ensures ∙ (λ j. withServed (who j) (after j) (s .args .d))) k)))),
       h .ensures .1 ∙ ap (λ (front : List ℕ). filled front (s .args .out .now)) octets
-          ∙ shown _ _ (takeOctets (lent s) (s .args .d)) (s .args .out .now)
-          (ap (λ (l : Left Desk). l .said) (c .left2 .ensures) ∙ ap (λ (l : Left Client). l .said) (h .ensures .0) ∙ handed-said (lent s) (s .args .d .player) _ _),
+          ∙ shown _ _ (takeOctets (lent s) (s .args .d)) (s .args .out .now) (ap (λ (l : Left Desk). l .said) (c .left2 .ensures)),
     )
 
 pub take-spec : {M : Type 1} → statement M

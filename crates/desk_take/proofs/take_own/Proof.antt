@@ -1,26 +1,25 @@
 -- `desk_take::take_own`: 200, 205, 201, then what the record owes.
-use mathlib.Core.Path.{_≡_, refl, ap, _∙_, subst}
-use mathlib.Core.Bool.{Bool, false, not, _&&_}
-use mathlib.Core.List.{List}
+use mathlib.Core.Path.{_≡_, refl, sym, ap, _∙_}
+use mathlib.Core.Bool.{Bool, true, false, not, _&&_}
+use mathlib.Core.List.{List, [], _∷_}
 use mathlib.Core.Logic.{⊎-elim}
 use Prim.Native.Nat.{ℕ, _<_}
 use native.Mathlib.Omega.{arith}
 use borrow.Author.Tests.{eq-eqb, ne-eqb, ltb-false, not-true, not-false}
 use lib.Dec.{ltb}
 use lib.ListN.{length}
+use Rattle.ground.specs.Limits.{leastOutput}
 use Rattle.ground.specs.Lists.{filled}
+use Rattle.ground.specs.Refusals.{Said, granted, leaves, keeping, Row}
 use Rattle.ground.proofs.Cases.{past, here, le-or, and-left, and-right}
+use Rattle.ground.proofs.Rows.{NoneApplies, through}
 use Rattle.catalogue_tables.specs.Tables.{Tables, tables}
 use Rattle.catalogue_check.proofs.Laws.{is-right}
 use Rattle.player_check.specs.Standing.{playerRule}
-use Rattle.admission.specs.Refusals.{Left, Row}
-use Rattle.admission.proofs.Rows.{NoneApplies, through}
-use Rattle.desk_client.specs.declared.Client.{Client}
 use Rattle.desk_client.specs.Client.{clientRule}
-use Rattle.desk_replies.specs.Replies.{Gated, lentRows}
-use Rattle.desk_replies.proofs.Gates.{refuses, none, kept, shown}
-use Rattle.desk_take.specs.Serving.{ownRows, ownCall, ownOctets}
-use Rattle.desk_take.proofs.Laws.{handed-said}
+use Rattle.desk_replies.specs.Replies.{lentRows, stateRow}
+use Rattle.desk_replies.proofs.Gates.{refuses, none, as-it-was, shown}
+use Rattle.desk_take.specs.Serving.{recordRight, ownCall, ownOctets}
 use borrow.Author.Needs.{needs}
 use Rattle.desk_take.proofs.take_own.Statement.{statement}
 use Rattle.desk_take.proofs.take_own.Tie as tie
@@ -28,24 +27,38 @@ use Rattle.desk_take.proofs.take_own.Tie as tie
 abbrev lent : tie.Start → Tables
 lent s = tables (s .args .groups .now) (s .args .tracks .now) (s .args .segments .now) (s .args .text .now)
 
-abbrev begin : tie.After-state-gate → tie.Start
-begin g = g .before .before .before .before .before .before .before .before
+abbrev front : tie.Start → List Row
+front s = lentRows (lent s) (ltb (length (s .args .out .now)) leastOutput)
+
+abbrev begun : tie.After-lent-gate → tie.Start
+begun g = g .before .before .before .before .before .before
+
+-- behind the gate, where player and record were asked
+abbrev asked : tie.After-client-right → tie.Start
+asked r = begun (r .before .before .before .before)
+
+passed : (r : tie.After-client-right) → NoneApplies (front (asked r))
+passed r = let g = r .before .before .before .before in none (front (begun g)) (g .lent-gate .result) (g .lent-gate .ensures) (not-false _ (r .before .before .if1 .left))
+
+both : (r : tie.After-client-right) → recordRight (lent (asked r)) (asked r .args .p) (asked r .args .c) ≡ (r .before .player-right .result && r .client-right .result)
+both r = λ k. sym (r .before .player-right .ensures) k && sym (r .client-right .ensures) k
 
 -- a number that is not 0
 above : (n : ℕ) → (n ≡ 0 → ⊥) → 0 < n
 above n h = ⊎-elim (λ z. absurd (h (omega arith))) (λ z. z) (le-or n 0)
 
-abbrev rows : tie.Start → List Row
-rows s = ownRows (lent s) (s .args .p) (s .args .c) (length (s .args .out .now))
+lent-gate-requires : tie.Need-lent-gate-requires
+lent-gate-requires c κs = search needs
 
--- the gate was told whether player and record stand
-gated : (g : tie.After-state-gate) → Gated (rows (begin g)) (g .state-gate .result)
-gated g =
-    subst (λ (b : Bool). Gated (lentRows (lent (begin g)) (ltb (length (begin g .args .out .now)) 128) b) (g .state-gate .result))
-    (λ k. g .before .before .player-right .ensures k && g .before .client-right .ensures k) (g .state-gate .ensures)
-
-passed : (g : tie.After-state-gate) → not (g .state-gate .result .passes) ≡ false → NoneApplies (rows (begin g))
-passed g e = none (rows (begin g)) (g .state-gate .result) (gated g) refl (not-false _ e)
+returns : tie.Need-returns
+unfolding ownCall
+returns c =
+    let g = c .before .before in
+    let s = begun g in
+    let e = not-true _ (c .if1 .taken) in (
+      refuses (front s) (g .lent-gate .result) (g .lent-gate .ensures) e (keeping (s .args .c)) (stateRow (recordRight (lent s) (s .args .p) (s .args .c)) ∷ []) _,
+      as-it-was (front s) (g .lent-gate .result) (g .lent-gate .ensures) e _ refl (ownOctets (lent s) (s .args .p) (s .args .c)) (s .args .out .now),
+    )
 
 player-right-requires : tie.Need-player-right-requires
 player-right-requires c κs = search needs
@@ -53,46 +66,41 @@ player-right-requires c κs = search needs
 client-right-requires : tie.Need-client-right-requires
 client-right-requires c κs = search needs
 
-state-gate-requires : tie.Need-state-gate-requires
-state-gate-requires c κs = search needs
-
-handed-over-requires : tie.Need-handed-over-requires
-handed-over-requires c κs = search needs
-
-returns : tie.Need-returns
-unfolding ownCall
-returns c =
-    let g = c .before .before .before in
-    let s = begin g in
-    let e = not-true _ (c .before .if1 .taken) in (
-      c .handed-over .ensures ∙ refuses (rows s) (g .state-gate .result) (gated g) e (s .args .c) _,
-      kept (rows s) (g .state-gate .result) (gated g) e _ (ap (λ (l : Left Client). l .said) (c .handed-over .ensures)) (ownOctets (lent s) (s .args .p) (s .args .c)) (s .args .out .now),
-    )
-
-handed-over-requires-2 : tie.Need-handed-over-requires-2
-handed-over-requires-2 c κs = search needs
+refuse-requires : tie.Need-refuse-requires
+refuse-requires c κs = search needs
 
 returns-2 : tie.Need-returns-2
-unfolding ownCall ownOctets
+unfolding ownCall
 returns-2 c =
-    let s = begin (c .before .before .before .before .before) in
-    let nothing = eq-eqb _ _ (c .before .if2 .taken) in (
-      through (s .args .c) (rows s) (passed (c .before .before .before .before .before) (c .before .before .before .if1 .left)) (here _ nothing (c .handed-over2 .ensures)),
+    let r = c .before .before in
+    let s = asked r in (
+      through (keeping (s .args .c)) (front s) (passed r) (here _ (ap not (both r) ∙ c .before .if2 .taken) (ap (keeping (s .args .c)) (c .refuse .ensures))),
+      past (filled (ownOctets (lent s) (s .args .p) (s .args .c)) (s .args .out .now)) (ap (λ (said : Said). said .isGranted) (c .refuse .ensures)) refl,
+    )
+
+returns-3 : tie.Need-returns-3
+unfolding ownCall ownOctets
+returns-3 c =
+    let r = c .before .before .before in
+    let s = asked r in
+    let nothing = eq-eqb _ _ (c .if3 .taken) in (
+      through (keeping (s .args .c)) (front s) (passed r) (past _ (ap not (both r) ∙ c .before .before .if2 .left) (here _ nothing refl)),
       ap (λ (octets : List ℕ). filled octets (s .args .out .now)) (here _ nothing refl)
-          ∙ shown _ _ (ownOctets (lent s) (s .args .p) (s .args .c)) (s .args .out .now) (ap (λ (l : Left Client). l .said) (c .handed-over2 .ensures)),
+          ∙ shown _ [] (ownOctets (lent s) (s .args .p) (s .args .c)) (s .args .out .now) refl,
     )
 
 hand-out-requires : tie.Need-hand-out-requires
 hand-out-requires c κs =
-    let s = begin (c .before .before .before .before .before) in
-    let n = passed (c .before .before .before .before .before) (c .before .before .before .if1 .left) in
-    let both = not-false _ (n .1 .1 .0) in (
+    let r = c .before .before .before .before in
+    let s = asked r in
+    let n = passed r in
+    let stand = both r ∙ not-false _ (c .before .before .before .if2 .left) in (
       is-right (lent s) (not-false _ (n .0)),
       (
-        and-left (playerRule (s .args .groups .now) (s .args .tracks .now) (s .args .p)) (clientRule (s .args .c)) both,
+        and-left (playerRule (s .args .groups .now) (s .args .tracks .now) (s .args .p)) (clientRule (s .args .c)) stand,
         (
-          and-right (playerRule (s .args .groups .now) (s .args .tracks .now) (s .args .p)) (clientRule (s .args .c)) both,
-          above (s .args .c .owed) (c .before .if2 .left),
+          and-right (playerRule (s .args .groups .now) (s .args .tracks .now) (s .args .p)) (clientRule (s .args .c)) stand,
+          above (s .args .c .owed) (c .before .if3 .left),
           ltb-false _ _ (n .1 .0),
         ),
       ),
@@ -101,28 +109,32 @@ hand-out-requires c κs =
 same-length : tie.Need-same-length
 same-length c = search needs
 
-returns-3 : tie.Need-returns-3
+returns-4 : tie.Need-returns-4
 unfolding ownCall ownOctets
-returns-3 c =
-    let s = begin (c .before .before .before .before .before .before .before .before) in
-    let h = c .before .before .hand-out in
-    let some = ne-eqb _ _ (c .before .before .before .before .if2 .left) in (
-      through (s .args .c) (rows s) (passed (c .before .before .before .before .before .before .before .before) (c .before .before .before .before .before .before .if1 .left)) (past _ some (h .ensures .0)),
-      h .ensures .1 ∙ ap (λ (octets : List ℕ). filled octets (s .args .out .now)) (past _ some refl)
-          ∙ shown _ _ (ownOctets (lent s) (s .args .p) (s .args .c)) (s .args .out .now) (ap (λ (l : Left Client). l .said) (h .ensures .0) ∙ handed-said (lent s) (s .args .p) (s .args .c) (s .args .who)),
+returns-4 c =
+    let o = c .before .before .before in
+    let r = o .before .before .before .before .before in
+    let s = asked r in
+    let h = o .hand-out in
+    let owed = ne-eqb _ _ (o .before .before .if3 .left) in (
+      through (keeping (s .args .c)) (front s) (passed r)
+          (past _ (ap not (both r) ∙ o .before .before .before .before .if2 .left)
+          (past _ owed (λ k. leaves (granted (h .ensures .0 .0 k)) (h .ensures .0 .1 k)))),
+      h .ensures .1 ∙ ap (λ (octets : List ℕ). filled octets (s .args .out .now)) (past _ owed refl)
+          ∙ shown _ (h .result .characteristic ∷ h .result .len ∷ []) (ownOctets (lent s) (s .args .p) (s .args .c)) (s .args .out .now) refl,
     )
 
 pub take-own-spec : {M : Type 1} → statement M
 take-own-spec =
     tie.close
     (tie.spec
+    lent-gate-requires
+    returns
     player-right-requires
     client-right-requires
-    state-gate-requires
-    handed-over-requires
-    returns
-    handed-over-requires-2
+    refuse-requires
     returns-2
+    returns-3
     hand-out-requires
     same-length
-    returns-3)
+    returns-4)

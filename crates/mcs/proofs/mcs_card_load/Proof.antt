@@ -3,7 +3,7 @@ use mathlib.Core.Path.{sym, ap, _∙_}
 use mathlib.Core.List.{List}
 use Prim.Native.Nat.{ℕ}
 use lib.ListN.{length}
-use Rattle.ground.specs.Cases.{Said}
+use Rattle.ground.specs.Refusals.{Said}
 use Rattle.ground.specs.Lists.{tableAfter}
 use Rattle.ground.specs.Words.{words}
 use Rattle.card_load.specs.Card.{blocksOf, gather, octets}
@@ -53,7 +53,7 @@ returns c =
             (
               load .1 .1 .1 .1 ∙ ap (λ (x : Said). tableAfter x (gather octets 4 blocks) (a .text .now)) (load .0),
               c .tell .ensures
-                  ∙ ap (λ (t : Told). toldAfter (t .number) (t .values) (a .counts .now)) told
+                  ∙ ap (λ (t : Told). toldAfter (t .granted) (t .values) (a .counts .now)) told
                   ∙ told-as-said said (a .counts .now)
                   (load-words (a .card .now) (length (a .groups .now)) (length (a .tracks .now)) (length (a .segments .now)) (length (a .text .now))),
             ),

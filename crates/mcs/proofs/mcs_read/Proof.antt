@@ -2,9 +2,9 @@
 use mathlib.Core.Path.{ap, _∙_}
 use lib.ListN.{length}
 use Rattle.catalogue_tables.specs.Tables.{tables}
-use Rattle.admission.specs.Refusals.{Left}
+use Rattle.ground.specs.Refusals.{Left}
 use Rattle.desk_state.specs.declared.Desk.{Desk}
-use Rattle.desk_replies.specs.Replies.{outputAfter}
+use Rattle.ground.specs.Lists.{tableAfter}
 use Rattle.desk_exchange.specs.Read.{readCall, readOctets}
 use Rattle.mcs_state.specs.Codec.{deskOf}
 use Rattle.mcs.specs.declared.Told.{Told}
@@ -44,9 +44,9 @@ returns c =
     let said = ap (λ (l : Left Desk). l .said) left in (
       follow left (c .finish .ensures),
       (
-        o .ensures .1 ∙ (λ i. outputAfter (said i) (readOctets k (d i) (s .args .client) (s .args .characteristic) (s .args .offset)) (s .args .out .now)),
+        o .ensures .1 ∙ (λ i. tableAfter (said i) (readOctets k (d i) (s .args .client) (s .args .characteristic) (s .args .offset)) (s .args .out .now)),
         c .before .before .tell .ensures
-            ∙ ap (λ (t : Told). toldAfter (t .number) (t .values) (s .args .length .now)) (c .before .before .before .before .before .told-of .ensures ∙ ap toldOf said)
+            ∙ ap (λ (t : Told). toldAfter (t .granted) (t .values) (s .args .length .now)) (c .before .before .before .before .before .told-of .ensures ∙ ap toldOf said)
             ∙ told-as-said (readCall k start (s .args .client) (s .args .characteristic) (s .args .offset) (length (s .args .out .now)) .said) (s .args .length .now) (read-words k start (s .args .client) (s .args .characteristic) (s .args .offset) (length (s .args .out .now))),
       ),
     )

@@ -2,9 +2,9 @@
 use mathlib.Core.Path.{ap, _∙_}
 use lib.ListN.{length}
 use Rattle.catalogue_tables.specs.Tables.{tables}
-use Rattle.admission.specs.Refusals.{Left}
+use Rattle.ground.specs.Refusals.{Left}
 use Rattle.desk_state.specs.declared.Desk.{Desk}
-use Rattle.desk_replies.specs.Replies.{outputAfter}
+use Rattle.ground.specs.Lists.{tableAfter}
 use Rattle.desk_take.specs.Take.{takeCall, takeOctets}
 use Rattle.mcs_state.specs.Codec.{deskOf}
 use Rattle.mcs.specs.declared.Told.{Told}
@@ -44,9 +44,9 @@ returns c =
     let said = ap (λ (l : Left Desk). l .said) left in (
       follow left (c .finish .ensures),
       (
-        o .ensures .1 ∙ (λ i. outputAfter (said i) (takeOctets k (d i)) (s .args .out .now)),
+        o .ensures .1 ∙ (λ i. tableAfter (said i) (takeOctets k (d i)) (s .args .out .now)),
         c .before .before .tell .ensures
-            ∙ ap (λ (t : Told). toldAfter (t .number) (t .values) (s .args .served .now)) (c .before .before .before .before .before .told-of .ensures ∙ ap toldOf said)
+            ∙ ap (λ (t : Told). toldAfter (t .granted) (t .values) (s .args .served .now)) (c .before .before .before .before .before .told-of .ensures ∙ ap toldOf said)
             ∙ told-as-said (takeCall k start (length (s .args .out .now)) .said) (s .args .served .now) (take-words k start (length (s .args .out .now))),
       ),
     )

@@ -6,7 +6,6 @@ use native.Mathlib.Omega.{arith}
 use native.Mathlib.Numerals.{add-one}
 use native.Mathlib.Nat.{zero-add, le-antisymm}
 use borrow.Author.Needs.{needs}
-use borrow.Author.Tests.{eq-eqb, ne-eqb}
 use lib.ListN.{length, take, getD, set, length-set, drop, drop-of-length-le}
 use lib.Seq.{paste, paste-zero, paste-suc}
 use Rattle.ground.proofs.Cases.{past, here}
@@ -14,10 +13,10 @@ use Rattle.mcs.proofs.tell.Statement.{statement}
 use Rattle.mcs.proofs.tell.Tie as tie
 
 abbrev Inv-loop : tie.InvT-loop
-Inv-loop number words₀ values i₀ words i = (i ≤ length words₀) × (length words ≡ length words₀) × (length words₀ ≤ length values) × (words ≡ paste words₀ 0 values i)
+Inv-loop on words₀ values i₀ words i = (i ≤ length words₀) × (length words ≡ length words₀) × (length words₀ ≤ length values) × (words ≡ paste words₀ 0 values i)
 
 abbrev μ-loop : tie.MeasureT-loop
-μ-loop number words₀ values i₀ words i = length words₀ - i
+μ-loop on words₀ values i₀ words i = length words₀ - i
 
 -- one more value
 step : (old values : List ℕ) (i : ℕ) → i < length old → length old ≤ length values → set (paste old 0 values i) i (getD values i 0) ≡ paste old 0 values (i + 1)
@@ -70,10 +69,10 @@ returns c =
     let l = c .before in
     let a = l .before .before .args in
     let all = le-antisymm (l .loop .inv .0) (omega (arith, c .loop-test .left, l .loop .inv .1)) in
-    here _ (eq-eqb _ 0 (l .before .if1 .taken)) (l .loop .inv .3 ∙ ap (paste (a .words .now) 0 (a .t2)) all ∙ whole (a .words .now) (a .t2))
+    here _ (l .before .if1 .taken) (l .loop .inv .3 ∙ ap (paste (a .words .now) 0 (a .t2)) all ∙ whole (a .words .now) (a .t2))
 
 returns-2 : tie.Need-returns-2 Inv-loop μ-loop
-returns-2 c = past _ (ne-eqb _ 0 (c .if1 .left)) refl
+returns-2 c = past _ (c .if1 .left) refl
 
 pub tell-spec : {M : Type 1} → statement M
 tell-spec =

@@ -17,61 +17,19 @@ enum-known-c c = search needs
 granted-requires : tie.Need-granted-requires
 granted-requires c κs = search needs
 
-enum-told : tie.Need-enum-told
-enum-told c = search needs
-
-refused-requires : tie.Need-refused-requires
-refused-requires c κs = search needs
-
 enum-known-c-2 : tie.Need-enum-known-c-2
 enum-known-c-2 c = search needs
 
-refused-at-requires : tie.Need-refused-at-requires
-refused-at-requires c κs = search needs
-
-enum-known-c-3 : tie.Need-enum-known-c-3
-enum-known-c-3 c = search needs
-
-refused-at-requires-2 : tie.Need-refused-at-requires-2
-refused-at-requires-2 c κs = search needs
-
-enum-told-2 : tie.Need-enum-told-2
-enum-told-2 c = search needs
-
-refused-requires-2 : tie.Need-refused-requires-2
-refused-requires-2 c κs = search needs
+refused-requires : tie.Need-refused-requires
+refused-requires c κs = search needs
 
 returns : tie.Need-returns
 returns c = c .granted .ensures ∙ back (c .before .before .c .given .1)
 
 returns-2 : tie.Need-returns-2
-returns-2 c = c .refused .ensures ∙ back (c .before .enum-told .given .1)
-
-returns-3 : tie.Need-returns-3
-returns-3 c = c .refused-at .ensures ∙ back (c .before .before .c2 .given .1)
-
-returns-4 : tie.Need-returns-4
-returns-4 c = c .refused-at2 .ensures ∙ back (c .before .before .c3 .given .1)
-
-returns-5 : tie.Need-returns-5
-returns-5 c = c .refused2 .ensures ∙ back (c .before .enum-told2 .given .1)
+returns-2 c = c .refused .ensures ∙ back (c .before .before .c2 .given .1)
 
 pub told-of-cue-spec : {M : Type 1} → statement M
 told-of-cue-spec =
     tie.close
-    (tie.spec
-    enum-known-c
-    granted-requires
-    enum-told
-    refused-requires
-    enum-known-c-2
-    refused-at-requires
-    enum-known-c-3
-    refused-at-requires-2
-    enum-told-2
-    refused-requires-2
-    returns
-    returns-2
-    returns-3
-    returns-4
-    returns-5)
+    (tie.spec enum-known-c granted-requires enum-known-c-2 refused-requires returns returns-2)

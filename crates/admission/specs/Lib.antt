@@ -1,3 +1,0 @@
--- What the contracts name.
-pub mod Refusals
-pub mod Admission

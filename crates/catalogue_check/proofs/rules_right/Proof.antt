@@ -1,0 +1,210 @@
+-- `catalogue_check::rules_right`: at each return the tests that led there say what the rule is. Of each rule, `-holds` and `-fails` say so over the place that its test leads to.
+use mathlib.Core.Path.{_≡_, sym, _∙_}
+use mathlib.Core.Bool.{true, false}
+use native.Mathlib.Omega.{arith}
+use borrow.Author.Needs.{needs}
+use borrow.Author.Tests.{not-true, not-false}
+use lib.ListN.{length}
+use Rattle.catalogue_tables.specs.Tables.{Tables, tables, trackCount}
+use Rattle.catalogue_rules.specs.Rules.{sizesRule, parentsRule, trackRunsRule, segmentRunsRule, durationsRule, startsRule, titlesPlacedRule, titlesTextRule}
+use Rattle.catalogue_check.specs.Catalogue.{catalogueRule}
+use Rattle.catalogue_rules.proofs.Checked.{few-groups, few-tracks, runs-inside, titles-inside}
+use Rattle.catalogue_check.proofs.rules_right.Statement.{statement}
+use Rattle.catalogue_check.proofs.rules_right.Tie as tie
+
+abbrev lent : tie.Start → Tables
+lent c = tables (c .args .groups .now) (c .args .tracks .now) (c .args .segments .now) (c .args .text .now)
+
+sizes-holds : (c : tie.Else1) → let k = lent (c .before .before .before .before .before .before) in sizesRule (length (k .groups)) (length (k .tracks)) (length (k .segments)) (length (k .text)) ≡ true
+sizes-holds c = sym (c .before .sizes-right .ensures) ∙ not-false _ (c .if1 .left)
+
+sizes-fails : (c : tie.Then1) → let k = lent (c .before .before .before .before .before .before) in sizesRule (length (k .groups)) (length (k .tracks)) (length (k .segments)) (length (k .text)) ≡ false
+sizes-fails c = sym (c .before .sizes-right .ensures) ∙ not-true _ (c .if1 .taken)
+
+parents-holds : (c : tie.Else2) → let k = lent (c .before .before .before .before .before .before .before .before) in parentsRule (k .groups) ≡ true
+parents-holds c = sym (c .before .parents-right .ensures) ∙ not-false _ (c .if2 .left)
+
+parents-fails : (c : tie.Then2) → let k = lent (c .before .before .before .before .before .before .before .before) in parentsRule (k .groups) ≡ false
+parents-fails c = sym (c .before .parents-right .ensures) ∙ not-true _ (c .if2 .taken)
+
+track-runs-holds : (c : tie.Else3) → let k = lent (c .before .before .before .before .before .before .before .before .before .before) in trackRunsRule (k .groups) (trackCount (k .tracks)) ≡ true
+unfolding trackRunsRule
+track-runs-holds c = sym (c .before .runs-right .ensures) ∙ not-false _ (c .if3 .left)
+
+track-runs-fails : (c : tie.Then3) → let k = lent (c .before .before .before .before .before .before .before .before .before .before) in trackRunsRule (k .groups) (trackCount (k .tracks)) ≡ false
+unfolding trackRunsRule
+track-runs-fails c = sym (c .before .runs-right .ensures) ∙ not-true _ (c .if3 .taken)
+
+segment-runs-holds : (c : tie.Else4) → let k = lent (c .before .before .before .before .before .before .before .before .before .before .before .before) in segmentRunsRule (k .tracks) (length (k .segments)) ≡ true
+unfolding segmentRunsRule
+segment-runs-holds c = sym (c .before .runs-right2 .ensures) ∙ not-false _ (c .if4 .left)
+
+segment-runs-fails : (c : tie.Then4) → let k = lent (c .before .before .before .before .before .before .before .before .before .before .before .before) in segmentRunsRule (k .tracks) (length (k .segments)) ≡ false
+unfolding segmentRunsRule
+segment-runs-fails c = sym (c .before .runs-right2 .ensures) ∙ not-true _ (c .if4 .taken)
+
+durations-holds : (c : tie.Else5) → let k = lent (c .before .before .before .before .before .before .before .before .before .before .before .before .before .before) in durationsRule (k .tracks) ≡ true
+durations-holds c = sym (c .before .durations-right .ensures) ∙ not-false _ (c .if5 .left)
+
+durations-fails : (c : tie.Then5) → let k = lent (c .before .before .before .before .before .before .before .before .before .before .before .before .before .before) in durationsRule (k .tracks) ≡ false
+durations-fails c = sym (c .before .durations-right .ensures) ∙ not-true _ (c .if5 .taken)
+
+starts-holds : (c : tie.Else6) → let k = lent (c .before .before .before .before .before .before .before .before .before .before .before .before .before .before .before .before) in startsRule (k .tracks) (k .segments) ≡ true
+starts-holds c = sym (c .before .starts-right .ensures) ∙ not-false _ (c .if6 .left)
+
+starts-fails : (c : tie.Then6) → let k = lent (c .before .before .before .before .before .before .before .before .before .before .before .before .before .before .before .before) in startsRule (k .tracks) (k .segments) ≡ false
+starts-fails c = sym (c .before .starts-right .ensures) ∙ not-true _ (c .if6 .taken)
+
+placed-holds : (c : tie.Else7) → let k = lent (c .before .before .before .before .before .before .before .before .before .before .before .before .before .before .before .before .before .before) in titlesPlacedRule (k .tracks) (length (k .text)) ≡ true
+placed-holds c = sym (c .before .titles-placed .ensures) ∙ not-false _ (c .if7 .left)
+
+placed-fails : (c : tie.Then7) → let k = lent (c .before .before .before .before .before .before .before .before .before .before .before .before .before .before .before .before .before .before) in titlesPlacedRule (k .tracks) (length (k .text)) ≡ false
+placed-fails c = sym (c .before .titles-placed .ensures) ∙ not-true _ (c .if7 .taken)
+
+utf8-holds : (c : tie.Else8) → let k = lent (c .before .before .before .before .before .before .before .before .before .before .before .before .before .before .before .before .before .before .before .before) in titlesTextRule (k .tracks) (k .text) ≡ true
+utf8-holds c = sym (c .before .titles-text .ensures) ∙ not-false _ (c .if8 .left)
+
+utf8-fails : (c : tie.Then8) → let k = lent (c .before .before .before .before .before .before .before .before .before .before .before .before .before .before .before .before .before .before .before .before) in titlesTextRule (k .tracks) (k .text) ≡ false
+utf8-fails c = sym (c .before .titles-text .ensures) ∙ not-true _ (c .if8 .taken)
+
+sizes-right-requires : tie.Need-sizes-right-requires
+sizes-right-requires c κs = search needs
+
+returns : tie.Need-returns
+unfolding catalogueRule
+returns c =
+    simp (sizes-fails c)
+
+parents-right-requires : tie.Need-parents-right-requires
+parents-right-requires c κs = search needs
+
+returns-2 : tie.Need-returns-2
+unfolding catalogueRule
+returns-2 c =
+    simp (
+      sizes-holds (c .before .before),
+      parents-fails c,
+    )
+
+runs-right-requires : tie.Need-runs-right-requires
+runs-right-requires c κs = omega (arith, few-groups _ _ _ _ (sizes-holds (c .before .before)))
+
+returns-3 : tie.Need-returns-3
+unfolding catalogueRule
+returns-3 c =
+    simp (
+      sizes-holds (c .before .before .before .before),
+      parents-holds (c .before .before),
+      track-runs-fails c,
+    )
+
+runs-right-requires-2 : tie.Need-runs-right-requires-2
+runs-right-requires-2 c κs = omega (arith, few-tracks _ _ _ _ (sizes-holds (c .before .before .before .before)))
+
+returns-4 : tie.Need-returns-4
+unfolding catalogueRule
+returns-4 c =
+    simp (
+      sizes-holds (c .before .before .before .before .before .before),
+      parents-holds (c .before .before .before .before),
+      track-runs-holds (c .before .before),
+      segment-runs-fails c,
+    )
+
+durations-right-requires : tie.Need-durations-right-requires
+durations-right-requires c κs = search needs
+
+returns-5 : tie.Need-returns-5
+unfolding catalogueRule
+returns-5 c =
+    simp (
+      sizes-holds (c .before .before .before .before .before .before .before .before),
+      parents-holds (c .before .before .before .before .before .before),
+      track-runs-holds (c .before .before .before .before),
+      segment-runs-holds (c .before .before),
+      durations-fails c,
+    )
+
+starts-right-requires : tie.Need-starts-right-requires
+starts-right-requires c κs = runs-inside _ _ (segment-runs-holds (c .before .before))
+
+returns-6 : tie.Need-returns-6
+unfolding catalogueRule
+returns-6 c =
+    simp (
+      sizes-holds (c .before .before .before .before .before .before .before .before .before .before),
+      parents-holds (c .before .before .before .before .before .before .before .before),
+      track-runs-holds (c .before .before .before .before .before .before),
+      segment-runs-holds (c .before .before .before .before),
+      durations-holds (c .before .before),
+      starts-fails c,
+    )
+
+titles-placed-requires : tie.Need-titles-placed-requires
+titles-placed-requires c κs = search needs
+
+returns-7 : tie.Need-returns-7
+unfolding catalogueRule
+returns-7 c =
+    simp (
+      sizes-holds (c .before .before .before .before .before .before .before .before .before .before .before .before),
+      parents-holds (c .before .before .before .before .before .before .before .before .before .before),
+      track-runs-holds (c .before .before .before .before .before .before .before .before),
+      segment-runs-holds (c .before .before .before .before .before .before),
+      durations-holds (c .before .before .before .before),
+      starts-holds (c .before .before),
+      placed-fails c,
+    )
+
+titles-text-requires : tie.Need-titles-text-requires
+titles-text-requires c κs = titles-inside _ _ (placed-holds c)
+
+returns-8 : tie.Need-returns-8
+unfolding catalogueRule
+returns-8 c =
+    simp (
+      sizes-holds (c .before .before .before .before .before .before .before .before .before .before .before .before .before .before),
+      parents-holds (c .before .before .before .before .before .before .before .before .before .before .before .before),
+      track-runs-holds (c .before .before .before .before .before .before .before .before .before .before),
+      segment-runs-holds (c .before .before .before .before .before .before .before .before),
+      durations-holds (c .before .before .before .before .before .before),
+      starts-holds (c .before .before .before .before),
+      placed-holds (c .before .before),
+      utf8-fails c,
+    )
+
+returns-9 : tie.Need-returns-9
+unfolding catalogueRule
+returns-9 c =
+    simp (
+      sizes-holds (c .before .before .before .before .before .before .before .before .before .before .before .before .before .before),
+      parents-holds (c .before .before .before .before .before .before .before .before .before .before .before .before),
+      track-runs-holds (c .before .before .before .before .before .before .before .before .before .before),
+      segment-runs-holds (c .before .before .before .before .before .before .before .before),
+      durations-holds (c .before .before .before .before .before .before),
+      starts-holds (c .before .before .before .before),
+      placed-holds (c .before .before),
+      utf8-holds c,
+    )
+
+pub rules-right-spec : {M : Type 1} → statement M
+rules-right-spec =
+    tie.close
+    (tie.spec
+    sizes-right-requires
+    returns
+    parents-right-requires
+    returns-2
+    runs-right-requires
+    returns-3
+    runs-right-requires-2
+    returns-4
+    durations-right-requires
+    returns-5
+    starts-right-requires
+    returns-6
+    titles-placed-requires
+    returns-7
+    titles-text-requires
+    returns-8
+    returns-9)

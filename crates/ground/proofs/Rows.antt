@@ -1,0 +1,101 @@
+-- Rows that were asked first, and what is behind them. Assumes nothing.
+use mathlib.Core.Path.{_≡_, refl, sym, ap, _∙_}
+use mathlib.Core.Bool.{Bool, true, false, _&&_, not}
+use mathlib.Core.List.{List, [], _∷_, _++_}
+use Rattle.ground.specs.Cases.{pick}
+use Rattle.ground.specs.Refusals.{Said, granted, refusedWith, Row, answered, accepted, saidThrough, saidBy, Left, keeping}
+use Rattle.ground.proofs.Cases.{past, clash}
+
+-- no row applies
+abbrev pub NoneApplies : List Row → Type 0
+NoneApplies [] = Unit
+NoneApplies (r ∷ rows) = (r .applies ≡ false) × NoneApplies rows
+
+-- what the first row that applies says, or else the work
+pub by-accepted : {A : Type 0} (refuse : Said → A) (rows : List Row) (work : A) → answered refuse rows work ≡ pick (accepted rows) work (refuse (saidBy rows))
+by-accepted refuse [] work = refl
+by-accepted {A} refuse (r ∷ rows) work = at (r .applies) (by-accepted refuse rows work)
+  where
+    at : (t : Bool) → answered refuse rows work ≡ pick (accepted rows) work (refuse (saidBy rows))
+        → pick t (refuse (refusedWith (r .number) (r .values))) (answered refuse rows work)
+        ≡ pick (not t && accepted rows) work (refuse (pick t (refusedWith (r .number) (r .values)) (saidBy rows)))
+    at true ih = refl
+    at false ih = ih
+
+-- whether rows accept is seen by what they say
+pub accepted-said : (rows : List Row) → saidBy rows .isGranted ≡ accepted rows
+accepted-said [] = refl
+accepted-said (r ∷ rows) = at (r .applies) (accepted-said rows)
+  where
+    at : (t : Bool) → saidBy rows .isGranted ≡ accepted rows → pick t (refusedWith (r .number) (r .values)) (saidBy rows) .isGranted ≡ (not t && accepted rows)
+    at true ih = refl
+    at false ih = ih
+
+-- a row applies: its refusal is the answer, whatever stands behind
+pub shut : {A : Type 0} (refuse : Said → A) (rows : List Row) (rest : A) → saidBy rows .isGranted ≡ false → refuse (saidBy rows) ≡ answered refuse rows rest
+shut refuse [] rest e = clash (sym e)
+shut {A} refuse (r ∷ rows) rest e = at (r .applies) e (shut refuse rows rest)
+  where
+    at : (t : Bool) → pick t (refusedWith (r .number) (r .values)) (saidBy rows) .isGranted ≡ false
+        → (saidBy rows .isGranted ≡ false → refuse (saidBy rows) ≡ answered refuse rows rest)
+        → refuse (pick t (refusedWith (r .number) (r .values)) (saidBy rows)) ≡ pick t (refuse (refusedWith (r .number) (r .values))) (answered refuse rows rest)
+    at true h ih = refl
+    at false h ih = ih h
+
+-- no refusal was said, so no row applies
+pub kept : (rows : List Row) (work : Said) → saidThrough rows work .isGranted ≡ true → NoneApplies rows
+kept [] work e = tt
+kept (r ∷ rows) work e = at (r .applies) refl e (kept rows work)
+  where
+    at : (t : Bool) → r .applies ≡ t → pick t (refusedWith (r .number) (r .values)) (saidThrough rows work) .isGranted ≡ true
+        → (saidThrough rows work .isGranted ≡ true → NoneApplies rows) → NoneApplies (r ∷ rows)
+    at true q h ih = clash h
+    at false q h ih = (q, ih h)
+
+-- what stands behind rows none of which applies
+pub through : {A : Type 0} (refuse : Said → A) (rows : List Row) {left rest : A} → NoneApplies rows → left ≡ rest → left ≡ answered refuse rows rest
+through refuse [] none h = h
+through refuse (r ∷ rows) none h = past _ (none .0) (through refuse rows (none .1) h)
+
+-- rows behind one that applies say nothing
+pub more : (rows behind : List Row) → saidBy rows .isGranted ≡ false → saidBy rows ≡ saidBy (rows ++ behind)
+more [] behind e = clash (sym e)
+more (r ∷ rows) behind e = at (r .applies) e (more rows behind)
+  where
+    at : (t : Bool) → pick t (refusedWith (r .number) (r .values)) (saidBy rows) .isGranted ≡ false → (saidBy rows .isGranted ≡ false → saidBy rows ≡ saidBy (rows ++ behind))
+        → pick t (refusedWith (r .number) (r .values)) (saidBy rows) ≡ pick t (refusedWith (r .number) (r .values)) (saidBy (rows ++ behind))
+    at true h ih = refl
+    at false h ih = ih h
+
+-- what the rows behind say, where none of the first applies
+pub beyond : (rows behind : List Row) {said : Said} → NoneApplies rows → said ≡ saidBy behind → said ≡ saidBy (rows ++ behind)
+beyond [] behind none e = e
+beyond (r ∷ rows) behind none e = past _ (none .0) (beyond rows behind (none .1) e)
+
+-- rows none of which applies say nothing
+pub all-of : (rows : List Row) → NoneApplies rows → granted [] ≡ saidBy rows
+all-of rows none = through (λ said. said) rows none refl
+
+-- none of either
+pub both : (rows behind : List Row) → NoneApplies rows → NoneApplies behind → NoneApplies (rows ++ behind)
+both [] behind p q = q
+both (r ∷ rows) behind p q = (p .0, both rows behind (p .1) q)
+
+-- rows that accept are rows none of which applies
+pub none-of : (rows : List Row) → accepted rows ≡ true → NoneApplies rows
+none-of rows e = kept rows (granted []) (accepted-said rows ∙ e)
+
+-- the state that a call leaves, and what it says, by whether its rows accept
+pub state-of : {S : Type 0} (s : S) (rows : List Row) (work : Left S) → answered (keeping s) rows work .state ≡ pick (accepted rows) (work .state) s
+state-of {S} s rows work = ap (λ (l : Left S). l .state) (by-accepted (keeping s) rows work) ∙ at (accepted rows)
+  where
+    at : (t : Bool) → pick t work (keeping s (saidBy rows)) .state ≡ pick t (work .state) s
+    at true = refl
+    at false = refl
+
+pub said-of : {S : Type 0} (s : S) (rows : List Row) (work : Left S) → answered (keeping s) rows work .said ≡ pick (accepted rows) (work .said) (saidBy rows)
+said-of {S} s rows work = ap (λ (l : Left S). l .said) (by-accepted (keeping s) rows work) ∙ at (accepted rows)
+  where
+    at : (t : Bool) → pick t work (keeping s (saidBy rows)) .said ≡ pick t (work .said) (saidBy rows)
+    at true = refl
+    at false = refl

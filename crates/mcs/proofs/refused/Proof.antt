@@ -1,0 +1,30 @@
+-- `mcs::refused`: by what the refusal carries.
+use mathlib.Core.Path.{_≡_, sym, ap}
+use Prim.Native.Nat.{ℕ}
+use Rattle.ground.specs.declared.Carried.{Carried}
+use Rattle.ground.specs.Refusals.{refusedWith, carriedOf}
+use Rattle.mcs.specs.Calls.{toldOf}
+use borrow.Author.Needs.{needs}
+use Rattle.mcs.proofs.refused.Statement.{statement}
+use Rattle.mcs.proofs.refused.Tie as tie
+
+back : (number : ℕ) {a b : Carried} → a ≡ b → toldOf (refusedWith number (carriedOf b)) ≡ toldOf (refusedWith number (carriedOf a))
+back number e = sym (ap (λ (x : Carried). toldOf (refusedWith number (carriedOf x))) e)
+
+enum-told : tie.Need-enum-told
+enum-told c = search needs
+
+enum-known-carried : tie.Need-enum-known-carried
+enum-known-carried c = search needs
+
+cast-t8 : tie.Need-cast-t8
+cast-t8 c = search needs
+
+returns : tie.Need-returns
+returns c = back (c .before .before .args .r .number) (c .enum-told .given .1)
+
+returns-2 : tie.Need-returns-2
+returns-2 c = back (c .before .before .before .args .r .number) (c .before .carried .given .1)
+
+pub refused-spec : {M : Type 1} → statement M
+refused-spec = tie.close (tie.spec enum-told enum-known-carried cast-t8 returns returns-2)
