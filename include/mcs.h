@@ -32,7 +32,7 @@ extern "C" {
 #define MCS_BAD_CATALOGUE 200u
 /* The lent output of a read or a take is under MCS_OUTPUT_OCTETS octets. */
 #define MCS_SMALL_OUTPUT 205u
-/* The state breaks a rule for this catalogue. */
+/* The state breaks a rule for this catalogue, or one of its octets that say yes or no is neither 1 nor 0. */
 #define MCS_BAD_STATE 201u
 /* The client's number is over 3. */
 #define MCS_NO_CLIENT 202u
@@ -154,7 +154,9 @@ extern "C" {
 
 /* ---- The state: octets at these offsets, numbers little endian -------------------------------------------------------------
  * The caller keeps it, and may store and restore it. Every string of MCS_STATE_OCTETS octets is a state, which a call takes or
- * refuses with MCS_BAD_STATE. In an octet that says yes or no, 0 is no and any other is yes; a call that is accepted writes 1.
+ * refuses with MCS_BAD_STATE. An octet that says yes or no is 1 for yes and 0 for no, and a state with any other in its place is
+ * refused. So the octets of a state that is taken, apart from those that mean nothing, are the encoding of what they mean, and
+ * a call other than mcs_start that changes nothing leaves every octet as it was.
  */
 #define MCS_STATE_OCTETS 338u
 
@@ -173,8 +175,8 @@ extern "C" {
 #define MCS_AT_CLIENT(client) (154u + 46u * (client))
 
 /* In the 46 octets of a client. Slots are the bits 0 to 9 for the characteristics 1, 4, 5, 6, 7, 8, 9, 15, 17, 18. */
-#define MCS_IN_CONNECTED 0u       /* 1 octet, yes or no */
-#define MCS_IN_ENCRYPTED 1u       /* 1 octet, yes or no */
+#define MCS_IN_CONNECTED 0u       /* 1 octet, yes or no: 1 or 0 */
+#define MCS_IN_ENCRYPTED 1u       /* 1 octet, yes or no: 1 or 0 */
 #define MCS_IN_MTU 2u             /* 4 octets; 23 while not connected */
 #define MCS_IN_SUBSCRIBED 6u      /* 4 octets, a set of slots */
 #define MCS_IN_OWED 10u           /* 4 octets, a set of slots */

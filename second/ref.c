@@ -898,6 +898,7 @@ static int record_stands(const ref_client *r)
 {
     uint32_t k;
 
+    /* A yes or no is 1 or 0. */
     if (r->connected > 1 || r->encrypted > 1) {
         return 0;
     }
@@ -1049,7 +1050,7 @@ uint32_t ref_set_name(REF_CATALOGUE, ref_state *state, const uint8_t *name, size
         return NAME_WRONG;
     }
     before = *state;
-    memset(state->name, 0, sizeof state->name);
+    /* What lies behind the name stays, so that the same name again leaves every octet as it was. */
     if (name_len > 0) {
         memcpy(state->name, name, name_len);
     }

@@ -24,8 +24,8 @@ typedef struct {
 } ref_result;
 
 typedef struct {
-    uint8_t connected; /* 0 or 1 */
-    uint8_t encrypted; /* 0 or 1 */
+    uint8_t connected; /* 0 or 1; any other is refused with 201 */
+    uint8_t encrypted; /* likewise */
     uint32_t mtu;        /* 23 while unconnected */
     uint32_t subscribed; /* bit s: slot s of 1, 4, 5, 6, 7, 8, 9, 15, 17, 18 */
     uint32_t owed;       /* likewise */

@@ -990,6 +990,146 @@ static void state_cases(void)
     BROKEN(s.media = 2; s.group = 2; s.track = 3);
 }
 
+/* ---- A yes or no: 1 or 0, and any other octet is 201 */
+
+enum { FULL, PLAIN, ABSENT, OTHER, NOBODY }; /* a client of that kind, or one over 3 */
+enum { SET_NAME, ACTIVATE, DEACTIVATE, ADVANCE, CONNECT, DISCONNECT, SUBSCRIBE, UNSUBSCRIBE, READ, WRITE, TAKE };
+
+/* Every row behind 201, and an accepted call of each kind: client, characteristic or length, number; what it gives in a state
+ * that stands. */
+static const struct {
+    uint8_t call, who;
+    uint32_t what, number, gives;
+} BEHIND[] = {
+    {SET_NAME, 0, 4, 0, 0}, {SET_NAME, 0, 129, 0, 207}, {ACTIVATE, 0, 0, 1, 0}, {ACTIVATE, 0, 0, 2, 208}, {DEACTIVATE, 0, 0, 0, 0}, {ADVANCE, 0, 0, 9, 0},
+    {CONNECT, NOBODY, 1, 22, 202}, {CONNECT, FULL, 1, 22, 204}, {CONNECT, ABSENT, 1, 22, 206}, {CONNECT, ABSENT, 1, 23, 0},
+    {DISCONNECT, NOBODY, 0, 0, 202}, {DISCONNECT, ABSENT, 0, 0, 203}, {DISCONNECT, FULL, 0, 0, 0},
+    {SUBSCRIBE, NOBODY, 3, 0, 202}, {SUBSCRIBE, ABSENT, 3, 0, 203}, {SUBSCRIBE, PLAIN, 3, 0, 0x01}, {SUBSCRIBE, PLAIN, 16, 0, 209}, {SUBSCRIBE, PLAIN, 1, 0, 0x0F}, {SUBSCRIBE, FULL, 1, 0, 0},
+    {UNSUBSCRIBE, NOBODY, 3, 0, 202}, {UNSUBSCRIBE, ABSENT, 3, 0, 203}, {UNSUBSCRIBE, PLAIN, 3, 0, 0x01}, {UNSUBSCRIBE, PLAIN, 16, 0, 209}, {UNSUBSCRIBE, PLAIN, 1, 0, 0x0F}, {UNSUBSCRIBE, FULL, 17, 0, 0},
+    {READ, NOBODY, 3, 9, 202}, {READ, ABSENT, 3, 9, 203}, {READ, PLAIN, 3, 9, 0x01}, {READ, PLAIN, 4, 9, 0x02}, {READ, PLAIN, 1, 9, 0x0F}, {READ, FULL, 5, 9, 0x80}, {READ, FULL, 1, 5, 0x07}, {READ, FULL, 1, 0, 0},
+    {WRITE, NOBODY, 3, 0, 202}, {WRITE, ABSENT, 3, 0, 203}, {WRITE, PLAIN, 3, 0, 0x01}, {WRITE, PLAIN, 17, 0, 0x03}, {WRITE, PLAIN, 15, 0, 0x0F}, {WRITE, FULL, 15, 0, 0x0D}, {WRITE, FULL, 15, 1, 0x13}, {WRITE, FULL, 18, 1, 0x11}, {WRITE, FULL, 8, 1, 0},
+    {TAKE, 0, 0, 0, 0},
+};
+#define ROWS_BEHIND (sizeof BEHIND / sizeof BEHIND[0])
+
+/* The call of a row; a refusal leaves all that is lent as it was. The client of kind k is (k + first) modulo 4. */
+static uint32_t call_behind(cat *c, ref_state *s, uint32_t first, size_t row, size_t room)
+{
+    static const uint8_t NAME[129] = "Door", VALUE[1] = {0};
+    uint32_t who = BEHIND[row].who == NOBODY ? 4 : (BEHIND[row].who + first) % 4, what = BEHIND[row].what, number = BEHIND[row].number;
+    uint32_t length = 77, served[3] = {77, 77, 77}, refusal;
+    uint8_t out[128], kept[128];
+    ref_state before;
+    memset(out, 0xA5, sizeof out);
+    memcpy(kept, out, sizeof out);
+    memcpy(&before, s, sizeof before);
+    switch (BEHIND[row].call) {
+    case SET_NAME: refusal = ref_set_name(C(c), s, NAME, what); break;
+    case ACTIVATE: refusal = ref_activate(C(c), s, number); break;
+    case DEACTIVATE: refusal = ref_deactivate(C(c), s); break;
+    case ADVANCE: refusal = ref_advance(C(c), s, number); break;
+    case CONNECT: refusal = ref_connect(C(c), s, who, number, (uint8_t)what); break;
+    case DISCONNECT: refusal = ref_disconnect(C(c), s, who); break;
+    case SUBSCRIBE: refusal = ref_subscribe(C(c), s, who, what); break;
+    case UNSUBSCRIBE: refusal = ref_unsubscribe(C(c), s, who, what); break;
+    case READ: refusal = ref_read(C(c), s, who, what, number, out, room, &length); break;
+    case WRITE: refusal = ref_write(C(c), s, who, what, VALUE, number); break;
+    default: refusal = ref_take(C(c), s, out, room, served); break;
+    }
+    if (refusal != 0) {
+        CHECK(memcmp(s, &before, sizeof before) == 0 && memcmp(out, kept, sizeof out) == 0);
+        CHECK(length == 77 && served[0] == 77 && served[1] == 77 && served[2] == 77);
+    }
+    return refusal;
+}
+
+/* The client of each kind: FULL encrypted, with eight results, the name read and 17 subscribed to; PLAIN unencrypted; ABSENT not connected; OTHER encrypted. */
+static void four_kinds(cat *c, ref_state *s, uint32_t first)
+{
+    uint32_t full = (FULL + first) % 4;
+    EQUAL(ref_start(C(c), (const uint8_t *)"Desk", 4, ALL, 7, s), 0);
+    EQUAL(ref_activate(C(c), s, 1), 0);
+    EQUAL(ref_connect(C(c), s, full, 23, 1), 0);
+    EQUAL(ref_connect(C(c), s, (PLAIN + first) % 4, 100, 0), 0);
+    EQUAL(ref_connect(C(c), s, (OTHER + first) % 4, 517, 1), 0);
+    EQUAL(ref_subscribe(C(c), s, full, 17), 0);
+    EQUAL(ref_subscribe(C(c), s, full, 18), 0);
+    for (int k = 0; k < 8; k++) EQUAL(command(c, s, full, 0x02, 0), 0);
+    EQUAL(reads(c, s, full, 1, 0), 0);
+}
+
+static void truth_cases(void)
+{
+    static cat c, bad;
+    ref_state good, s;
+    sample(&c);
+    sample(&bad);
+    bad.gl = 11;
+    for (uint32_t first = 0; first < 4; first++) {
+        four_kinds(&c, &good, first);
+        for (size_t row = 0; row < ROWS_BEHIND; row++) {
+            s = good;
+            EQUAL(call_behind(&c, &s, first, row, 128), BEHIND[row].gives);
+        }
+        for (uint32_t k = 0; k < 8; k++) {
+            uint32_t kind = k / 2, encrypted = k % 2;
+            ref_client *r = &s.clients[(kind + first) % 4];
+            uint8_t *octet = encrypted ? &r->encrypted : &r->connected;
+            for (uint32_t value = 0; value < 256; value++) {
+                /* "unconnected and not start's", "a subscription while unencrypted"; start's record may be a connected one's too. */
+                int right = kind == ABSENT ? value == 0 || (value == 1 && !encrypted) : value == 1 || (value == 0 && encrypted && kind != FULL);
+                s = good;
+                *octet = (uint8_t)value;
+                EQUAL(stands(&c, &s), right);
+                if (value != 2 && value != 255) continue;
+                for (size_t row = 0; row < ROWS_BEHIND; row++) {
+                    int output = BEHIND[row].call == READ || BEHIND[row].call == TAKE;
+                    EQUAL(call_behind(&bad, &s, first, row, 127), 200);
+                    EQUAL(call_behind(&c, &s, first, row, 127), output ? 205 : 201);
+                    EQUAL(call_behind(&c, &s, first, row, 128), 201);
+                    EQUAL(*octet, value);
+                }
+                /* A start is lent no state to look at. */
+                EQUAL(ref_start(C(&bad), NULL, 0, ALL, 7, &s), 200); EQUAL(*octet, value);
+                EQUAL(ref_start(C(&c), NULL, 0, ALL, 7, &s), 0); EQUAL(*octet, 0); CHECK(stands(&c, &s));
+            }
+        }
+    }
+    /* "connect (ATT_MTU, encrypted or not)": the argument is any octet, the record's is 1 or 0. */
+    for (uint32_t argument = 0; argument < 256; argument++) {
+        four_kinds(&c, &s, 0);
+        EQUAL(ref_connect(C(&c), &s, ABSENT, 23, (uint8_t)argument), 0);
+        EQUAL(s.clients[ABSENT].connected, 1); EQUAL(s.clients[ABSENT].encrypted, argument > 0); CHECK(stands(&c, &s));
+    }
+}
+
+/* A call that changes nothing leaves every octet as it was, also those behind the name and behind the results that wait. */
+static void nothing_cases(void)
+{
+    static cat c;
+    ref_state s, before;
+    sample(&c);
+    desk(&c, &s);
+    EQUAL(ref_subscribe(C(&c), &s, 0, 1), 0);
+    EQUAL(reads(&c, &s, 0, 1, 0), 0);
+    memset(s.name + 4, 0xE7, sizeof s.name - 4);
+    for (uint32_t k = 0; k < 4; k++) memset(s.clients[k].results, 0xE7, sizeof s.clients[k].results);
+    CHECK(stands(&c, &s));
+#define SAME(call) do { memcpy(&before, &s, sizeof s); EQUAL(call, 0); CHECK(memcmp(&s, &before, sizeof s) == 0); } while (0)
+    SAME(ref_set_name(C(&c), &s, (const uint8_t *)"Desk", 4));
+    SAME(ref_activate(C(&c), &s, 1));
+    SAME(ref_advance(C(&c), &s, 100)); /* Paused */
+    SAME(ref_subscribe(C(&c), &s, 0, 1)); /* "subscribing twice changes nothing" */
+    SAME(ref_unsubscribe(C(&c), &s, 0, 17)); SAME(ref_unsubscribe(C(&c), &s, 0, 18));
+    SAME(reads(&c, &s, 0, 1, 0)); SAME(reads(&c, &s, 0, 1, 2));
+    SAME(write_octet(&c, &s, 0, 15, 3)); SAME(write_octet(&c, &s, 0, 8, 0)); SAME(write_position(&c, &s, 0, 0));
+    SAME(command(&c, &s, 0, 0x02, 0)); SAME(command(&c, &s, 0, 0x30, 0)); SAME(command(&c, &s, 0, 0x77, 0)); /* results 1, 4, 2, for nobody */
+    memcpy(&before, &s, sizeof s); NOTHING(&c, &s); CHECK(memcmp(&s, &before, sizeof s) == 0);
+    EQUAL(ref_deactivate(C(&c), &s), 0);
+    SAME(ref_deactivate(C(&c), &s)); SAME(ref_advance(C(&c), &s, 100)); SAME(command(&c, &s, 0, 0x01, 0));
+    SAME(write_position(&c, &s, 0, 50)); /* "While Inactive the write is taken and alters nothing." */
+}
+
 /* ---- What is owed, rounds, cuts, 0x80 */
 
 static void owed_cases(void)
@@ -1779,6 +1919,8 @@ int main(int argc, char **argv)
     start_cases();
     refusal_cases();
     state_cases();
+    truth_cases();
+    nothing_cases();
     owed_cases();
     round_cases();
     cut_cases();

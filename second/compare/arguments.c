@@ -16,7 +16,7 @@ uint32_t some_client(dice *d, const run *r, uint32_t connected, uint32_t wrong)
     }
     for (uint32_t k = 0; k < REF_CLIENTS; k++) {
         uint32_t client = (from + k) % REF_CLIENTS;
-        if (r->second.clients[client].connected == connected) {
+        if ((r->second.clients[client].connected != 0 ? 1u : 0u) == connected) {
             return client;
         }
     }

@@ -1,4 +1,5 @@
-/* The cases of document 01 with the values that it states. A comment in quotation marks is a sentence of document 01. */
+/* The cases of document 01 with the values that it states, and those of a yes or no among a state's octets. A comment in
+ * quotation marks is a sentence of document 01. */
 #include "cases.h"
 #include "expect.h"
 
@@ -241,12 +242,155 @@ static void mark_cases(void)
     read_name(5, MCS_BEYOND_END);
 }
 
+/* ---- A yes or no: 1 or 0, and any other octet is 201 */
+
+static void poke(uint32_t at, const void *octets, uint32_t length)
+{
+    step s = blank(POKE_STATE);
+    s.number = at;
+    s.length = length;
+    memcpy(s.octets, octets, length);
+    do_step(both, &s);
+}
+
+static void lend_groups(uint32_t words)
+{
+    step s = blank(TABLE_LENGTH);
+    s.who = GROUPS;
+    s.number = words;
+    do_step(both, &s);
+}
+
+/* A call that is accepted where the state stands, two with 205, and three with a row behind 201. */
+static void calls_give(uint32_t number)
+{
+    step small = blank(TAKE), nobody = blank(DISCONNECT), absent = blank(DISCONNECT), name = blank(SET_NAME);
+    small.room[0] = MCS_OUTPUT_OCTETS - 1u;
+    nobody.who = 4;
+    absent.who = 3;
+    name.length = 129;
+    makes(blank(DEACTIVATE), number);
+    makes(small, number == MCS_BAD_CATALOGUE ? number : MCS_SMALL_OUTPUT);
+    small.kind = READ;
+    makes(small, number == MCS_BAD_CATALOGUE ? number : MCS_SMALL_OUTPUT);
+    makes(nobody, number == 0 ? MCS_NO_CLIENT : number);
+    makes(absent, number == 0 ? MCS_NOT_CONNECTED : number);
+    makes(name, number == 0 ? MCS_BAD_NAME : number);
+}
+
+/* Client 0 and 1 are connected encrypted, 2 unencrypted, 3 not at all. */
+static void four_clients(const char *what)
+{
+    step s = blank(CONNECT);
+    stand(what, 3, 0, 0);
+    connect_client(1);
+    s.who = 2;
+    s.number = 23;
+    makes(s, 0);
+}
+
+static void truth_cases(void)
+{
+    static const uint8_t WRONG[4] = {2, 128, 254, 255};
+    static const uint32_t IN[2] = {MCS_IN_CONNECTED, MCS_IN_ENCRYPTED};
+    for (uint32_t k = 0; k < 8u * sizeof WRONG; k++) {
+        uint32_t at = MCS_AT_CLIENT(k / 2u % REF_CLIENTS) + IN[k % 2u];
+        uint8_t right;
+        four_clients("a yes or no that is neither 1 nor 0");
+        right = both->octets[at];
+        poke(at, &WRONG[k / 8u], 1);
+        calls_give(MCS_BAD_STATE);
+        lend_groups(both->lent.length[GROUPS] - 1u);
+        calls_give(MCS_BAD_CATALOGUE);
+        lend_groups(both->lent.length[GROUPS] + 1u);
+        poke(at, &right, 1);
+        calls_give(0);
+        /* A start does not look at what the octets held. */
+        poke(at, &WRONG[k / 8u], 1);
+        start_desk(0);
+        expect("the octet behind a start", both->octets[at], 0);
+    }
+}
+
+/* The argument of connect is no octet of the state: "encrypted or not". */
+static void argument_cases(void)
+{
+    static const uint8_t ARGUMENT[5] = {0, 1, 2, 128, 255};
+    for (uint32_t k = 0; k < 5; k++) {
+        step s = blank(CONNECT);
+        stand("what says of a connect that it is encrypted", 3, 0, 0);
+        s.who = 1;
+        s.number = 23;
+        s.what = ARGUMENT[k];
+        makes(s, 0);
+        expect("connected", both->octets[MCS_AT_CLIENT(1) + MCS_IN_CONNECTED], 1);
+        expect("encrypted", both->octets[MCS_AT_CLIENT(1) + MCS_IN_ENCRYPTED], k > 0);
+    }
+}
+
+static void changes_nothing(step s)
+{
+    makes(s, 0);
+    expect("a call that changes nothing", both->unchanged, 1);
+}
+
+/* Calls that change nothing leave every octet as it was, here with octets that mean nothing and are not 0. */
+static void nothing_cases(void)
+{
+    step s, read = blank(READ), subscribe_again = blank(SUBSCRIBE), unsubscribe = blank(UNSUBSCRIBE), group = blank(ACTIVATE);
+    uint8_t dead[MCS_STATE_OCTETS];
+    memset(dead, 0xE7, sizeof dead);
+    four_clients("calls that change nothing");
+    poke(MCS_AT_NAME + 4, dead, 124);
+    for (uint32_t k = 0; k < REF_CLIENTS; k++) {
+        poke(MCS_AT_CLIENT(k) + MCS_IN_RESULTS, dead, 16);
+    }
+    s = blank(SET_NAME);
+    s.length = 4;
+    memcpy(s.octets, "Desk", 4);
+    changes_nothing(s);
+    group.number = 1;
+    changes_nothing(group);
+    s = blank(ADVANCE);
+    s.number = 100;
+    changes_nothing(s); /* Paused */
+    subscribe_again.what = unsubscribe.what = MCS_CONTROL_POINT;
+    changes_nothing(subscribe_again); /* "subscribing twice changes nothing" */
+    unsubscribe.what = MCS_NAME;
+    changes_nothing(unsubscribe);
+    read_name(0, 0);
+    read.what = MCS_NAME;
+    changes_nothing(read);
+    read.number = 2;
+    changes_nothing(read);
+    s = blank(WRITE);
+    s.what = MCS_PLAYING_ORDER;
+    s.length = 1;
+    s.octets[0] = 3;
+    changes_nothing(s);
+    s.what = MCS_PLAYBACK_SPEED;
+    s.octets[0] = 0;
+    changes_nothing(s);
+    s.what = MCS_POSITION;
+    s.length = 4;
+    memset(s.octets, 0, 4);
+    changes_nothing(s);
+    changes_nothing(blank(TAKE)); /* "Nothing owed: the answer says so and nothing changes." */
+    makes(blank(DEACTIVATE), 0);
+    changes_nothing(blank(DEACTIVATE));
+    changes_nothing(s); /* "While Inactive the write is taken and alters nothing." */
+    expect("octets behind the name that changed", memcmp(both->octets + MCS_AT_NAME + 4, dead, 124) != 0, 0);
+}
+
 static void all_cases(void)
 {
     sample_cases();
     position_cases();
     order_5_cases();
     mark_cases();
+    truth_cases();
+    argument_cases();
+    nothing_cases();
 }
 
 unsigned long play_cases(FILE *out, run *r) { return expect_on(r, out, all_cases); }

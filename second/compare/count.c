@@ -7,7 +7,7 @@
 #define OPCODES 22u  /* the last stands for every unknown one */
 
 static unsigned long by_number[CALLS][NUMBERS], by_share[SHARES], by_media[4], by_order[9], by_result[OPCODES][5],
-    by_move[9][5][5], by_rung[256], taken[23], read_whole[23], read_on[23], written[23], calls;
+    by_move[9][5][5], by_rung[256], taken[23], read_whole[23], read_on[23], written[23], unchanged[CALLS], calls;
 
 static const char *const SHARE_NAME[SHARES] = {"histories",
                                                "valid states",
@@ -169,6 +169,75 @@ static int sheets_are_right(FILE *out)
     return right;
 }
 
+/* ---- A yes or no that is neither 1 nor 0: which octet, with what value, and the number of the same call without it, so that
+ * 201 is seen to come before that number */
+
+enum { CONNECTED, ENCRYPTED, ENCRYPTED_UNCONNECTED, TRUTHS };
+static const char *const TRUTH_NAME[TRUTHS] = {"connected", "encrypted, connected", "encrypted, not connected"};
+#define LEAST_TRUTHS 500u
+static unsigned long by_truth[TRUTHS][REF_CLIENTS], by_truth_value[256], by_mended[CALLS][NUMBERS];
+
+/* A state that only these octets make wrong; counted where it is one octet. */
+static void count_alone(const ref_state *s)
+{
+    uint32_t kind = 0, client = 0, found = 0;
+    uint8_t value = 0;
+    for (uint32_t k = 0; k < 2u * REF_CLIENTS; k++) {
+        const ref_client *c = &s->clients[k / 2u];
+        uint8_t truth = k % 2u == 0 ? c->connected : c->encrypted;
+        if (truth > 1) {
+            kind = k % 2u == 0 ? CONNECTED : c->connected != 0 ? ENCRYPTED : ENCRYPTED_UNCONNECTED;
+            client = k / 2u;
+            value = truth;
+            found++;
+        }
+    }
+    if (found == 1) {
+        by_truth[kind][client]++;
+        by_truth_value[value]++;
+    }
+}
+
+/* The second program's number for the call with a yes in each one's place, or a no where nobody is connected. */
+static uint32_t mended_number(const run *r, const step *s)
+{
+    static ref_state mended;
+    static uint8_t out[OUT_ROOM];
+    uint32_t word, served[3];
+    lent_buffers l;
+    memset(&l, 0, sizeof l);
+    mended = r->second;
+    for (uint32_t k = 0; k < REF_CLIENTS; k++) {
+        ref_client *c = &mended.clients[k];
+        c->connected = c->connected != 0;
+        c->encrypted = c->encrypted > 1 ? c->connected : c->encrypted;
+    }
+    for (uint32_t table = 0; table < TABLES; table++) {
+        l.table[table] = table_octets(&r->lent, table);
+        l.length[table] = r->lent.length[table];
+    }
+    l.s = s;
+    l.octets = s->octets;
+    l.state = &mended;
+    l.out = out;
+    l.word = &word;
+    l.served = served;
+    call_second(&l);
+    return l.number;
+}
+
+static void count_truths(const run *r, const step *s)
+{
+    uint32_t number = r->second_said.number;
+    if (number == MCS_BAD_STATE) {
+        number = mended_number(r, s);
+        if (number != MCS_BAD_STATE) {
+            count_alone(&r->second);
+        }
+    }
+    by_mended[s->kind][number < NUMBERS ? number : NUMBERS - 1u]++;
+}
+
 void count_call(const run *r, const step *s, uint32_t share)
 {
     uint32_t number = r->second_said.number;
@@ -181,6 +250,10 @@ void count_call(const run *r, const step *s, uint32_t share)
     if (s->kind == CUE_SHEET) {
         count_sheet(r, s);
     }
+    if (has_state(s) && s->kind != START && !plain_truths(r->octets)) {
+        count_truths(r, s);
+    }
+    unchanged[s->kind] += r->unchanged != 0;
 }
 
 unsigned long calls_counted(void) { return calls; }
@@ -202,6 +275,28 @@ static void print_row(FILE *out, const char *name, const uint32_t *list, uint32_
     for (uint32_t k = 0; k < count; k++) {
         fprintf(out, " %u: %lu", (unsigned)list[k], counts[list[k]]);
         fprintf(out, k + 1 < count ? "," : "\n");
+    }
+}
+
+static void print_truths(FILE *out)
+{
+    fprintf(out, "calls with a yes or no that is neither 1 nor 0, by their number without it\n");
+    for (uint32_t call = SET_NAME; call <= TAKE; call++) {
+        fprintf(out, "  %-12s accepted: %lu", CALL_NAME[call], by_mended[call][0]);
+        for (uint32_t k = 0; ROWS[call][k] != 0; k++) {
+            fprintf(out, ", ");
+            print_number(out, ROWS[call][k]);
+            fprintf(out, ": %lu", by_mended[call][ROWS[call][k]]);
+        }
+        fprintf(out, "\n");
+    }
+    fprintf(out, "refused for that octet alone, by client\n");
+    for (uint32_t kind = 0; kind < TRUTHS; kind++) {
+        fprintf(out, "  %-26s", TRUTH_NAME[kind]);
+        for (uint32_t k = 0; k < REF_CLIENTS; k++) {
+            fprintf(out, " %8lu", by_truth[kind][k]);
+        }
+        fprintf(out, "\n");
     }
 }
 
@@ -258,6 +353,12 @@ void print_counts(FILE *out)
     print_row(out, "reads at 0 by characteristic", READABLE, 11, read_whole);
     print_row(out, "reads above 0 by characteristic", READABLE, 11, read_on);
     print_row(out, "writes by characteristic", WRITABLE, 4, written);
+    fprintf(out, "accepted calls that changed nothing:");
+    for (uint32_t call = SET_NAME; call <= TAKE; call++) {
+        fprintf(out, "%s %s: %lu", call == SET_NAME ? "" : ",", CALL_NAME[call], unchanged[call]);
+    }
+    fprintf(out, "\n");
+    print_truths(out);
     print_sheets(out);
 }
 
@@ -317,9 +418,53 @@ static int moves_are_right(FILE *out, uint32_t order, int all)
     return right;
 }
 
-int counts_are_right(FILE *out, int all)
+/* A connect and a disconnect change the record's first octet; every other call can change nothing. */
+static int unchanged_are_right(FILE *out, int all)
 {
     int right = 1;
+    for (uint32_t call = SET_NAME; call <= TAKE; call++) {
+        int can_be = call != CONNECT && call != DISCONNECT;
+        if (can_be ? all && unchanged[call] == 0 : unchanged[call] > 0) {
+            fprintf(out, "compare: %s %s nothing\n", CALL_NAME[call], can_be ? "never changed" : "changed");
+            right = 0;
+        }
+    }
+    return right;
+}
+
+/* Each octet often enough and each value, 200 and 205 before the 201, and each number that a call can have behind it. */
+static int truths_are_right(FILE *out)
+{
+    int right = 1;
+    for (uint32_t kind = 0; kind < TRUTHS; kind++) {
+        for (uint32_t k = 0; k < REF_CLIENTS; k++) {
+            if (by_truth[kind][k] < LEAST_TRUTHS) {
+                fprintf(out, "compare: neither yes nor no, %s, client %u: %lu times, not %u\n", TRUTH_NAME[kind], (unsigned)k,
+                        by_truth[kind][k], LEAST_TRUTHS);
+                right = 0;
+            }
+        }
+    }
+    for (uint32_t value = 2; value < 256; value++) {
+        if (by_truth_value[value] == 0) {
+            right = missing(out, "for a yes or no the octet", value);
+        }
+    }
+    for (uint32_t call = SET_NAME; call <= TAKE; call++) {
+        for (uint32_t k = 0; k == 0 || ROWS[call][k - 1u] != 0; k++) {
+            if (by_mended[call][ROWS[call][k]] == 0) {
+                fprintf(out, "compare: never happened: %s with neither yes nor no, and without it %u (0x%02X)\n",
+                        CALL_NAME[call], (unsigned)ROWS[call][k], (unsigned)ROWS[call][k]);
+                right = 0;
+            }
+        }
+    }
+    return right;
+}
+
+int counts_are_right(FILE *out, int all)
+{
+    int right = unchanged_are_right(out, all);
     for (uint32_t call = 0; call < CALLS; call++) {
         right &= numbers_are_right(out, call, all);
     }
@@ -352,6 +497,7 @@ int counts_are_right(FILE *out, int all)
         right &= list_is_met(out, "a read above 0 of characteristic", READABLE, 11, read_on);
         right &= list_is_met(out, "a write of characteristic", WRITABLE, 4, written);
         right &= sheets_are_right(out);
+        right &= truths_are_right(out);
         for (uint32_t k = 0; k < SHARES; k++) {
             if (by_share[k] == 0) {
                 right = missing(out, SHARE_NAME[k], k);

@@ -131,6 +131,14 @@ void damage_state(dice *d, const run *r, step *s)
     }
 }
 
+void damage_truth(dice *d, const run *r, step *s)
+{
+    uint32_t at = MCS_AT_CLIENT(below(d, REF_CLIENTS)) + (one_in(d, 2) ? MCS_IN_CONNECTED : MCS_IN_ENCRYPTED);
+    (void)r;
+    blank_step(d, POKE_STATE, s);
+    poke_word(s, at, one_in(d, 4) ? ONE_OF(d, 2, 3, 128, 129, 254, 255) : between(d, 2, 255), 1);
+}
+
 /* ---- Catalogues */
 
 static void damage_length(dice *d, const run *r, step *s)

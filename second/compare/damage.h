@@ -7,6 +7,7 @@
 
 /* Each draws one step; some leave a thing as right as it was. */
 void damage_state(dice *d, const run *r, step *s);
+void damage_truth(dice *d, const run *r, step *s); /* one yes or no is neither 1 nor 0 */
 void damage_catalogue(dice *d, const run *r, step *s);
 void damage_card(dice *d, const run *r, step *s);
 

@@ -16,13 +16,6 @@ void set_valid_state(play *p)
     random_state(&p->d, &p->r->lent, &drawn);
     octets_of_state(&drawn, s->octets);
     s->length = MCS_STATE_OCTETS;
-    for (uint32_t k = 0; k < REF_CLIENTS; k++) {
-        /* A yes may be any octet but 0. */
-        uint8_t *yes = s->octets + MCS_AT_CLIENT(k) + (one_in(&p->d, 2) ? MCS_IN_CONNECTED : MCS_IN_ENCRYPTED);
-        if (*yes != 0 && one_in(&p->d, 4)) {
-            *yes = (uint8_t)between(&p->d, 1, 255);
-        }
-    }
     take_step(p);
 }
 
@@ -87,6 +80,9 @@ void play_states(play *p)
         if (one_in(&p->d, 6)) {
             p->share = ANY_STATE;
             set_any_state(p);
+        } else if (one_in(&p->d, 5)) {
+            p->share = DAMAGED_STATE;
+            damage(p, 1, damage_truth);
         } else {
             p->share = DAMAGED_STATE;
             damage(p, few_times(p), damage_state);

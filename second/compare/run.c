@@ -110,14 +110,34 @@ static int states_stay(run *r, const uint8_t *octets, const ref_state *second)
     return 1;
 }
 
-static int same_states(run *r)
+/* A yes or no that is neither 1 nor 0 is refused with 201, before which 200 and 205 come. A start is lent no state to look at. */
+static int truths_are_plain(run *r, const step *s, const uint8_t *octets)
+{
+    uint32_t number = r->library_said.number;
+    uint32_t should = has_output(s) && s->room[0] < MCS_OUTPUT_OCTETS ? MCS_SMALL_OUTPUT : MCS_BAD_STATE;
+    if (!has_state(s) || s->kind == START || number == MCS_BAD_CATALOGUE || number == should || plain_truths(octets)) {
+        return 1;
+    }
+    return differs(r, "a yes or no that is neither 1 nor 0 is not refused with 201 in its turn");
+}
+
+/* After an accepted call the octets mean what the second program's state does; and where it changed nothing of what they mean,
+ * every octet is as it was, also those that mean nothing. */
+static int same_states(run *r, const step *s, const uint8_t *octets, const ref_state *second)
 {
     static ref_state meant;
     state_of_octets(r->octets, &meant);
     if (!same_meaning(&meant, &r->second, r->difference, sizeof r->difference)) {
         return 0;
     }
-    return plain_truths(r->octets) ? 1 : differs(r, "the library accepted, and wrote a yes other than 1");
+    r->unchanged = s->kind != START && same_meaning(second, &r->second, NULL, 0);
+    if (r->unchanged && !same_octets(r->octets, octets, MCS_STATE_OCTETS)) {
+        return differs(r, "a call of the library that changes nothing altered octets of the state");
+    }
+    if (r->unchanged && !same_octets(&r->second, second, sizeof *second)) {
+        return differs(r, "a call of the second program that changes nothing altered octets of the state");
+    }
+    return 1;
 }
 
 /* What the library left in its buffers. */
@@ -144,6 +164,7 @@ static int do_call(run *r, const step *s)
     lend_to_library(r, s, &library);
     memcpy(octets_before, r->octets, MCS_STATE_OCTETS);
     memcpy(&second_before, &r->second, sizeof r->second);
+    r->unchanged = 0;
 
     r->library_faulted = !unharmed(call_library, &library);
     r->second_faulted = !unharmed(call_second, &second);
@@ -154,10 +175,11 @@ static int do_call(run *r, const step *s)
     collect(r, s, &library);
     r->second_said.number = second.number;
 
-    if (!inputs_stay(r, s, &library) || !same_answers(r, s, &library)) {
+    if (!inputs_stay(r, s, &library) || !same_answers(r, s, &library) || !truths_are_plain(r, s, octets_before)) {
         return 0;
     }
-    return r->library_said.number != 0 || !has_state(s) ? states_stay(r, octets_before, &second_before) : same_states(r);
+    return r->library_said.number != 0 || !has_state(s) ? states_stay(r, octets_before, &second_before)
+                                                        : same_states(r, s, octets_before, &second_before);
 }
 
 int do_step(run *r, const step *s)

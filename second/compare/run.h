@@ -39,6 +39,7 @@ typedef struct {
     tables loaded;        /* by the second program's last card load */
     uint32_t starts[STARTS_ROOM]; /* by its last cue sheet */
     int library_faulted, second_faulted;
+    int unchanged; /* the last call was accepted, was no start, and left the meaning of the state as it was */
     answer library_said, second_said;
     char difference[256]; /* empty while there is none */
 } run;

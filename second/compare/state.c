@@ -38,8 +38,8 @@ void state_of_octets(const uint8_t octets[MCS_STATE_OCTETS], ref_state *s)
     for (uint32_t k = 0; k < REF_CLIENTS; k++) {
         const uint8_t *from = octets + MCS_AT_CLIENT(k);
         ref_client *c = &s->clients[k];
-        c->connected = from[MCS_IN_CONNECTED] != 0;
-        c->encrypted = from[MCS_IN_ENCRYPTED] != 0;
+        c->connected = from[MCS_IN_CONNECTED];
+        c->encrypted = from[MCS_IN_ENCRYPTED];
         c->mtu = word_at(from + MCS_IN_MTU);
         c->subscribed = word_at(from + MCS_IN_SUBSCRIBED);
         c->owed = word_at(from + MCS_IN_OWED);
@@ -98,7 +98,7 @@ int plain_truths(const uint8_t octets[MCS_STATE_OCTETS])
 
 static int says(const char *part, int64_t library, int64_t second, char *what, size_t room)
 {
-    if (library != second) {
+    if (library != second && what != NULL) {
         snprintf(what, room, "state: %s: library %lld, second %lld", part, (long long)library, (long long)second);
     }
     return library == second;
@@ -116,7 +116,7 @@ static int same_client(uint32_t who, const ref_client *library, const ref_client
         same = says("opcode of a result", library->results[k].opcode, second->results[k].opcode, what, room) &&
                says("code of a result", library->results[k].code, second->results[k].code, what, room);
     }
-    if (!same) {
+    if (!same && what != NULL) {
         snprintf(part, sizeof part, "%s", what);
         snprintf(what, room, "client %u: %s", (unsigned)who, part);
     }
@@ -128,7 +128,9 @@ int same_meaning(const ref_state *library, const ref_state *second, char *what, 
     int same = SAME(name_len) && SAME(mask) && SAME(ccid) && SAME(media) && SAME(order) && SAME(speed) && SAME(seeking) &&
                SAME(group) && SAME(track) && SAME(position) && SAME(turn);
     if (same && library->name_len <= REF_NAME_ROOM && memcmp(library->name, second->name, library->name_len) != 0) {
-        snprintf(what, room, "state: the octets of the name differ");
+        if (what != NULL) {
+            snprintf(what, room, "state: the octets of the name differ");
+        }
         return 0;
     }
     for (uint32_t k = 0; same && k < REF_CLIENTS; k++) {

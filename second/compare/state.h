@@ -7,8 +7,8 @@
 
 #include <stddef.h>
 
-/* What the octets mean. A yes of any octet but 0 becomes 1; a number of waiting results that the struct cannot hold becomes
- * the most that it holds, which is as wrong. */
+/* What the octets mean. An octet that says yes or no is taken as it is, also where it is neither 1 nor 0; a number of waiting
+ * results that the struct cannot hold becomes the most that it holds, which is as wrong. */
 void state_of_octets(const uint8_t octets[MCS_STATE_OCTETS], ref_state *s);
 void octets_of_state(const ref_state *s, uint8_t octets[MCS_STATE_OCTETS]);
 
@@ -16,11 +16,11 @@ void octets_of_state(const ref_state *s, uint8_t octets[MCS_STATE_OCTETS]);
 uint32_t word_at(const uint8_t *p);
 void put_word(uint8_t *p, uint32_t word);
 
-/* Whether both mean the same; where not, what differs is written to `what`. Octets of the name behind its length and
- * results that do not wait mean nothing. */
+/* Whether both mean the same; where not, what differs is written to `what`, unless that is null. Octets of the name behind its
+ * length and results that do not wait mean nothing. */
 int same_meaning(const ref_state *library, const ref_state *second, char *what, size_t room);
 
-/* Whether every yes or no is written as 1 or 0, as an accepted call does. */
+/* Whether every octet that says yes or no is 1 or 0. */
 int plain_truths(const uint8_t octets[MCS_STATE_OCTETS]);
 
 /* The characteristics of the slots, and those that may be read. */

@@ -10,7 +10,7 @@ use lib.ListN.{length, getD}
 use Rattle.ground.specs.Limits.{mostGroups, mostTracks, mostSegments, mostText, groupWords, trackWords, mostTitle}
 use Rattle.ground.proofs.Bounded.{all-at}
 use Rattle.ground.proofs.Cases.{and-left, and-right}
-use Rattle.catalogue_tables.specs.Tables.{groupCount, trackCount, parentOf, firstSegmentOf, segmentsIn, durationOf, titleOffsetOf, titleLengthOf, startsOf}
+use Rattle.catalogue_tables.specs.Tables.{groupCount, trackCount, parentOf, firstSegmentOf, segmentsIn, endOf, titleOffsetOf, titleLengthOf, startsOf}
 use Rattle.catalogue_rules.specs.Rules.{sizesRule, parentsRule, segmentRunsRule, beginRule, riseRule, belowRule, startsRight, startsRule, titlesPlacedRule, RunsInside, TitlesInside}
 use Rattle.catalogue_rules.proofs.Runs.{inside}
 
@@ -72,7 +72,7 @@ module _ (tracks segments : List ℕ) (good : startsRule tracks segments ≡ tru
   abbrev starts : List ℕ
   starts = startsOf tracks segments t
 
-  right : startsRight starts (durationOf tracks t) ≡ true
+  right : startsRight starts (endOf tracks t) ≡ true
   unfolding startsRule
   right = all-at _ (trackCount tracks) good t h
 
@@ -80,18 +80,18 @@ module _ (tracks segments : List ℕ) (good : startsRule tracks segments ≡ tru
   unfolding beginRule
   begins =
       eqb-true _ _ (and-left (beginRule starts) (riseRule starts)
-      (and-left (beginRule starts && riseRule starts) (belowRule starts (durationOf tracks t)) right))
+      (and-left (beginRule starts && riseRule starts) (belowRule starts (endOf tracks t)) right))
 
   pub rises : (i : ℕ) → i + 1 < length starts → getD starts i 0 < getD starts (i + 1) 0
   unfolding riseRule
   rises i l =
       ltb-true _ _ (all-at _ (length starts - 1) (and-right (beginRule starts) (riseRule starts)
-      (and-left (beginRule starts && riseRule starts) (belowRule starts (durationOf tracks t)) right)) i (omega arith))
+      (and-left (beginRule starts && riseRule starts) (belowRule starts (endOf tracks t)) right)) i (omega arith))
 
-  pub below : (i : ℕ) → i < length starts → getD starts i 0 < durationOf tracks t
+  pub below : (i : ℕ) → i < length starts → getD starts i 0 < endOf tracks t
   unfolding belowRule
   below i l =
-      ltb-true _ _ (all-at _ (length starts) (and-right (beginRule starts && riseRule starts) (belowRule starts (durationOf tracks t)) right) i l)
+      ltb-true _ _ (all-at _ (length starts) (and-right (beginRule starts && riseRule starts) (belowRule starts (endOf tracks t)) right) i l)
 
 module _ (tracks : List ℕ) (text : ℕ) (good : titlesPlacedRule tracks text ≡ true) where
   pub titles-inside : TitlesInside tracks text

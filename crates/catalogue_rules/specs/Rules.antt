@@ -9,7 +9,7 @@ use Rattle.ground.specs.Cases.{pick}
 use Rattle.ground.specs.Limits.{mostGroups, mostTracks, mostSegments, mostText, groupWords, trackWords, mostDuration, mostTitle}
 use Rattle.ground.specs.Lists.{allBelow, sumBelow}
 use Rattle.text.specs.Utf8.{textOf, isFine}
-use Rattle.catalogue_tables.specs.Tables.{groupCount, trackCount, parentOf, firstTrackOf, tracksIn, durationOf, firstSegmentOf, segmentsIn, titleOffsetOf, titleLengthOf, startsOf, titleOf}
+use Rattle.catalogue_tables.specs.Tables.{groupCount, trackCount, parentOf, firstTrackOf, tracksIn, durationOf, endOf, firstSegmentOf, segmentsIn, titleOffsetOf, titleLengthOf, startsOf, titleOf}
 
 -- of tables of these lengths: none "ends inside a record", and the limits
 unfoldable pub sizesRule : ℕ → ℕ → ℕ → ℕ → Bool
@@ -50,14 +50,14 @@ unfoldable pub riseRule : List ℕ → Bool
 riseRule starts = allBelow (length starts - 1) (λ i. ltb (getD starts i 0) (getD starts (i + 1) 0))
 
 unfoldable pub belowRule : List ℕ → ℕ → Bool
-belowRule starts duration = allBelow (length starts) (λ i. ltb (getD starts i 0) duration)
+belowRule starts end = allBelow (length starts) (λ i. ltb (getD starts i 0) end)
 
 abbrev pub startsRight : List ℕ → ℕ → Bool
-startsRight starts duration = beginRule starts && riseRule starts && belowRule starts duration
+startsRight starts end = beginRule starts && riseRule starts && belowRule starts end
 
 unfoldable pub startsRule : List ℕ → List ℕ → Bool
 startsRule tracks segments =
-    allBelow (trackCount tracks) (λ t. startsRight (startsOf tracks segments t) (durationOf tracks t))
+    allBelow (trackCount tracks) (λ t. startsRight (startsOf tracks segments t) (endOf tracks t))
 
 -- "Titles, also empty ones, lie in the text, have at most 128 octets"
 abbrev pub titlePlaced : ℕ → ℕ → ℕ → Bool

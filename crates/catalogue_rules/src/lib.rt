@@ -1,18 +1,17 @@
 // The rules of a catalogue, a function for each. Loops have no early exit: they are vector code, or at least branch-free.
 ghost use mathlib.Core.Path.{_≡_};
-ghost use mathlib.Core.Bool.{_&&_};
 ghost use Prim.Native.Nat.{ℕ, _+_, _*_, _<_, _≤_};
-ghost use lib.ListN.{length, getD};
+ghost use lib.ListN.{length};
 ghost use Rattle.catalogue_tables.specs.Tables.{wordIn};
-ghost use Rattle.catalogue_rules.specs.Rules.{sizesRule, parentRight, parentsRule, follow, durationsRule, beginRule, riseRule, belowRule, startsRight, startsRule, titlePlaced, titlesPlacedRule, titlesTextRule, RunsInside, TitlesInside};
+ghost use Rattle.catalogue_rules.specs.Rules.{sizesRule, parentRight, parentsRule, follow, durationsRule, riseRule, belowRule, startsRight, startsRule, titlesPlacedRule, titlesTextRule, RunsInside, TitlesInside};
 
 pub fn sizes_right(groups: usize, tracks: usize, segments: usize, text: usize) -> bool
     ensures { λ r. ⌜ r ≡ sizesRule groups tracks segments text ⌝ }
 {
-    (groups % 3 == 0)
-        & (tracks % 6 == 0)
-        & (groups / 3 <= ground::MOST_GROUPS)
-        & (tracks / 6 <= ground::MOST_TRACKS)
+    (groups % catalogue_tables::GROUP_WORDS == 0)
+        & (tracks % catalogue_tables::TRACK_WORDS == 0)
+        & (groups / catalogue_tables::GROUP_WORDS <= ground::MOST_GROUPS)
+        & (tracks / catalogue_tables::TRACK_WORDS <= ground::MOST_TRACKS)
         & (segments <= ground::MOST_SEGMENTS)
         & (text <= ground::MOST_TEXT)
 }
@@ -29,11 +28,12 @@ fn parent_right(group: usize, parent: usize) -> bool
 pub fn parents_right(groups: &[u32]) -> bool
     ensures { λ r. ⌜ r ≡ parentsRule (now (groups .entry)) ⌝ }
 {
-    let n = groups.len() / 3;
+    let n = groups.len() / catalogue_tables::GROUP_WORDS;
     let mut good = true;
     let mut i: usize = 0;
     while i < n {
-        let parent = ground::wide_word(groups[i * 3]);
+        let base = i * catalogue_tables::GROUP_WORDS;
+        let parent = ground::wide_word(groups[base + catalogue_tables::PARENT_AT]);
         let right = parent_right(i, parent);
         good = good & right;
         i += 1;
@@ -66,11 +66,12 @@ pub fn runs_right(table: &[u32], n: usize, width: usize, at: usize, total: usize
 pub fn durations_right(tracks: &[u32]) -> bool
     ensures { λ r. ⌜ r ≡ durationsRule (now (tracks .entry)) ⌝ }
 {
-    let n = tracks.len() / 6;
+    let n = tracks.len() / catalogue_tables::TRACK_WORDS;
     let mut good = true;
     let mut i: usize = 0;
     while i < n {
-        let duration = tracks[i * 6];
+        let base = i * catalogue_tables::TRACK_WORDS;
+        let duration = tracks[base + catalogue_tables::DURATION_AT];
         good = good & (duration <= ground::MOST_DURATION);
         i += 1;
     }
@@ -90,24 +91,24 @@ fn rises(starts: &[u32]) -> bool
     good
 }
 
-fn all_below(starts: &[u32], duration: u32) -> bool
-    ensures { λ r. ⌜ r ≡ belowRule (now (starts .entry)) duration ⌝ }
+fn all_below(starts: &[u32], end: u32) -> bool
+    ensures { λ r. ⌜ r ≡ belowRule (now (starts .entry)) end ⌝ }
 {
     let mut good = true;
     let mut i: usize = 0;
     while i < starts.len() {
-        good = good & (starts[i] < duration);
+        good = good & (starts[i] < end);
         i += 1;
     }
     good
 }
 
-fn starts_of_track_right(starts: &[u32], duration: u32) -> bool
-    ensures { λ r. ⌜ r ≡ startsRight (now (starts .entry)) duration ⌝ }
+fn starts_of_track_right(starts: &[u32], end: u32) -> bool
+    ensures { λ r. ⌜ r ≡ startsRight (now (starts .entry)) end ⌝ }
 {
     let begin = ground::word_or_zero(starts, 0);
     let rising = rises(starts);
-    let low = all_below(starts, duration);
+    let low = all_below(starts, end);
     (begin == 0) & rising & low
 }
 
@@ -115,15 +116,16 @@ pub fn starts_right(tracks: &[u32], segments: &[u32]) -> bool
     requires { ⌜ RunsInside (now tracks) (length (now segments)) ⌝ }
     ensures { λ r. ⌜ r ≡ startsRule (now (tracks .entry)) (now (segments .entry)) ⌝ }
 {
-    let n = tracks.len() / 6;
+    let n = tracks.len() / catalogue_tables::TRACK_WORDS;
     let mut good = true;
     let mut i: usize = 0;
     while i < n {
-        let base = i * 6;
-        let first = ground::wide_word(tracks[base + 2]);
-        let count = ground::wide_word(tracks[base + 3]);
+        let base = i * catalogue_tables::TRACK_WORDS;
+        let first = ground::wide_word(tracks[base + catalogue_tables::FIRST_SEGMENT_AT]);
+        let count = ground::wide_word(tracks[base + catalogue_tables::SEGMENT_COUNT_AT]);
         let end = first + count;
-        let right = starts_of_track_right(&segments[first..end], tracks[base]);
+        let duration = tracks[base + catalogue_tables::DURATION_AT];
+        let right = starts_of_track_right(&segments[first..end], duration);
         good = good & right;
         i += 1;
     }
@@ -133,13 +135,13 @@ pub fn starts_right(tracks: &[u32], segments: &[u32]) -> bool
 pub fn titles_placed(tracks: &[u32], text: usize) -> bool
     ensures { λ r. ⌜ r ≡ titlesPlacedRule (now (tracks .entry)) text ⌝ }
 {
-    let n = tracks.len() / 6;
+    let n = tracks.len() / catalogue_tables::TRACK_WORDS;
     let mut good = true;
     let mut i: usize = 0;
     while i < n {
-        let base = i * 6;
-        let offset = ground::wide_word(tracks[base + 4]);
-        let len = ground::wide_word(tracks[base + 5]);
+        let base = i * catalogue_tables::TRACK_WORDS;
+        let offset = ground::wide_word(tracks[base + catalogue_tables::TITLE_OFFSET_AT]);
+        let len = ground::wide_word(tracks[base + catalogue_tables::TITLE_LENGTH_AT]);
         let end = offset + len;
         good = good & ((end <= text) & (len <= ground::MOST_TITLE));
         i += 1;
@@ -151,13 +153,13 @@ pub fn titles_text(tracks: &[u32], text: &[u8]) -> bool
     requires { ⌜ TitlesInside (now tracks) (length (now text)) ⌝ }
     ensures { λ r. ⌜ r ≡ titlesTextRule (now (tracks .entry)) (now (text .entry)) ⌝ }
 {
-    let n = tracks.len() / 6;
+    let n = tracks.len() / catalogue_tables::TRACK_WORDS;
     let mut good = true;
     let mut i: usize = 0;
     while i < n {
-        let base = i * 6;
-        let offset = ground::wide_word(tracks[base + 4]);
-        let len = ground::wide_word(tracks[base + 5]);
+        let base = i * catalogue_tables::TRACK_WORDS;
+        let offset = ground::wide_word(tracks[base + catalogue_tables::TITLE_OFFSET_AT]);
+        let len = ground::wide_word(tracks[base + catalogue_tables::TITLE_LENGTH_AT]);
         let end = offset + len;
         let right = text::is_text(&text[offset..end]);
         good = good & right;

@@ -38,6 +38,10 @@ trackCount tracks = length tracks / trackWords
 abbrev pub durationOf : List ℕ → ℕ → ℕ
 durationOf tracks t = wordIn trackWords tracks t 0
 
+-- where a track ends: "the duration, D"
+abbrev pub endOf : List ℕ → ℕ → ℕ
+endOf tracks t = durationOf tracks t
+
 abbrev pub stampOf : List ℕ → ℕ → ℕ
 stampOf tracks t = wordIn trackWords tracks t 1
 

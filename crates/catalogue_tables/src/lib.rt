@@ -1,7 +1,7 @@
 // Views of a catalogue's tables. They take any words and any number: behind the end of a table stands 0.
 ghost use mathlib.Core.Path.{_≡_};
 ghost use Prim.Native.Nat.{min, _+_, _-_, _≤_};
-ghost use Rattle.catalogue_tables.specs.Tables.{wordIn, groupCount, trackCount, parentOf, firstTrackOf, tracksIn, durationOf, stampOf, firstSegmentOf, segmentsIn, titleOffsetOf, titleLengthOf, startsOf, titleOf};
+ghost use Rattle.catalogue_tables.specs.Tables.{wordIn, groupCount, trackCount, parentOf, firstTrackOf, tracksIn, durationOf, endOf, firstSegmentOf, segmentsIn, titleOffsetOf, titleLengthOf, startsOf, titleOf};
 
 // Group, track and segment numbers and hundredths are counted apart.
 pub struct GroupNo(pub u32);
@@ -9,8 +9,31 @@ pub struct GroupNo(pub u32);
 pub struct TrackNo(pub u32);
 
 pub struct SegmentNo(pub u32);
-// Hundredths of a second from the start of a track; its duration is the position of its end.
+// Hundredths of a second from the start of a track.
 pub struct Position(pub u32);
+
+// The words of a record of a group and of a track, and the place of each in it.
+pub const GROUP_WORDS: usize = 3;
+
+pub const PARENT_AT: usize = 0;
+
+pub const FIRST_TRACK_AT: usize = 1;
+
+pub const TRACK_COUNT_AT: usize = 2;
+
+pub const TRACK_WORDS: usize = 6;
+
+pub const DURATION_AT: usize = 0;
+
+pub const STAMP_AT: usize = 1;
+
+pub const FIRST_SEGMENT_AT: usize = 2;
+
+pub const SEGMENT_COUNT_AT: usize = 3;
+
+pub const TITLE_OFFSET_AT: usize = 4;
+
+pub const TITLE_LENGTH_AT: usize = 5;
 
 // A word of record i.
 fn word_in(table: &[u32], width: usize, i: u32, column: usize) -> u32
@@ -24,71 +47,72 @@ fn word_in(table: &[u32], width: usize, i: u32, column: usize) -> u32
 pub fn group_count(groups: &[u32]) -> usize
     ensures { λ r. ⌜ r ≡ groupCount (now (groups .entry)) ⌝ }
 {
-    groups.len() / 3
+    groups.len() / GROUP_WORDS
 }
 
 pub fn track_count(tracks: &[u32]) -> usize
     ensures { λ r. ⌜ r ≡ trackCount (now (tracks .entry)) ⌝ }
 {
-    tracks.len() / 6
+    tracks.len() / TRACK_WORDS
 }
 
 pub fn parent(groups: &[u32], g: GroupNo) -> GroupNo
     ensures { λ r. ⌜ r .0 ≡ parentOf (now (groups .entry)) (g .0) ⌝ }
 {
-    let x = word_in(groups, 3, g.0, 0);
+    let x = word_in(groups, GROUP_WORDS, g.0, PARENT_AT);
     GroupNo(x)
 }
 
 pub fn first_track(groups: &[u32], g: GroupNo) -> TrackNo
     ensures { λ r. ⌜ r .0 ≡ firstTrackOf (now (groups .entry)) (g .0) ⌝ }
 {
-    let x = word_in(groups, 3, g.0, 1);
+    let x = word_in(groups, GROUP_WORDS, g.0, FIRST_TRACK_AT);
     TrackNo(x)
 }
 
 pub fn tracks_in(groups: &[u32], g: GroupNo) -> u32
     ensures { λ r. ⌜ r ≡ tracksIn (now (groups .entry)) (g .0) ⌝ }
 {
-    word_in(groups, 3, g.0, 2)
+    word_in(groups, GROUP_WORDS, g.0, TRACK_COUNT_AT)
 }
 
 pub fn duration(tracks: &[u32], t: TrackNo) -> Position
     ensures { λ r. ⌜ r .0 ≡ durationOf (now (tracks .entry)) (t .0) ⌝ }
 {
-    let x = word_in(tracks, 6, t.0, 0);
+    let x = word_in(tracks, TRACK_WORDS, t.0, DURATION_AT);
     Position(x)
 }
 
-pub fn stamp(tracks: &[u32], t: TrackNo) -> u32
-    ensures { λ r. ⌜ r ≡ stampOf (now (tracks .entry)) (t .0) ⌝ }
+// D, the last position that a track has.
+pub fn end(tracks: &[u32], t: TrackNo) -> Position
+    ensures { λ r. ⌜ r .0 ≡ endOf (now (tracks .entry)) (t .0) ⌝ }
 {
-    word_in(tracks, 6, t.0, 1)
+    duration(tracks, t)
 }
 
 pub fn first_segment(tracks: &[u32], t: TrackNo) -> SegmentNo
     ensures { λ r. ⌜ r .0 ≡ firstSegmentOf (now (tracks .entry)) (t .0) ⌝ }
 {
-    let x = word_in(tracks, 6, t.0, 2);
+    let x = word_in(tracks, TRACK_WORDS, t.0, FIRST_SEGMENT_AT);
     SegmentNo(x)
 }
 
 pub fn segments_in(tracks: &[u32], t: TrackNo) -> u32
     ensures { λ r. ⌜ r ≡ segmentsIn (now (tracks .entry)) (t .0) ⌝ }
 {
-    word_in(tracks, 6, t.0, 3)
+    word_in(tracks, TRACK_WORDS, t.0, SEGMENT_COUNT_AT)
 }
 
 fn title_offset(tracks: &[u32], t: TrackNo) -> u32
     ensures { λ r. ⌜ r ≡ titleOffsetOf (now (tracks .entry)) (t .0) ⌝ }
 {
-    word_in(tracks, 6, t.0, 4)
+    word_in(tracks, TRACK_WORDS, t.0, TITLE_OFFSET_AT)
 }
 
 fn title_length(tracks: &[u32], t: TrackNo) -> u32
     ensures { λ r. ⌜ r ≡ titleLengthOf (now (tracks .entry)) (t .0) ⌝ }
 {
-    word_in(tracks, 6, t.0, 5)
+    word_in(tracks, TRACK_WORDS, t.0, TITLE_LENGTH_AT)
 }
 
 // The start and the end of a run, cut off at the end of its table.

@@ -11,10 +11,15 @@ use lib.ListN.{length, take, drop}
 use lib.Seq.{take-suc-set, take-append-le}
 use Rattle.ground.specs.Cases.{has}
 use Rattle.ground.specs.Lists.{allBelow}
-use Rattle.desk_slots.specs.Slots.{inter, onlySlots}
+use Rattle.desk_slots.specs.Slots.{inter, onlySlots, slotOf}
 use Rattle.desk_client.specs.declared.Client.{Client}
-use Rattle.desk_client.specs.Client.{mtuRight, mostResults, blankEntry, blankRule, connectedRule, clientRule, startClient, connectedClient}
+use Rattle.desk_client.specs.Client.{mtuRight, controlSlot, mostResults, blankEntry, blankRule, connectedRule, clientRule, startClient, connectedClient}
 use Rattle.desk_client.specs.Queue.{queueOf, pushed, popped}
+
+-- the control point's slot is the table's
+pub control-slot : slotOf 18 ≡ controlSlot
+unfolding slotOf
+control-slot = refl
 
 pub start-stands : clientRule startClient ≡ true
 unfolding clientRule blankRule startClient

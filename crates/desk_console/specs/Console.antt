@@ -2,14 +2,14 @@
 -- Assumes nothing.
 use mathlib.Core.Bool.{Bool, false, _&&_}
 use mathlib.Core.List.{List, [], _∷_, _++_}
-use Prim.Native.Nat.{ℕ, _+_}
-use lib.Dec.{eqb, ltb}
+use Prim.Native.Nat.{ℕ}
+use lib.Dec.{eqb}
 use Rattle.ground.specs.Refusals.{granted, Left, leaves, keeping, Row, answered}
-use Rattle.catalogue_tables.specs.Tables.{Tables, durationOf}
+use Rattle.catalogue_tables.specs.Tables.{Tables}
 use Rattle.player_state.specs.declared.Player.{Player}
 use Rattle.player_state.specs.Player.{playing, startedPlayer, renamed, deactivated}
 use Rattle.player_check.specs.Standing.{nameRow, groupRow}
-use Rattle.player_moves.specs.Clock.{advanced, activated}
+use Rattle.player_moves.specs.Clock.{staysBelow, advanced, activated}
 use Rattle.desk_state.specs.declared.Desk.{Desk}
 use Rattle.desk_state.specs.Desk.{startedDesk}
 use Rattle.desk_replies.specs.Replies.{lentRows, asked}
@@ -47,7 +47,7 @@ deactivateCall k d = asked k false d [] (becoming k d false (deactivated (d .pla
 -- "an advance in Playing stays below D"
 unfoldable pub quietAdvance : List ℕ → ℕ → Player → Bool
 quietAdvance tracks step p =
-    eqb (p .mode .media) playing && ltb (p .place .position .0 + step) (durationOf tracks (p .place .track .0))
+    eqb (p .mode .media) playing && staysBelow tracks step p
 
 unfoldable pub advanceCall : Tables → Desk → ℕ → Left Desk
 advanceCall k d step =

@@ -118,9 +118,8 @@ pub fn deactivate(
 fn is_quiet(tracks: &[u32], p: player_state::Player, step: u32) -> bool
     ensures { λ r. ⌜ r ≡ quietAdvance (now (tracks .entry)) step p ⌝ }
 {
-    let end = catalogue_tables::duration(tracks, p.place.track);
-    let to = (p.place.position.0 as u64) + (step as u64);
-    (p.mode.media == 1) & (to < (end.0 as u64))
+    let below = player_moves::stays_below(tracks, p, step);
+    (p.mode.media == player_state::PLAYING) & below
 }
 
 // A step of time.

@@ -9,6 +9,7 @@ use Rattle.ground.specs.Cases.{pick, within}
 use Rattle.ground.specs.Refusals.{granted, Left, leaves, Row, row}
 use Rattle.ground.specs.Words.{wordAt}
 use Rattle.catalogue_tables.specs.Tables.{Tables}
+use Rattle.desk_slots.specs.Table.{sizeOf}
 use Rattle.desk_slots.specs.Characteristics.{writables, isIn}
 use Rattle.player_opcodes.specs.Opcodes.{parameterLength}
 use Rattle.player_state.specs.declared.Player.{Player}
@@ -35,7 +36,7 @@ controlLength value =
 
 unfoldable pub lengthRight : ℕ → List ℕ → Bool
 lengthRight characteristic value =
-    pick (eqb characteristic 7) (eqb (length value) 4) (pick (eqb characteristic 18) (controlLength value) (eqb (length value) 1))
+    pick (eqb characteristic 18) (controlLength value) (eqb (length value) (sizeOf characteristic))
 
 -- 202, 203, 0x01, 0x03, 0x0F, 0x0D; 0x13, "order not 1..8"; 0x11, "write to 18 by a client with 8 results waiting"
 abbrev pub writeRows : ℕ → Bool → Bool → ℕ → ℕ → List ℕ → List Row
@@ -52,8 +53,8 @@ unfoldable pub numberOf : List ℕ → ℕ
 numberOf value = pick (eqb (length value) 5) (wordAt value 1) 0
 
 -- the player becomes q by a client's write, and every client is told
-abbrev pub told : Tables → Desk → ℕ → ℕ → Player → Desk
-told k d who characteristic q = settled (k .tracks) (k .text) (byWriter who characteristic) q d
+abbrev pub becomingBy : Tables → Desk → ℕ → ℕ → Player → Desk
+becomingBy k d who characteristic q = settled (k .tracks) (k .text) (byWriter who characteristic) q d
 
 -- a control write: what the opcode comes to, and its result for the writer
 abbrev pub withResult : ℕ → ℕ → ℕ → Desk → Desk
@@ -64,14 +65,14 @@ outcomeOf k d value = controlled (k .groups) (k .tracks) (k .segments) (firstOct
 
 unfoldable pub controlWritten : Tables → Desk → ℕ → List ℕ → Desk
 controlWritten k d who value =
-    withResult who (firstOctet value) (outcomeOf k d value .result) (told k d who 18 (outcomeOf k d value .player))
+    withResult who (firstOctet value) (outcomeOf k d value .result) (becomingBy k d who 18 (outcomeOf k d value .player))
 
 -- "7, 8, 15, 18 may be written"
 unfoldable pub written : Tables → Desk → ℕ → ℕ → List ℕ → Desk
 written k d who characteristic value =
-    pick (eqb characteristic 7) (told k d who 7 (positioned (k .tracks) (wordAt value 0) (d .player)))
-    (pick (eqb characteristic 8) (told k d who 8 (withSpeed (firstOctet value) (d .player)))
-    (pick (eqb characteristic 15) (told k d who 15 (withOrder (firstOctet value) (d .player)))
+    pick (eqb characteristic 7) (becomingBy k d who 7 (positioned (k .tracks) (wordAt value 0) (d .player)))
+    (pick (eqb characteristic 8) (becomingBy k d who 8 (withSpeed (firstOctet value) (d .player)))
+    (pick (eqb characteristic 15) (becomingBy k d who 15 (withOrder (firstOctet value) (d .player)))
     (controlWritten k d who value)))
 
 unfoldable pub writeCall : Tables → Desk → ℕ → ℕ → List ℕ → Left Desk

@@ -123,14 +123,10 @@ fn control_length(value: &[u8]) -> bool
 fn length_right(characteristic: u32, value: &[u8]) -> bool
     ensures { λ r. ⌜ r ≡ lengthRight characteristic (now (value .entry)) ⌝ }
 {
-    let n = value.len();
-    if characteristic == 7 {
-        return n == 4;
-    }
     if characteristic == 18 {
         return control_length(value);
     }
-    n == 1
+    value.len() == desk_slots::size_of(characteristic)
 }
 
 // The refusals of a write.

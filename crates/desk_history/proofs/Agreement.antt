@@ -33,7 +33,7 @@ use Rattle.desk_client.proofs.Kept.{kept-noted, kept-blank}
 use Rattle.desk_state.specs.declared.Desk.{Desk}
 use Rattle.desk_state.specs.Desk.{noClient, clientAt, clientsRule, deskRule, startedDesk, withClient}
 use Rattle.desk_state.proofs.Laws.{client-stands, turn-there, kept-client}
-use Rattle.desk_history.specs.Ledger.{Side, Ledger, nobody, opening, changing, told, becoming}
+use Rattle.desk_history.specs.Ledger.{Side, Ledger, nobody, opening, changing, noticing, becoming}
 use Rattle.desk_history.proofs.Likeness.{Like, like-start, like-noted}
 
 pub record Agrees (L : Ledger) (d : Desk) : Type 0 where
@@ -103,9 +103,9 @@ module _ (k : Tables) (L : Ledger) (d : Desk) (agrees : Agrees L d) (cause : Pla
         turn = agrees .turn;
         long = map-length (tells (d .player)) 0 (d .clients) ∙ agrees .long;
         side = λ c h.
-            subst (Like (told k (L .player) (f (L .player)) (cause (L .player)) c (L .side c)))
+            subst (Like (noticing k (L .player) (f (L .player)) (cause (L .player)) c (L .side c)))
             (sym (at-place (tells (d .player)) 0 c (d .clients) (subst (λ (n : ℕ). c < n) (sym (agrees .long)) h) ∙ ap (λ (n : ℕ). tells (d .player) n (clientAt (d .clients) c)) (zero-add c)))
-            (subst (λ (p : Player). Like (told k p (f p) (cause p) c (L .side c)) (tells (d .player) c (clientAt (d .clients) c))) (agrees .player)
+            (subst (λ (p : Player). Like (noticing k p (f p) (cause p) c (L .side c)) (tells (d .player) c (clientAt (d .clients) c))) (agrees .player)
             (like-noted (L .side c) (clientAt (d .clients) c) (agrees .side c h) k (d .player) (f (d .player)) (cause (d .player)) c));
       }
 
@@ -121,7 +121,7 @@ quiet-control k p q cause who =
     none false true s e = refl
     none false false s e = refl
 
--- 201: a record that is told keeps its rule
+-- 201: a record that is noticing keeps its rule
 told-stands : (c : Client) (due altered : ℕ) → has due controlSlot ≡ false → clientRule c ≡ true → clientRule (noted due altered c) ≡ true
 unfolding noted
 told-stands c due altered quiet rule =

@@ -20,8 +20,8 @@ use Rattle.desk_client.specs.Client.{controlSlot}
 use Rattle.desk_replies.specs.Replies.{stateRight}
 use Rattle.desk_history.specs.Calls.{Call, take}
 use Rattle.desk_history.specs.Ledger.{Ledger, owes, owedAny, nextIn}
-use Rattle.desk_history.specs.Rounds.{Answer, served}
-use Rattle.desk_history.specs.History.{octetsIn, answerIn, handedOut, ledgerAt, deskAt, given, Stays, allWritten, handedTo, allHanded, Among}
+use Rattle.desk_history.specs.Rounds.{Handout, countFor}
+use Rattle.desk_history.specs.History.{octetsIn, answerIn, handedOut, ledgerAt, deskAt, given, Stays, allWritten, handoutsTo, allHanded, Among}
 use Rattle.desk_history.proofs.Agreement.{Agrees}
 use Rattle.desk_history.proofs.Fairness.{in-time}
 use Rattle.desk_history.proofs.LedgerLaws.{ledgerSystem, laws, serves, slot-near}
@@ -50,22 +50,22 @@ module _ (k : Tables) (right : catalogueRule k ≡ true) (name : List ℕ) (name
   stands-always h = ok k right name named mask ccid h .1
 
   module _ (who s : ℕ) (client : who < clientCount) (slot : s < slotCount) (h ks : List Call) (stays : Stays k name mask ccid who s h ks) where
-    many-in-time : (j : ℕ) → j ≤ ledgerSystem k .backlog (ledger h) who s → bound * j ≤ length (given k name mask ccid h ks) → j ≤ served who s (firsts (bound * j) (given k name mask ccid h ks))
+    many-in-time : (j : ℕ) → j ≤ ledgerSystem k .backlog (ledger h) who s → bound * j ≤ length (given k name mask ccid h ks) → j ≤ countFor who s (firsts (bound * j) (given k name mask ccid h ks))
     many-in-time j waits enough =
-        subst (λ (l : List Answer). j ≤ served who s (firsts (bound * j) l)) (sym (given-is k right name named mask ccid h ks))
+        subst (λ (l : List Handout). j ≤ countFor who s (firsts (bound * j) l)) (sym (given-is k right name named mask ccid h ks))
         (in-time (ledgerSystem k) clientCount slotCount (laws k) who s client slot j ks (ledger h) (in-range k right name named mask ccid h) (keeps-on k right name named mask ccid who s h ks stays) waits
-        (subst (λ (l : List Answer). bound * j ≤ length l) (given-is k right name named mask ccid h ks) enough))
+        (subst (λ (l : List Handout). bound * j ≤ length l) (given-is k right name named mask ccid h ks) enough))
 
     -- "while a client stays connected and subscribed, a value owed to it is handed out by the 40th answered take from when it fell due"
-    pub value-by-the-40th : owed who s h ≡ true → bound ≤ length (given k name mask ccid h ks) → 1 ≤ served who s (firsts bound (given k name mask ccid h ks))
+    pub value-by-the-40th : owed who s h ≡ true → bound ≤ length (given k name mask ccid h ks) → 1 ≤ countFor who s (firsts bound (given k name mask ccid h ks))
     value-by-the-40th due enough = many-in-time 1 (owes-to (ledger h .side who) s due) enough
 
   -- "and its result at place k of its waiting results by the 40·k-th, though the other clients write without pause": the first j results that it is then
   -- handed are the j oldest that waited, in their order
   pub results-by-40-each : (who : ℕ) → who < clientCount → (h ks : List Call) → Stays k name mask ccid who controlSlot h ks
       → (j : ℕ) → j ≤ length (shown (ledger h .side who .waiting)) → bound * j ≤ length (given k name mask ccid h ks)
-      → (j ≤ served who controlSlot (firsts (bound * j) (given k name mask ccid h ks)))
-      × (firsts j (handedTo who controlSlot (firsts (bound * j) (given k name mask ccid h ks))) ≡ firsts j (shown (ledger h .side who .waiting)))
+      → (j ≤ countFor who controlSlot (firsts (bound * j) (given k name mask ccid h ks)))
+      × (firsts j (handoutsTo who controlSlot (firsts (bound * j) (given k name mask ccid h ks))) ≡ firsts j (shown (ledger h .side who .waiting)))
   results-by-40-each who client h ks stays j place enough =
       let timely = many-in-time who controlSlot client (omega arith) h ks stays j (results-backlog (ledger h .side who) j place) enough in
       (timely, oldest-first k right name named mask ccid who client h ks stays j (bound * j) place timely)
@@ -75,11 +75,11 @@ module _ (k : Tables) (right : catalogueRule k ≡ true) (name : List ℕ) (name
   once-in-order who client h = some-of k right name named mask ccid who client h
 
   -- "A value handed out is the present one": its first ATT_MTU − 3 octets, or the oldest result; "and nothing is handed out that is not owed"
-  pub present-and-owed : (h : List Call) (c : Call) (a : Answer) → handedOut k c (deskAt k name mask ccid h) ≡ some a
+  pub present-and-owed : (h : List Call) (c : Call) (a : Handout) → handedOut k c (deskAt k name mask ccid h) ≡ some a
       → (owed (a .client) (a .slot) h ≡ true) × (a .octets ≡ octetsIn k (ledger h .player) (ledger h .side (a .client)) (a .slot))
   present-and-owed h c a e =
       let w = serves k c (ledger h) a (sym (hands-at k right name named mask ccid c h) ∙ e) in
-      subst (λ (b : Answer). (owed (b .client) (b .slot) h ≡ true) × (b .octets ≡ octetsIn k (ledger h .player) (ledger h .side (b .client)) (b .slot))) (sym (w .is))
+      subst (λ (b : Handout). (owed (b .client) (b .slot) h ≡ true) × (b .octets ≡ octetsIn k (ledger h .player) (ledger h .side (b .client)) (b .slot))) (sym (w .is))
       (slot-near (ledger h) (in-range k right name named mask ccid h) (w .inside) .holds, refl)
 
   -- "A take lent 128 octets or more is answered whenever anything is owed to any client."

@@ -38,7 +38,7 @@ use Rattle.desk_state.proofs.Laws.{player-stands}
 use Rattle.desk_notices.specs.Owed.{byWriter}
 use Rattle.desk_replies.specs.Replies.{fronted, ofCharacteristic, caller}
 use Rattle.desk_exchange.specs.Read.{valueNow, readRows, afterRead, readCall}
-use Rattle.desk_exchange.specs.Write.{firstOctet, lengthRight, writeRows, numberOf, told, outcomeOf, controlWritten, written, writeCall}
+use Rattle.desk_exchange.specs.Write.{firstOctet, lengthRight, writeRows, numberOf, becomingBy, outcomeOf, controlWritten, written, writeCall}
 use Rattle.desk_history.specs.Ledger.{Side, Ledger, becoming, resulting, mayWrite, outcome, resultOf, controlWriting, writing}
 use Rattle.desk_history.proofs.Likeness.{Like, like-read, like-resulted}
 use Rattle.desk_history.proofs.Agreement.{Agrees, agree-changing, client-kept}
@@ -179,7 +179,7 @@ module _ (k : Tables) (right : catalogueRule k ≡ true) (L : Ledger) (d : Desk)
       L1 = becoming k (byWriter who 18) (outcome k L value .player) L
 
       e1 : Desk
-      e1 = told k d who 18 (outcomeOf k d value .player)
+      e1 = becomingBy k d who 18 (outcomeOf k d value .player)
 
       ok1 : Ok k L1 e1
       ok1 =
@@ -218,9 +218,9 @@ module _ (k : Tables) (right : catalogueRule k ≡ true) (L : Ledger) (d : Desk)
 
           chosenD : Bool → Bool → Bool → Desk
           chosenD x y z =
-              pick x (told k d who 7 (positioned (k .tracks) (wordAt value 0) (d .player)))
-              (pick y (told k d who 8 (withSpeed (firstOctet value) (d .player)))
-              (pick z (told k d who 15 (withOrder (firstOctet value) (d .player)))
+              pick x (becomingBy k d who 7 (positioned (k .tracks) (wordAt value 0) (d .player)))
+              (pick y (becomingBy k d who 8 (withSpeed (firstOctet value) (d .player)))
+              (pick z (becomingBy k d who 15 (withOrder (firstOctet value) (d .player)))
               (controlWritten k d who value)))
 
           ledgers : writing k L who c value ≡ chosenL p q r

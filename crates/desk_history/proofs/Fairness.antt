@@ -13,7 +13,7 @@ use lib.Dec.{eqb}
 use lib.ListN.{length, take}
 use Rattle.desk_slots.specs.Round.{dist}
 use Rattle.desk_slots.proofs.RoundLaws.{dist-cases, dist-range, dist-inj, dist-sub}
-use Rattle.desk_history.specs.Rounds.{Answer, isFor, served, System, prepend, answers, AllKeep, Laws}
+use Rattle.desk_history.specs.Rounds.{Handout, isFor, countFor, System, prepend, answers, AllKeep, Laws}
 
 -- all the way round
 dist-self : (n a : ℕ) → a < n → dist n a a ≡ n
@@ -44,7 +44,7 @@ module _ (S : System) (m n : ℕ) (L : Laws S m n) (c s : ℕ) (hc : c < m) (hs 
   unfolding potential
   same k st g kp e = rw (L .last-kept k st c s g kp e, L .slast-kept k st c s g kp e)
 
-  falls : (k : S .Call) (st : S .State) (a : Answer) → S .Good st → S .out k st ≡ some a → isFor c s a ≡ false → 1 ≤ S .backlog st c s
+  falls : (k : S .Call) (st : S .State) (a : Handout) → S .Good st → S .out k st ≡ some a → isFor c s a ≡ false → 1 ≤ S .backlog st c s
       → potential (S .step k st) < potential st
   unfolding potential
   falls k st a g e other w = go (eqb c (a .client)) refl (eqb s (a .slot)) refl
@@ -71,12 +71,12 @@ module _ (S : System) (m n : ℕ) (L : Laws S m n) (c s : ℕ) (hc : c < m) (hs 
       go true p false q = slot (eqb-true c (a .client) p) (eqb-false s (a .slot) q)
       go false p u q = client (eqb-false c (a .client) p)
 
-  -- from st on, with the answers l to come: of what waits now, the thing at place j, 0 the oldest, is served by the answer N, once N is as large as
+  -- from st on, with the answers l to come: of what waits now, the thing at place j, 0 the oldest, is countFor by the answer N, once N is as large as
   -- the potential
-  abbrev Timely : S .State → List Answer → Type 0
-  Timely st l = (j N : ℕ) → suc j ≤ S .backlog st c s → potential st + m * n * j ≤ N + m → N ≤ length l → suc j ≤ served c s (take N l)
+  abbrev Timely : S .State → List Handout → Type 0
+  Timely st l = (j N : ℕ) → suc j ≤ S .backlog st c s → potential st + m * n * j ≤ N + m → N ≤ length l → suc j ≤ countFor c s (take N l)
 
-  answered : (k : S .Call) (st : S .State) (a : Answer) (l : List Answer) → S .Good st → S .out k st ≡ some a
+  answered : (k : S .Call) (st : S .State) (a : Handout) (l : List Handout) → S .Good st → S .out k st ≡ some a
       → Timely (S .step k st) l → (t : Bool) → isFor c s a ≡ t → Timely st (a ∷ l)
   answered k st a l g e ih t p j zero w h le = omega (arith, potential-pos st g)
   answered k st a l g e ih false p j (suc N) w h le =
@@ -87,8 +87,8 @@ module _ (S : System) (m n : ℕ) (L : Laws S m n) (c s : ℕ) (hc : c < m) (hs 
       (suc-le-suc (ih j N (le-of-suc-le-suc (le-trans w (L .one-less k st a c s g e p)))
       (omega (arith, potential-pos st g, potential-le (S .step k st) (L .good k st g))) (le-of-suc-le-suc le)))
 
-  any-call : (k : S .Call) (st : S .State) (l : List Answer) → S .Good st → S .Keeps c s k st
-      → Timely (S .step k st) l → (o : Option Answer) → S .out k st ≡ o → Timely st (prepend o l)
+  any-call : (k : S .Call) (st : S .State) (l : List Handout) → S .Good st → S .Keeps c s k st
+      → Timely (S .step k st) l → (o : Option Handout) → S .out k st ≡ o → Timely st (prepend o l)
   any-call k st l g kp ih none e = λ j N w h le. ih j N (le-trans w (L .kept k st c s g kp e)) (rw (same k st g kp e) h) le
   any-call k st l g kp ih (some a) e = answered k st a l g e ih (isFor c s a) refl
 
@@ -97,8 +97,8 @@ module _ (S : System) (m n : ℕ) (L : Laws S m n) (c s : ℕ) (hc : c < m) (hs 
   timely (k ∷ ks) st g kp =
       any-call k st (answers S ks (S .step k st)) g (kp .0) (timely ks (S .step k st) (L .good k st g) (kp .1)) (S .out k st) refl
 
-  -- of what waits for client c at slot s, the k oldest things are served by the answer m * n * k
+  -- of what waits for client c at slot s, the k oldest things are countFor by the answer m * n * k
   pub in-time : (k : ℕ) (ks : List (S .Call)) (st : S .State) → S .Good st → AllKeep S c s ks st → k ≤ S .backlog st c s
-      → m * n * k ≤ length (answers S ks st) → k ≤ served c s (take (m * n * k) (answers S ks st))
+      → m * n * k ≤ length (answers S ks st) → k ≤ countFor c s (take (m * n * k) (answers S ks st))
   in-time zero ks st g kp w le = zero-le
   in-time (suc j) ks st g kp w le = timely ks st g kp j (m * n * suc j) w (omega (arith, potential-le st g)) le

@@ -29,8 +29,8 @@ use Rattle.desk_notices.specs.Owed.{noWriter, byWriter}
 use Rattle.desk_console.specs.Console.{nameRows, activateRows, quietAdvance}
 use Rattle.desk_exchange.specs.Write.{firstOctet}
 use Rattle.desk_history.specs.Calls.{Call, setName, activate, deactivate, advance, connect, disconnect, subscribe, unsubscribe, read, write, take}
-use Rattle.desk_history.specs.Ledger.{Side, Ledger, linked, nobody, mayConnect, asks, mayJoin, mayTake, changing, told, becoming, joining, leaving, resulting, behind, serving, owes, owedAny, nextIn, slotIn, servingNext, outcome, resultOf, controlWriting, mayWrite, writing, after}
-use Rattle.desk_history.specs.Rounds.{Answer, isFor, System, Laws}
+use Rattle.desk_history.specs.Ledger.{Side, Ledger, linked, nobody, mayConnect, asks, mayJoin, mayTake, changing, noticing, becoming, joining, leaving, resulting, behind, serving, owes, owedAny, nextIn, slotIn, servingNext, outcome, resultOf, controlWriting, mayWrite, writing, after}
+use Rattle.desk_history.specs.Rounds.{Handout, isFor, System, Laws}
 use Rattle.desk_history.specs.History.{answerIn, dueOut}
 use Rattle.desk_history.proofs.Serving.{backlog, owes-of, owed-any, any-owed}
 
@@ -62,7 +62,7 @@ by-slot s a b c d f g =
     ]
 
 module _ (s : ℕ) (x : Side) where
-  quiet-told : (k : Tables) (p q : Player) (cause : Cause) (who : ℕ) → Quiet s x (told k p q cause who x)
+  quiet-told : (k : Tables) (p q : Player) (cause : Cause) (who : ℕ) → Quiet s x (noticing k p q cause who x)
   quiet-told k p q cause who = (refl, by-slot s _ _ _ _ (λ e. le-refl _) (λ n. bit-up (x .due s) _))
 
   quiet-joining : (t : ℕ) → Quiet s x (joining t x)
@@ -120,7 +120,7 @@ module _ (c s : ℕ) where
   still-both L M N f g = (g .0 ∙ f .0, (g .1 .0 ∙ f .1 .0, omega (arith, f .1 .1, g .1 .1)))
 
 -- ---- a call that hands out nothing
-found : Option Answer → Bool
+found : Option Handout → Bool
 found none = false
 found (some a) = true
 
@@ -167,21 +167,21 @@ module _ (k : Tables) (c s : ℕ) where
       go false u h = still-same c s L
 
 -- ---- a call that hands out something is a take, and serves the next slot of the next client
-orElse : Answer → Option Answer → Answer
+orElse : Handout → Option Handout → Handout
 orElse a none = a
 orElse a (some b) = b
 
-pub record Serves (k : Tables) (call : Call) (L : Ledger) (a : Answer) : Type 0 where
+pub record Serves (k : Tables) (call : Call) (L : Ledger) (a : Handout) : Type 0 where
   pub is : a ≡ answerIn k L (nextIn L)
   pub inside : nextIn L < clientCount
   pub leaves : after k call L ≡ servingNext L (nextIn L)
 
 module _ (k : Tables) where
-  never : {A : Type 0} (a : Answer) → none ≡ some a → A
+  never : {A : Type 0} (a : Handout) → none ≡ some a → A
   unfolding found
   never a e = absurd (true≢false (sym (ap found e)))
 
-  pub serves : (call : Call) (L : Ledger) (a : Answer) → dueOut k call L ≡ some a → Serves k call L a
+  pub serves : (call : Call) (L : Ledger) (a : Handout) → dueOut k call L ≡ some a → Serves k call L a
   unfolding orElse found
   serves (setName name) L a e = never a e
   serves (activate g) L a e = never a e
@@ -284,7 +284,7 @@ module _ (x : Side) (t : ℕ) where
       (λ m. bit-kept (x .due s) (eqb t s) other)
 
 -- an answer that is not for slot s of client c is for another client, or for another slot
-not-for : (c s : ℕ) (a : Answer) → isFor c s a ≡ false → (c ≡ a .client → ⊥) ⊎ ((c ≡ a .client) × (s ≡ a .slot → ⊥))
+not-for : (c s : ℕ) (a : Handout) → isFor c s a ≡ false → (c ≡ a .client → ⊥) ⊎ ((c ≡ a .client) × (s ≡ a .slot → ⊥))
 not-for c s a e =
     elim (ℕ-discrete c (a .client)) [
       | no n ↦ inl n
@@ -358,7 +358,7 @@ module _ (k : Tables) where
       kept c h x y (inl e) l = subst (λ (n : ℕ). n < slotCount) (sym e) l
       kept c h x y (inr e) l = subst (λ (n : ℕ). n < slotCount) (sym e) (omega arith)
 
-      go : (o : Option Answer) → dueOut k call L ≡ o → InRange (after k call L)
+      go : (o : Option Handout) → dueOut k call L ≡ o → InRange (after k call L)
       go (some a) e =
           let w = serves k call L a e in
           subst InRange (sym (w .leaves)) (
@@ -372,25 +372,25 @@ module _ (k : Tables) where
           let m = marks k call L e in
           (subst (λ (n : ℕ). n < clientCount) (sym (m .0)) (g .0), λ c h. kept c h (L .side c) (after k call L .side c) (m .1 c) (g .1 c h))
 
-  taken : (call : Call) (L : Ledger) (a : Answer) (c s : ℕ) → InRange L → dueOut k call L ≡ some a → isFor c s a ≡ true
+  taken : (call : Call) (L : Ledger) (a : Handout) (c s : ℕ) → InRange L → dueOut k call L ≡ some a → isFor c s a ≡ true
       → backlog (L .side c) s ≤ suc (backlog (after k call L .side c) s)
   taken call L a c s g e f =
       let w = serves k call L a e in
       let b = for-both (eqb c (a .client)) (eqb s (a .slot)) f in
-      let who : c ≡ nextIn L = eqb-true c (a .client) (b .0) ∙ ap (λ (x : Answer). x .client) (w .is) in
-      let slot : s ≡ slotIn (L .side (nextIn L)) = eqb-true s (a .slot) (b .1) ∙ ap (λ (x : Answer). x .slot) (w .is) in
+      let who : c ≡ nextIn L = eqb-true c (a .client) (b .0) ∙ ap (λ (x : Handout). x .client) (w .is) in
+      let slot : s ≡ slotIn (L .side (nextIn L)) = eqb-true s (a .slot) (b .1) ∙ ap (λ (x : Handout). x .slot) (w .is) in
       subst (λ (M : Ledger). backlog (L .side c) s ≤ suc (backlog (M .side c) s)) (sym (w .leaves))
       (subst (λ (n : ℕ). backlog (L .side n) s ≤ suc (backlog (servingNext L (nextIn L) .side n) s)) (sym who)
       (subst (λ (x : Side). backlog (L .side (nextIn L)) s ≤ suc (backlog x s)) (sym (at-served L (nextIn L)))
       (subst (λ (t : ℕ). backlog (L .side (nextIn L)) t ≤ suc (backlog (serving (slotIn (L .side (nextIn L))) (L .side (nextIn L))) t)) (sym slot)
       (serving-takes (L .side (nextIn L)) (slotIn (L .side (nextIn L)))))))
 
-  kept-others : (call : Call) (L : Ledger) (a : Answer) (c s : ℕ) → InRange L → dueOut k call L ≡ some a → isFor c s a ≡ false
+  kept-others : (call : Call) (L : Ledger) (a : Handout) (c s : ℕ) → InRange L → dueOut k call L ≡ some a → isFor c s a ≡ false
       → backlog (L .side c) s ≤ backlog (after k call L .side c) s
   kept-others call L a c s g e f =
       let w = serves k call L a e in
-      let client = ap (λ (x : Answer). x .client) (w .is) in
-      let slot = ap (λ (x : Answer). x .slot) (w .is) in
+      let client = ap (λ (x : Handout). x .client) (w .is) in
+      let slot = ap (λ (x : Handout). x .slot) (w .is) in
       subst (λ (M : Ledger). backlog (L .side c) s ≤ backlog (M .side c) s) (sym (w .leaves))
       (⊎-elim
       (λ (n : c ≡ a .client → ⊥). subst (λ (x : Side). backlog (L .side c) s ≤ backlog x s) (sym (at-other L (nextIn L) c (λ q. n (q ∙ sym client)))) (le-refl _))
@@ -405,27 +405,27 @@ module _ (k : Tables) where
         good = in-range;
         last< = λ L g. g .0;
         slast< = λ L c g h. g .1 c h;
-        client< = λ call L a g e. let w = serves k call L a e in subst (λ (b : Answer). b .client < clientCount) (sym (w .is)) (w .inside);
+        client< = λ call L a g e. let w = serves k call L a e in subst (λ (b : Handout). b .client < clientCount) (sym (w .is)) (w .inside);
         slot< = λ call L a g e.
-            let w = serves k call L a e in subst (λ (b : Answer). b .slot < slotCount) (sym (w .is)) (slot-near L g (w .inside) .inside);
+            let w = serves k call L a e in subst (λ (b : Handout). b .slot < slotCount) (sym (w .is)) (slot-near L g (w .inside) .inside);
         first-client = λ call L a g e c s hc hs b.
             let w = serves k call L a e in
-            subst (λ (x : Answer). dist clientCount (L .turn) (x .client) ≤ dist clientCount (L .turn) c) (sym (w .is))
+            subst (λ (x : Handout). dist clientCount (L .turn) (x .client) ≤ dist clientCount (L .turn) c) (sym (w .is))
             (client-near L g (w .inside) c s hc hs (owes-of (L .side c) s b));
         first-slot = λ call L a g e s hs.
             let w = serves k call L a e in
-            subst (λ (x : Answer). 1 ≤ backlog (L .side (x .client)) s → dist slotCount (L .side (x .client) .last) (x .slot) ≤ dist slotCount (L .side (x .client) .last) s) (sym (w .is))
+            subst (λ (x : Handout). 1 ≤ backlog (L .side (x .client)) s → dist slotCount (L .side (x .client) .last) (x .slot) ≤ dist slotCount (L .side (x .client) .last) s) (sym (w .is))
             (λ b. slot-near L g (w .inside) .least s hs (owes-of (L .side (nextIn L)) s b));
         last-served = λ call L a g e.
-            let w = serves k call L a e in ap (λ (M : Ledger). M .turn) (w .leaves) ∙ sym (ap (λ (x : Answer). x .client) (w .is));
+            let w = serves k call L a e in ap (λ (M : Ledger). M .turn) (w .leaves) ∙ sym (ap (λ (x : Handout). x .client) (w .is));
         slast-served = λ call L a g e.
             let w = serves k call L a e in
-            subst (λ (x : Answer). after k call L .side (x .client) .last ≡ x .slot) (sym (w .is))
+            subst (λ (x : Handout). after k call L .side (x .client) .last ≡ x .slot) (sym (w .is))
             (ap (λ (M : Ledger). M .side (nextIn L) .last) (w .leaves) ∙ ap (λ (x : Side). x .last) (at-served L (nextIn L)));
         slast-other = λ call L a g e c n.
             let w = serves k call L a e in
             ap (λ (M : Ledger). M .side c .last) (w .leaves)
-            ∙ ap (λ (x : Side). x .last) (at-other L (nextIn L) c (λ q. n (q ∙ sym (ap (λ (x : Answer). x .client) (w .is)))));
+            ∙ ap (λ (x : Side). x .last) (at-other L (nextIn L) c (λ q. n (q ∙ sym (ap (λ (x : Handout). x .client) (w .is)))));
         last-kept = λ call L c s g kp e. still k c s call L e kp .0;
         slast-kept = λ call L c s g kp e. still k c s call L e kp .1 .0;
         one-less = λ call L a c s g e f. taken call L a c s g e f;

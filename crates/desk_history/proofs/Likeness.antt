@@ -25,7 +25,7 @@ use Rattle.desk_client.specs.Setters.{withSlots}
 use Rattle.desk_client.specs.Queue.{queueOf, withoutOldest}
 use Rattle.desk_client.specs.Duties.{joined, dropped, noted, wasRead, resulted, served}
 use Rattle.desk_client.proofs.SlotBySlot.{dropped-queue, noted-owed, resulted-none, resulted-is, resulted-queue, served-value, served-result, served-queue}
-use Rattle.desk_history.specs.Ledger.{Side, linked, nobody, told, joining, leaving, resulting, behind, serving}
+use Rattle.desk_history.specs.Ledger.{Side, linked, nobody, noticing, joining, leaving, resulting, behind, serving}
 
 pub record Like (x : Side) (c : Client) : Type 0 where
   pub on : c .connected ≡ x .on
@@ -100,7 +100,7 @@ module _ (x : Side) (c : Client) (like : Like x c) where
 
   -- what falls due by the players p and q
   pub like-noted : (k : Tables) (p q : Player) (cause : Cause) (who : ℕ)
-      → Like (told k p q cause who x) (noted (dueTo (k .tracks) (k .text) p q cause who) (alteredOf (k .tracks) (k .text) p q) c)
+      → Like (noticing k p q cause who x) (noted (dueTo (k .tracks) (k .text) p q cause who) (alteredOf (k .tracks) (k .text) p q) c)
   unfolding noted dueTo
   like-noted k p q cause who =
       record {

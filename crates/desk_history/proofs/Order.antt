@@ -14,8 +14,8 @@ use Rattle.desk_slots.specs.Slots.{clientCount}
 use Rattle.desk_client.specs.Client.{controlSlot}
 use Rattle.desk_history.specs.Calls.{Call}
 use Rattle.desk_history.specs.Ledger.{Ledger}
-use Rattle.desk_history.specs.Rounds.{Answer, isFor, served, prepend}
-use Rattle.desk_history.specs.History.{handedOut, resultBy, ledgerAt, deskAt, onward, given, Stays, allWritten, writtenIn, handedTo, allHanded, Among, stop, skip, keep}
+use Rattle.desk_history.specs.Rounds.{Handout, isFor, countFor, prepend}
+use Rattle.desk_history.specs.History.{handedOut, resultBy, ledgerAt, deskAt, onward, given, Stays, allWritten, writtenIn, handoutsTo, allHanded, Among, stop, skip, keep}
 use Rattle.desk_history.proofs.Results.{shown, Turn, adds, keeps, drops, hands, turn}
 use Rattle.desk_history.proofs.Agree.{hands-at, in-range, mtu-at}
 
@@ -29,24 +29,24 @@ front-of (suc j) [] y h = absurd (not-suc-le-zero h)
 front-of (suc j) (a ∷ x) y h = ap (λ (r : Lists). a ∷ r) (front-of j x y (le-of-suc-le-suc h))
 
 module _ (c s : ℕ) where
-  handed-append : (x y : List Answer) → handedTo c s (x ++ y) ≡ handedTo c s x ++ handedTo c s y
+  handed-append : (x y : List Handout) → handoutsTo c s (x ++ y) ≡ handoutsTo c s x ++ handoutsTo c s y
   handed-append [] y = refl
   handed-append (a ∷ x) y = go (isFor c s a) (handed-append x y)
     where
-      go : (t : Bool) → handedTo c s (x ++ y) ≡ handedTo c s x ++ handedTo c s y
-          → pick t (a .octets ∷ handedTo c s (x ++ y)) (handedTo c s (x ++ y)) ≡ pick t (a .octets ∷ handedTo c s x) (handedTo c s x) ++ handedTo c s y
+      go : (t : Bool) → handoutsTo c s (x ++ y) ≡ handoutsTo c s x ++ handoutsTo c s y
+          → pick t (a .octets ∷ handoutsTo c s (x ++ y)) (handoutsTo c s (x ++ y)) ≡ pick t (a .octets ∷ handoutsTo c s x) (handoutsTo c s x) ++ handoutsTo c s y
       go true e = ap (λ (r : Lists). a .octets ∷ r) e
       go false e = e
 
-  handed-prepend : (o : Option Answer) (l : List Answer) → handedTo c s (prepend o l) ≡ handedTo c s (prepend o []) ++ handedTo c s l
+  handed-prepend : (o : Option Handout) (l : List Handout) → handoutsTo c s (prepend o l) ≡ handoutsTo c s (prepend o []) ++ handoutsTo c s l
   handed-prepend none l = refl
   handed-prepend (some a) l = handed-append (a ∷ []) l
 
-  pub handed-served : (l : List Answer) → length (handedTo c s l) ≡ served c s l
+  pub handed-served : (l : List Handout) → length (handoutsTo c s l) ≡ countFor c s l
   handed-served [] = refl
   handed-served (a ∷ l) = go (isFor c s a) (handed-served l)
     where
-      go : (t : Bool) → length (handedTo c s l) ≡ served c s l → length (pick t (a .octets ∷ handedTo c s l) (handedTo c s l)) ≡ pick t (suc (served c s l)) (served c s l)
+      go : (t : Bool) → length (handoutsTo c s l) ≡ countFor c s l → length (pick t (a .octets ∷ handoutsTo c s l) (handoutsTo c s l)) ≡ pick t (suc (countFor c s l)) (countFor c s l)
       go true e = ap suc e
       go false e = e
 
@@ -80,11 +80,11 @@ module _ (k : Tables) (right : catalogueRule k ≡ true) (name : List ℕ) (name
   waits h = shown (L h .side who .waiting)
 
   abbrev out : Call → List Call → Lists
-  out c h = handedTo who controlSlot (prepend (handedOut k c (deskAt k name mask ccid h)) [])
+  out c h = handoutsTo who controlSlot (prepend (handedOut k c (deskAt k name mask ccid h)) [])
 
   a-turn : (c : Call) (h : List Call) → Turn (L h .side who .wants controlSlot) (L (c ∷ h) .side who .wants controlSlot) (waits h) (resultBy k who c (L h)) (out c h) (waits (c ∷ h))
   a-turn c h =
-      subst (λ (o : Option Answer). Turn (L h .side who .wants controlSlot) (L (c ∷ h) .side who .wants controlSlot) (waits h) (resultBy k who c (L h)) (handedTo who controlSlot (prepend o [])) (waits (c ∷ h)))
+      subst (λ (o : Option Handout). Turn (L h .side who .wants controlSlot) (L (c ∷ h) .side who .wants controlSlot) (waits h) (resultBy k who c (L h)) (handoutsTo who controlSlot (prepend o [])) (waits (c ∷ h)))
       (sym (hands-at k right name named mask ccid c h)) (turn k who c (L h) (in-range k right name named mask ccid h) (mtu-at k right name named mask ccid h who there))
 
   -- one call, while subscribed: what waited, with the call's own result, is what it hands out and what then waits
@@ -102,12 +102,12 @@ module _ (k : Tables) (right : catalogueRule k ≡ true) (name : List ℕ) (name
   still h (c ∷ ks) st = st .0
 
   pub in-order : (h ks : List Call) → Stays k name mask ccid who controlSlot h ks
-      → waits h ++ writtenIn k name mask ccid who h ks ≡ handedTo who controlSlot (given k name mask ccid h ks) ++ waits (onward k name mask ccid h ks)
+      → waits h ++ writtenIn k name mask ccid who h ks ≡ handoutsTo who controlSlot (given k name mask ccid h ks) ++ waits (onward k name mask ccid h ks)
   in-order h [] st = append-nil (waits h)
   in-order h (c ∷ ks) st =
       let r = resultBy k who c (L h) in
       let ws = writtenIn k name mask ccid who (c ∷ h) ks in
-      let gs = handedTo who controlSlot (given k name mask ccid (c ∷ h) ks) in
+      let gs = handoutsTo who controlSlot (given k name mask ccid (c ∷ h) ks) in
       let end = waits (onward k name mask ccid (c ∷ h) ks) in
       sym (append-assoc (waits h) r ws)
       ∙ ap (λ (l : Lists). l ++ ws) (in-turn c h (st .0) (still (c ∷ h) ks (st .1)))
@@ -118,16 +118,16 @@ module _ (k : Tables) (right : catalogueRule k ≡ true) (name : List ℕ) (name
 
   -- the first j that are handed out are the j oldest that wait, once there are so many among the first N answers
   pub oldest-first : (h ks : List Call) → Stays k name mask ccid who controlSlot h ks → (j N : ℕ) → j ≤ length (waits h)
-      → j ≤ served who controlSlot (firsts N (given k name mask ccid h ks))
-      → firsts j (handedTo who controlSlot (firsts N (given k name mask ccid h ks))) ≡ firsts j (waits h)
+      → j ≤ countFor who controlSlot (firsts N (given k name mask ccid h ks))
+      → firsts j (handoutsTo who controlSlot (firsts N (given k name mask ccid h ks))) ≡ firsts j (waits h)
   oldest-first h ks st j N w enough =
       let G = given k name mask ccid h ks in
       let end = waits (onward k name mask ccid h ks) in
-      let front = handedTo who controlSlot (firsts N G) in
-      let rest = handedTo who controlSlot (drop N G) in
+      let front = handoutsTo who controlSlot (firsts N G) in
+      let rest = handoutsTo who controlSlot (drop N G) in
       sym (front-of j front (rest ++ end) (subst (λ (n : ℕ). j ≤ n) (sym (handed-served who controlSlot (firsts N G))) enough))
       ∙ ap (firsts j) (sym (append-assoc front rest end))
-      ∙ ap (λ (l : Lists). firsts j (l ++ end)) (sym (ap (handedTo who controlSlot) (sym (take-append-drop N G)) ∙ handed-append who controlSlot (firsts N G) (drop N G)))
+      ∙ ap (λ (l : Lists). firsts j (l ++ end)) (sym (ap (handoutsTo who controlSlot) (sym (take-append-drop N G)) ∙ handed-append who controlSlot (firsts N G) (drop N G)))
       ∙ ap (firsts j) (sym (in-order h ks st))
       ∙ front-of j (waits h) (writtenIn k name mask ccid who h ks) w
 

@@ -31,9 +31,9 @@ use Rattle.desk_console.specs.Console.{nameRows, activateRows, quietAdvance}
 use Rattle.desk_exchange.specs.Write.{firstOctet, writeRows}
 use Rattle.desk_take.specs.Serving.{resultOctets}
 use Rattle.desk_history.specs.Calls.{Call, setName, activate, deactivate, advance, connect, disconnect, subscribe, unsubscribe, read, write, take}
-use Rattle.desk_history.specs.Ledger.{Side, Ledger, linked, nobody, changing, becoming, joining, leaving, resulting, behind, serving, some as any, owes, nextIn, slotIn, servingNext, mayConnect, asks, mayJoin, mayWrite, mayTake, outcome, resultOf, controlWriting, writing, after}
+use Rattle.desk_history.specs.Ledger.{Side, Ledger, linked, nobody, changing, becoming, joining, leaving, resulting, behind, serving, anyWaits as any, owes, nextIn, slotIn, servingNext, mayConnect, asks, mayJoin, mayWrite, mayTake, outcome, resultOf, controlWriting, writing, after}
 use Rattle.desk_history.specs.Rounds.{prepend}
-use Rattle.desk_history.specs.History.{oldest, octetsIn, answerIn, dueOut, resultBy, handedTo}
+use Rattle.desk_history.specs.History.{oldest, octetsIn, answerIn, dueOut, resultBy, handoutsTo}
 use Rattle.desk_history.proofs.LedgerLaws.{InRange, slot-near}
 
 -- results as they are handed out
@@ -172,7 +172,7 @@ module _ (k : Tables) (c : ℕ) where
 
   -- every call
   pub turn : (call : Call) (L : Ledger) → InRange L → 23 ≤ L .side c .mtu
-      → Turn (L .side c .wants controlSlot) (after k call L .side c .wants controlSlot) (shown (L .side c .waiting)) (resultBy k c call L) (handedTo c controlSlot (prepend (dueOut k call L) []))
+      → Turn (L .side c .wants controlSlot) (after k call L .side c .wants controlSlot) (shown (L .side c .waiting)) (resultBy k c call L) (handoutsTo c controlSlot (prepend (dueOut k call L) []))
       (shown (after k call L .side c .waiting))
   turn (setName name) L g m = by-test c (accepted (nameRows name)) (becoming k (noWriter false) (renamed name (L .player)) L) L (becoming-turn c k (noWriter false) (renamed name (L .player)) L)
   turn (activate n) L g m =
@@ -196,7 +196,7 @@ module _ (k : Tables) (c : ℕ) where
     where
       go : (t u : Bool) → leb clientCount (nextIn L) ≡ u
           → Turn (L .side c .wants controlSlot) (pick t (pick u L (servingNext L (nextIn L))) L .side c .wants controlSlot) (shown (L .side c .waiting)) []
-          (handedTo c controlSlot (prepend (pick t (pick u none (some (answerIn k L (nextIn L)))) none) [])) (shown (pick t (pick u L (servingNext L (nextIn L))) L .side c .waiting))
+          (handoutsTo c controlSlot (prepend (pick t (pick u none (some (answerIn k L (nextIn L)))) none) [])) (shown (pick t (pick u L (servingNext L (nextIn L))) L .side c .waiting))
       go true true e = same c L
       go true false e = hands refl (who (ℕ-discrete c (nextIn L)))
         where

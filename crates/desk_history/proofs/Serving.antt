@@ -15,7 +15,7 @@ use Rattle.desk_slots.specs.Slots.{slotCount}
 use Rattle.desk_client.specs.declared.Entry.{Entry}
 use Rattle.desk_client.specs.Client.{controlSlot}
 use Rattle.desk_take.specs.Serving.{resultOctets}
-use Rattle.desk_history.specs.Ledger.{Side, some as any, owes, anyBelow, owedAny}
+use Rattle.desk_history.specs.Ledger.{Side, anyWaits as any, owes, anyBelow, owedAny}
 
 -- how many things wait at a slot
 abbrev pub backlog : Side → ℕ → ℕ

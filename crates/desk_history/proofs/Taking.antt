@@ -40,7 +40,7 @@ use Rattle.desk_state.proofs.Laws.{player-stands, turn-there}
 use Rattle.desk_take.specs.Serving.{nextSlot, resultOctets, presentOctets, handedOctets, handedValues, afterServing}
 use Rattle.desk_take.specs.Take.{owedSets, nextClient, withServed, takenBy, takeCall, takeOctets}
 use Rattle.desk_take.proofs.Laws.{set-of}
-use Rattle.desk_history.specs.Ledger.{Side, Ledger, serving, some as any, owes, owedAny, nextIn, slotIn, servingNext, taking, mayTake}
+use Rattle.desk_history.specs.Ledger.{Side, Ledger, serving, anyWaits as any, owes, owedAny, nextIn, slotIn, servingNext, taking, mayTake}
 use Rattle.desk_history.specs.History.{oldest, octetsIn, answerIn, spoken}
 use Rattle.desk_history.proofs.Likeness.{Like, like-served}
 use Rattle.desk_history.proofs.Steps.{Ok, ok-call, guard, like, rule}

@@ -22,7 +22,7 @@ use Rattle.desk_take.specs.Serving.{resultOctets}
 use Rattle.desk_take.specs.Take.{takeCall, takeOctets}
 use Rattle.desk_history.specs.Calls.{Call, setName, activate, deactivate, advance, connect, disconnect, subscribe, unsubscribe, read, write, take, left}
 use Rattle.desk_history.specs.Ledger.{Side, Ledger, opening, after, nextIn, slotIn, mayWrite, mayTake, resultOf}
-use Rattle.desk_history.specs.Rounds.{Answer, isFor, prepend}
+use Rattle.desk_history.specs.Rounds.{Handout, isFor, prepend}
 
 -- by the rules: "the present value, its first ATT_MTU − 3"; of 18 the oldest result
 abbrev pub oldest : List Entry → List ℕ
@@ -32,12 +32,12 @@ oldest (e ∷ l) = resultOctets e
 abbrev pub octetsIn : Tables → Player → Side → ℕ → List ℕ
 octetsIn k p x s = firsts (x .mtu - 3) (pick (eqb s controlSlot) (oldest (x .waiting)) (valueOf (k .tracks) (k .text) p (characteristicOf s)))
 
-abbrev pub answerIn : Tables → Ledger → ℕ → Answer
+abbrev pub answerIn : Tables → Ledger → ℕ → Handout
 answerIn k L who =
     record { client = who; slot = slotIn (L .side who); octets = octetsIn k (L .player) (L .side who) (slotIn (L .side who)) }
 
 -- a take of enough room hands out the next thing that is owed, if anything is; no other call hands out anything
-abbrev pub dueOut : Tables → Call → Ledger → Option Answer
+abbrev pub dueOut : Tables → Call → Ledger → Option Handout
 dueOut k (setName name) L = none
 dueOut k (activate g) L = none
 dueOut k deactivate L = none
@@ -51,14 +51,14 @@ dueOut k (write who c value) L = none
 dueOut k (take room) L = pick (mayTake room) (pick (leb clientCount (nextIn L)) none (some (answerIn k L (nextIn L)))) none
 
 -- by the desk: what a take says, and the octets that it puts over the front of the output
-abbrev pub spoken : List ℕ → List ℕ → Option Answer
+abbrev pub spoken : List ℕ → List ℕ → Option Handout
 spoken [] octets = none
 spoken (a ∷ []) octets = none
 spoken (a ∷ b ∷ []) octets = none
 spoken (who ∷ characteristic ∷ n ∷ []) octets = some (record { client = who; slot = slotOf characteristic; octets = octets })
 spoken (a ∷ b ∷ c ∷ d ∷ l) octets = none
 
-abbrev pub handedOut : Tables → Call → Desk → Option Answer
+abbrev pub handedOut : Tables → Call → Desk → Option Handout
 handedOut k (setName name) d = none
 handedOut k (activate g) d = none
 handedOut k deactivate d = none
@@ -101,7 +101,7 @@ module _ (k : Tables) (name : List ℕ) (mask ccid : ℕ) where
   onward h [] = h
   onward h (c ∷ ks) = onward (c ∷ h) ks
 
-  abbrev pub given : List Call → List Call → List Answer
+  abbrev pub given : List Call → List Call → List Handout
   given h [] = []
   given h (c ∷ ks) = prepend (handedOut k c (deskAt h)) (given (c ∷ h) ks)
 
@@ -121,14 +121,14 @@ module _ (k : Tables) (name : List ℕ) (mask ccid : ℕ) where
   writtenIn who h (c ∷ ks) = resultBy k who c (ledgerAt h) ++ writtenIn who (c ∷ h) ks
 
 -- what these answers hand to client who at slot s
-abbrev pub handedTo : ℕ → ℕ → List Answer → List (List ℕ)
-handedTo who s [] = []
-handedTo who s (a ∷ l) = pick (isFor who s a) (a .octets ∷ handedTo who s l) (handedTo who s l)
+abbrev pub handoutsTo : ℕ → ℕ → List Handout → List (List ℕ)
+handoutsTo who s [] = []
+handoutsTo who s (a ∷ l) = pick (isFor who s a) (a .octets ∷ handoutsTo who s l) (handoutsTo who s l)
 
 module _ (k : Tables) (name : List ℕ) (mask ccid : ℕ) where
   abbrev pub allHanded : ℕ → List Call → List (List ℕ)
   allHanded who [] = []
-  allHanded who (c ∷ h) = allHanded who h ++ handedTo who controlSlot (prepend (handedOut k c (deskAt k name mask ccid h)) [])
+  allHanded who (c ∷ h) = allHanded who h ++ handoutsTo who controlSlot (prepend (handedOut k c (deskAt k name mask ccid h)) [])
 
 -- l is m with some of it left out: the same things, each at most once, in the same order
 pub data Among : List (List ℕ) → List (List ℕ) → Type 0 where

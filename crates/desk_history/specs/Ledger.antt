@@ -64,8 +64,8 @@ changing who f L =
     record { player = L .player; side = λ c. pick (eqb c who) (f (L .side c)) (L .side c); turn = L .turn }
 
 -- "A slot is owed to a subscribed client when a call changes its value": whatever was owed stays owed
-abbrev pub told : Tables → Player → Player → Cause → ℕ → Side → Side
-told k p q cause who x =
+abbrev pub noticing : Tables → Player → Player → Cause → ℕ → Side → Side
+noticing k p q cause who x =
     record {
       on = x .on;
       safe = x .safe;
@@ -81,7 +81,7 @@ told k p q cause who x =
     }
 
 abbrev pub becoming : Tables → Cause → Player → Ledger → Ledger
-becoming k cause q L = record { player = q; side = λ c. told k (L .player) q cause c (L .side c); turn = L .turn }
+becoming k cause q L = record { player = q; side = λ c. noticing k (L .player) q cause c (L .side c); turn = L .turn }
 
 -- subscribing and unsubscribing: "Unsubscribing drops what the slot owes"
 abbrev pub joining : ℕ → Side → Side
@@ -140,12 +140,12 @@ serving s x =
     }
 
 -- a slot is owed: 18 when results wait, another when its value is
-abbrev pub some : {A : Type 0} → List A → Bool
-some [] = false
-some (e ∷ l) = true
+abbrev pub anyWaits : {A : Type 0} → List A → Bool
+anyWaits [] = false
+anyWaits (e ∷ l) = true
 
 abbrev pub owes : Side → ℕ → Bool
-owes x s = pick (eqb s controlSlot) (some (x .waiting)) (x .due s)
+owes x s = pick (eqb s controlSlot) (anyWaits (x .waiting)) (x .due s)
 
 unfoldable pub anyBelow : ℕ → (ℕ → Bool) → Bool
 anyBelow zero test = false

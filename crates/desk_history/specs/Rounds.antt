@@ -10,18 +10,18 @@ use Rattle.ground.specs.Cases.{pick}
 use Rattle.desk_slots.specs.Round.{dist}
 
 -- "An answered take is one that serves a slot": the client, the slot, and the octets handed out
-pub record Answer : Type 0 where
+pub record Handout : Type 0 where
   pub client : ℕ
   pub slot : ℕ
   pub octets : List ℕ
 
-abbrev pub isFor : ℕ → ℕ → Answer → Bool
+abbrev pub isFor : ℕ → ℕ → Handout → Bool
 isFor c s a = eqb c (a .client) && eqb s (a .slot)
 
 -- how many of these answers are for slot s of client c
-abbrev pub served : ℕ → ℕ → List Answer → ℕ
-served c s [] = 0
-served c s (a ∷ l) = pick (isFor c s a) (suc (served c s l)) (served c s l)
+abbrev pub countFor : ℕ → ℕ → List Handout → ℕ
+countFor c s [] = 0
+countFor c s (a ∷ l) = pick (isFor c s a) (suc (countFor c s l)) (countFor c s l)
 
 -- one more in front, where there is one
 abbrev pub prepend : {A : Type 0} → Option A → List A → List A
@@ -33,10 +33,10 @@ pub record System : Type 1 where
   pub State : Type 0
   pub Call : Type 0
   pub step : Call → State → State
-  pub out : Call → State → Option Answer
+  pub out : Call → State → Option Handout
   -- how many things wait for client c at slot s: 0 or 1 where a value does, as many as there are where results do
   pub backlog : State → ℕ → ℕ → ℕ
-  -- the client served last; of client c, the slot served last
+  -- the client countFor last; of client c, the slot countFor last
   pub last : State → ℕ
   pub slast : State → ℕ → ℕ
   -- the call, made in this state, does not end c's interest in s
@@ -45,7 +45,7 @@ pub record System : Type 1 where
 
 module _ (S : System) where
   -- the answers of these calls, first call first
-  abbrev pub answers : List (S .Call) → S .State → List Answer
+  abbrev pub answers : List (S .Call) → S .State → List Handout
   answers [] st = []
   answers (k ∷ ks) st = prepend (S .out k st) (answers ks (S .step k st))
 
@@ -58,25 +58,25 @@ module _ (S : System) where
     pub good : (k : S .Call) (st : S .State) → S .Good st → S .Good (S .step k st)
     pub last< : (st : S .State) → S .Good st → S .last st < m
     pub slast< : (st : S .State) (c : ℕ) → S .Good st → c < m → S .slast st c < n
-    -- an answer is for the first client after the last one served that anything waits for, and for the first slot after the last one served to it
-    pub client< : (k : S .Call) (st : S .State) (a : Answer) → S .Good st → S .out k st ≡ some a → a .client < m
-    pub slot< : (k : S .Call) (st : S .State) (a : Answer) → S .Good st → S .out k st ≡ some a → a .slot < n
-    pub first-client : (k : S .Call) (st : S .State) (a : Answer) → S .Good st → S .out k st ≡ some a
+    -- an answer is for the first client after the last one countFor that anything waits for, and for the first slot after the last one countFor to it
+    pub client< : (k : S .Call) (st : S .State) (a : Handout) → S .Good st → S .out k st ≡ some a → a .client < m
+    pub slot< : (k : S .Call) (st : S .State) (a : Handout) → S .Good st → S .out k st ≡ some a → a .slot < n
+    pub first-client : (k : S .Call) (st : S .State) (a : Handout) → S .Good st → S .out k st ≡ some a
         → (c s : ℕ) → c < m → s < n → 1 ≤ S .backlog st c s → dist m (S .last st) (a .client) ≤ dist m (S .last st) c
-    pub first-slot : (k : S .Call) (st : S .State) (a : Answer) → S .Good st → S .out k st ≡ some a
+    pub first-slot : (k : S .Call) (st : S .State) (a : Handout) → S .Good st → S .out k st ≡ some a
         → (s : ℕ) → s < n → 1 ≤ S .backlog st (a .client) s → dist n (S .slast st (a .client)) (a .slot) ≤ dist n (S .slast st (a .client)) s
     -- the marks move to what was handed out, and to nothing else
-    pub last-served : (k : S .Call) (st : S .State) (a : Answer) → S .Good st → S .out k st ≡ some a → S .last (S .step k st) ≡ a .client
-    pub slast-served : (k : S .Call) (st : S .State) (a : Answer) → S .Good st → S .out k st ≡ some a → S .slast (S .step k st) (a .client) ≡ a .slot
-    pub slast-other : (k : S .Call) (st : S .State) (a : Answer) → S .Good st → S .out k st ≡ some a
+    pub last-served : (k : S .Call) (st : S .State) (a : Handout) → S .Good st → S .out k st ≡ some a → S .last (S .step k st) ≡ a .client
+    pub slast-served : (k : S .Call) (st : S .State) (a : Handout) → S .Good st → S .out k st ≡ some a → S .slast (S .step k st) (a .client) ≡ a .slot
+    pub slast-other : (k : S .Call) (st : S .State) (a : Handout) → S .Good st → S .out k st ≡ some a
         → (c : ℕ) → (c ≡ a .client → ⊥) → S .slast (S .step k st) c ≡ S .slast st c
     pub last-kept : (k : S .Call) (st : S .State) (c s : ℕ) → S .Good st → S .Keeps c s k st → S .out k st ≡ none → S .last (S .step k st) ≡ S .last st
     pub slast-kept : (k : S .Call) (st : S .State) (c s : ℕ) → S .Good st → S .Keeps c s k st → S .out k st ≡ none
         → S .slast (S .step k st) c ≡ S .slast st c
     -- an answer takes one thing from where it was handed out; nothing else that waits is lost while the interest in it is kept
-    pub one-less : (k : S .Call) (st : S .State) (a : Answer) (c s : ℕ) → S .Good st → S .out k st ≡ some a → isFor c s a ≡ true
+    pub one-less : (k : S .Call) (st : S .State) (a : Handout) (c s : ℕ) → S .Good st → S .out k st ≡ some a → isFor c s a ≡ true
         → S .backlog st c s ≤ suc (S .backlog (S .step k st) c s)
-    pub others-kept : (k : S .Call) (st : S .State) (a : Answer) (c s : ℕ) → S .Good st → S .out k st ≡ some a → isFor c s a ≡ false
+    pub others-kept : (k : S .Call) (st : S .State) (a : Handout) (c s : ℕ) → S .Good st → S .out k st ≡ some a → isFor c s a ≡ false
         → S .backlog st c s ≤ S .backlog (S .step k st) c s
     pub kept : (k : S .Call) (st : S .State) (c s : ℕ) → S .Good st → S .Keeps c s k st → S .out k st ≡ none
         → S .backlog st c s ≤ S .backlog (S .step k st) c s

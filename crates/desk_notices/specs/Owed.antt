@@ -8,7 +8,7 @@ use Rattle.ground.specs.Cases.{has}
 use Rattle.ground.specs.Lists.{mapFrom}
 use Rattle.player_state.specs.declared.Player.{Player}
 use Rattle.desk_slots.specs.Slots.{slotCount, clientCount, characteristicOf}
-use Rattle.desk_slots.specs.Characteristics.{setOf}
+use Rattle.desk_slots.specs.Characteristics.{writerKnows, isIn, setOf}
 use Rattle.desk_client.specs.declared.Client.{Client}
 use Rattle.desk_client.specs.Duties.{noted}
 use Rattle.desk_notices.specs.Changes.{changed, trackChanged}
@@ -23,7 +23,7 @@ fallsDue altered track characteristic = altered || (track && (eqb characteristic
 unfoldable pub spared : Cause → ℕ → ℕ → Bool
 spared cause who characteristic =
     (cause .quiet && eqb characteristic 7)
-    || (eqb who (cause .writer) && eqb characteristic (cause .wrote) && (eqb characteristic 8 || eqb characteristic 15))
+    || (eqb who (cause .writer) && eqb characteristic (cause .wrote) && isIn writerKnows characteristic)
 
 -- the slots that fall due to a client, when the call found the player p and left q
 unfoldable pub dueTo : List ℕ → List ℕ → Player → Player → Cause → ℕ → ℕ
@@ -37,8 +37,8 @@ falls altered track cause who s =
     fallsDue (has altered (characteristicOf s)) track (characteristicOf s) && not (spared cause who (characteristicOf s))
 
 -- a record is told what changed
-abbrev pub told : ℕ → Bool → Cause → ℕ → Client → Client
-told altered track cause who c = noted (setOf slotCount (falls altered track cause who)) altered c
+abbrev pub noticed : ℕ → Bool → Cause → ℕ → Client → Client
+noticed altered track cause who c = noted (setOf slotCount (falls altered track cause who)) altered c
 
 -- "some call changed the value": for the changed marks, whoever is spared
 unfoldable pub alteredOf : List ℕ → List ℕ → Player → Player → ℕ

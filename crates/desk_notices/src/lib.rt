@@ -10,7 +10,7 @@ ghost use Rattle.desk_notices.specs.Changes.{sameOctets, changed, trackN
 ghost use Rattle.desk_slots.specs.Characteristics.{setOf};
 ghost use Rattle.ground.specs.Lists.{mapFrom};
 ghost use Rattle.desk_slots.specs.Slots.{slotCount};
-ghost use Rattle.desk_notices.specs.Owed.{spared, falls, told, settled, noWriter, byWriter};
+ghost use Rattle.desk_notices.specs.Owed.{spared, falls, noticed, settled, noWriter, byWriter};
 
 pub fn same(a: &[u8], b: &[u8]) -> bool
     ensures { λ r. ⌜ r ≡ sameOctets (now (a .entry)) (now (b .entry)) ⌝ }
@@ -159,7 +159,8 @@ pub struct Cause {
 fn is_spared(cause: Cause, who: u32, c: u32) -> bool
     ensures { λ r. ⌜ r ≡ spared cause who c ⌝ }
 {
-    (cause.quiet & (c == 7)) | ((who == cause.writer) & (c == cause.wrote) & ((c == 8) | (c == 15)))
+    let knows = desk_slots::writer_knows(c);
+    (cause.quiet & (c == 7)) | ((who == cause.writer) & (c == cause.wrote) & knows)
 }
 
 // The slots that fall due to a client: `altered` are the characteristics that changed, `track` says whether the track did.
@@ -185,7 +186,7 @@ fn note_all(
     track: bool,
     cause: Cause,
 ) -> [desk_client::Client; 4]
-    ensures { λ r. ⌜ r ≡ mapFrom (told altered track cause) 0 clients ⌝ }
+    ensures { λ r. ⌜ r ≡ mapFrom (noticed altered track cause) 0 clients ⌝ }
 {
     let mut out = clients;
     let mut i: usize = 0;

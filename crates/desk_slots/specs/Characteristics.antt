@@ -1,24 +1,25 @@
--- The characteristics (document 01, "What the player does"), by "the last part of their section number in 001".
+-- Lists of the characteristics, and sets of them as words of bits.
 -- Assumes nothing.
-use mathlib.Core.Bool.{Bool, false, _||_}
+use mathlib.Core.Bool.{Bool, true, false, _||_}
 use mathlib.Core.List.{List, [], _∷_}
 use Prim.Native.Nat.{ℕ, zero, suc}
 use lib.Dec.{eqb}
 use Rattle.ground.specs.Cases.{pick}
+use Rattle.desk_slots.specs.Table.{characteristics, numbersOf}
 use Rattle.desk_slots.specs.Slots.{insert}
 
--- "1 name, 4 Track Changed, 5 title, 6 duration, 7 position, 8 playback speed, 9 seeking speed, 15 playing order, 16 orders supported, 17 state,
--- 18 control point, 19 opcodes supported, 22 Content Control ID": "the thirteen"
+-- "the thirteen"; those that may be read, and written; and those that are not owed to the client that wrote them
 abbrev pub thirteen : List ℕ
-thirteen = 1 ∷ 4 ∷ 5 ∷ 6 ∷ 7 ∷ 8 ∷ 9 ∷ 15 ∷ 16 ∷ 17 ∷ 18 ∷ 19 ∷ 22 ∷ []
+thirteen = numbersOf (λ c. true) characteristics
 
--- "All but 4 and 18 may be read"
 abbrev pub readables : List ℕ
-readables = 1 ∷ 5 ∷ 6 ∷ 7 ∷ 8 ∷ 9 ∷ 15 ∷ 16 ∷ 17 ∷ 19 ∷ 22 ∷ []
+readables = numbersOf (λ c. c .read) characteristics
 
--- "7, 8, 15, 18 may be written"
 abbrev pub writables : List ℕ
-writables = 7 ∷ 8 ∷ 15 ∷ 18 ∷ []
+writables = numbersOf (λ c. c .written) characteristics
+
+abbrev pub writerKnows : List ℕ
+writerKnows = numbersOf (λ c. c .spared) characteristics
 
 unfoldable pub isIn : List ℕ → ℕ → Bool
 isIn [] c = false

@@ -1,4 +1,5 @@
 -- The characteristics, the slots of a client as words of bits, and the round.
+pub mod Table
 pub mod Slots
 pub mod Characteristics
 pub mod Round

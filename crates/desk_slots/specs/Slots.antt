@@ -7,6 +7,7 @@ use lib.Bits.{bitAnd, bitOr, bitXor}
 use lib.Dec.{eqb, ltb}
 use lib.ListN.{getD}
 use Rattle.ground.specs.Cases.{pick}
+use Rattle.desk_slots.specs.Table.{characteristics, numbersOf}
 
 -- "The ten slots"
 abbrev pub slotCount : ℕ
@@ -18,7 +19,7 @@ clientCount = 4
 
 -- "The ten slots 1, 4, 5, 6, 7, 8, 9, 15, 17, 18 may be subscribed to.": the characteristics, by the number of their slot
 abbrev pub slotTable : List ℕ
-slotTable = 1 ∷ 4 ∷ 5 ∷ 6 ∷ 7 ∷ 8 ∷ 9 ∷ 15 ∷ 17 ∷ 18 ∷ []
+slotTable = numbersOf (λ c. c .slot) characteristics
 
 -- the first place at which x stands; the length where it stands nowhere
 abbrev pub placeIn : List ℕ → ℕ → ℕ

@@ -4,7 +4,8 @@ ghost use Prim.Native.Nat.{_≤_, _<_, _^_};
 ghost use Rattle.ground.specs.Cases.{pick, has};
 ghost use mathlib.Core.Bool.{_&&_};
 ghost use lib.Dec.{ltb};
-ghost use Rattle.desk_slots.specs.Characteristics.{thirteen, readables, writables, isIn};
+ghost use Rattle.desk_slots.specs.Characteristics.{thirteen, readables, writables, writerKnows, isIn};
+ghost use Rattle.desk_slots.specs.Table.{sizeOf};
 ghost use Rattle.desk_slots.specs.Round.{next};
 ghost use Rattle.desk_slots.specs.Slots.{slotCount, clientCount, slotOf, characteristicOf, onlySlots, insert, remove, union, inter, minus, owing};
 
@@ -13,12 +14,14 @@ pub const SLOTS: u32 = 10;
 
 pub const CLIENTS: u32 = 4;
 
-// The characteristics as words of bits: the thirteen, those that may be read, those that may be written.
+// The characteristics as words of bits: the thirteen, those that may be read, those that may be written, those not owed to their writer.
 const THIRTEEN: u32 = 0x004F83F2;
 
 pub const READABLE: u32 = 0x004B83E2;
 
 const WRITABLE: u32 = 0x00048180;
+
+const SPARED: u32 = 0x00008100;
 
 fn in_word(word: u32, c: u32) -> bool
     ensures { λ r. ⌜ r ≡ (ltb c 32 && has word c) ⌝ }
@@ -45,6 +48,25 @@ pub fn may_write(c: u32) -> bool
     ensures { λ r. ⌜ r ≡ isIn writables c ⌝ }
 {
     in_word(WRITABLE, c)
+}
+
+// Whether a change of a characteristic is not owed to the client that wrote it.
+pub fn writer_knows(c: u32) -> bool
+    ensures { λ r. ⌜ r ≡ isIn writerKnows c ⌝ }
+{
+    in_word(SPARED, c)
+}
+
+// How many octets are written to a characteristic; 0 where there is not one such number.
+pub fn size_of(c: u32) -> usize
+    ensures { λ r. ⌜ r ≡ sizeOf c ⌝ }
+{
+    match c {
+        7 => 4,
+        8 => 1,
+        15 => 1,
+        _ => 0,
+    }
 }
 
 // The slot of a characteristic; SLOTS where it has none.

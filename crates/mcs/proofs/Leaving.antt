@@ -1,13 +1,48 @@
--- `Leaves` follows an equation, and settles number and octets. Assumes nothing.
-use mathlib.Core.Path.{_≡_, sym, subst, _∙_}
-use mathlib.Core.List.{List}
-use Prim.Native.Nat.{ℕ}
-use Rattle.ground.specs.Refusals.{Left}
+-- `Leaves` follows an equation, and settles number and octets; and a call that changes nothing leaves every octet as it was. Assumes nothing.
+use mathlib.Core.Path.{_≡_, refl, sym, ap, subst, _∙_}
+use mathlib.Core.Bool.{Bool, true, false}
+use mathlib.Core.List.{List, _++_}
+use Prim.Native.Nat.{ℕ, _≤_}
+use borrow.Author.Tests.{not-false}
+use lib.ListN.{length, drop}
+use Rattle.ground.specs.Cases.{pick}
+use Rattle.ground.specs.Refusals.{Said, Row, accepted, saidBy, Left}
+use Rattle.ground.proofs.Cases.{clash}
+use Rattle.ground.proofs.Rows.{accepted-said, none-of, said-of}
+use Rattle.catalogue_tables.specs.Tables.{Tables}
 use Rattle.desk_state.specs.declared.Desk.{Desk}
-use Rattle.mcs.specs.Calls.{Leaves}
+use Rattle.desk_replies.specs.Replies.{stateRight, fronted, asked}
+use Rattle.mcs_state.specs.Codec.{deskOf, deskOctets}
+use Rattle.mcs_state.proofs.Plain.{Octets, plain}
+use Rattle.mcs.specs.Calls.{stateAfter, Leaves}
 
 pub follow : {l m : Left Desk} {old new : List ℕ} {number : ℕ} → l ≡ m → Leaves l old number new → Leaves m old number new
 follow {l} {m} {old} {new} {number} e h = subst (λ (x : Left Desk). Leaves x old number new) e h
 
 pub leaves-settled : {l : Left Desk} {old new₁ new₂ : List ℕ} {n₁ n₂ : ℕ} → Leaves l old n₁ new₁ → Leaves l old n₂ new₂ → (n₁ ≡ n₂) × (new₁ ≡ new₂)
 leaves-settled a b = (a .told ∙ sym (b .told), a .octets ∙ sym (b .octets))
+
+-- a call that is accepted found a state that stands
+stood : (k : Tables) (small : Bool) (d : Desk) (rows : List Row) (work : Left Desk) → asked k small d rows work .said .isGranted ≡ true → stateRight k d ≡ true
+stood k small d rows work e = go (accepted all) refl (sym (ap (λ (s : Said). s .isGranted) (said-of d all work)) ∙ e)
+  where
+    all : List Row
+    all = fronted k small d ++ rows
+
+    go : (t : Bool) → accepted all ≡ t → pick t (work .said) (saidBy all) .isGranted ≡ true → stateRight k d ≡ true
+    go true q h = not-false _ (none-of all q .1 .1 .0)
+    go false q h = clash (sym (accepted-said all ∙ q) ∙ h)
+
+-- Every call on a state has this form (`asked`). Where it leaves the state that the octets were, it leaves every octet as it was, those that mean nothing
+-- too; a refusal does so anyway.
+pub unchanged : (k : Tables) (small : Bool) (rows : List Row) (work : Left Desk) (old : List ℕ) → 338 ≤ length old → Octets old
+    → asked k small (deskOf old) rows work .state ≡ deskOf old → stateAfter (asked k small (deskOf old) rows work) old ≡ old
+unchanged k small rows work old long octets same = go (l .said .isGranted) refl
+  where
+    l : Left Desk
+    l = asked k small (deskOf old) rows work
+
+    go : (t : Bool) → asked k small (deskOf old) rows work .said .isGranted ≡ t
+        → pick t (deskOctets (asked k small (deskOf old) rows work .state) ++ drop 338 old) old ≡ old
+    go true e = ap (λ (d : Desk). deskOctets d ++ drop 338 old) same ∙ plain (k .groups) (k .tracks) old long octets (stood k small (deskOf old) rows work e)
+    go false e = refl

@@ -1,3 +1,4 @@
 -- The laws that belong to no one function.
 pub mod Laid
 pub mod Round
+pub mod Plain

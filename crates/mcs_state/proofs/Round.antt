@@ -1,11 +1,12 @@
 -- What is written is what is read again. Assumes nothing.
 use mathlib.Core.Path.{_≡_, refl, ap, sym, _∙_}
 use mathlib.Core.List.{List, [], _∷_, _++_}
-use mathlib.Core.Bool.{Bool, true, false}
+use mathlib.Core.Bool.{Bool, true, false, _&&_}
 use Prim.Native.Nat.{ℕ, _+_, _*_, _/_, _%_, _≤_}
 use native.Mathlib.Omega.{arith}
 use lib.ListN.{length, getD, take, drop, length-append, length-drop}
 use lib.Seq.{take-all, take-append-le, drop-append-le, drop-at}
+use Rattle.ground.specs.Cases.{pick}
 use Rattle.ground.specs.Lists.{part}
 use Rattle.ground.specs.Words.{wordAt}
 use Rattle.ground.proofs.Sweep.{spelled}
@@ -14,7 +15,7 @@ use Rattle.desk_client.specs.declared.Client.{Client}
 use Rattle.desk_client.specs.Client.{blankEntry}
 use Rattle.desk_state.specs.declared.Desk.{Desk}
 use Rattle.desk_state.specs.Desk.{noClient, clientAt}
-use Rattle.mcs_state.specs.Codec.{flag, bitOf, clientOf, clientOctets, playerOf, headOctets, deskOf, deskOctets}
+use Rattle.mcs_state.specs.Codec.{flag, bitOf, isBit, mtuOf, clientOf, clientOctets, playerOf, headOctets, deskOf, deskOctets}
 
 -- what owning a state tells of it, as far as the octets need it: the lengths of its arrays
 pub record Whole (d : Desk) : Type 0 where
@@ -69,6 +70,16 @@ wide x = (λ i. low x i + high x i * 4294967296) ∙ whole
     whole : x % 4294967296 + x / 4294967296 * 4294967296 ≡ x
     whole = omega arith
 
+bit-bit : (b : Bool) → isBit (bitOf b) ≡ true
+bit-bit true = refl
+bit-bit false = refl
+
+mtu-again : (c : Client) → mtuOf (clientOctets c) ≡ c .mtu
+unfolding mtuOf clientOctets wordAt
+mtu-again c =
+    let x = c .mtu in
+    (λ i. pick (bit-bit (c .connected) i && bit-bit (c .encrypted) i) (x % 256 + x / 256 % 256 * 256 + x / 65536 % 256 * 65536 + x / 16777216 * 16777216) 0) ∙ word x
+
 pub client-again : (c : Client) → length (c .results) ≡ 8 → clientOf (clientOctets c) ≡ c
 unfolding clientOf clientOctets wordAt
 client-again c h =
@@ -76,7 +87,7 @@ client-again c h =
     record {
       connected = flag-bit (c .connected) i;
       encrypted = flag-bit (c .encrypted) i;
-      mtu = word (c .mtu) i;
+      mtu = mtu-again c i;
       subscribed = word (c .subscribed) i;
       owed = word (c .owed) i;
       fresh = word (c .fresh) i;

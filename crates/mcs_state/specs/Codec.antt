@@ -1,11 +1,12 @@
 -- Where the parts of a state lie among its octets. "Numbers are little endian."
 -- Assumes nothing.
-use mathlib.Core.Bool.{Bool, not}
+use mathlib.Core.Bool.{Bool, not, _&&_}
 use mathlib.Core.List.{List, [], _∷_, _++_}
 use Prim.Native.Nat.{ℕ, zero, suc, _+_, _*_, _/_, _%_}
 use mir.Val.{boolByte}
-use lib.Dec.{eqb}
+use lib.Dec.{eqb, leb}
 use lib.ListN.{getD}
+use Rattle.ground.specs.Cases.{pick}
 use Rattle.ground.specs.Lists.{part}
 use Rattle.ground.specs.Words.{wordAt}
 use Rattle.player_state.specs.declared.Player.{Player}
@@ -15,9 +16,12 @@ use Rattle.desk_client.specs.Client.{blankEntry}
 use Rattle.desk_state.specs.declared.Desk.{Desk}
 use Rattle.desk_state.specs.Desk.{clientAt}
 
--- a truth is 1 or 0; any octet but 0 is read as true
+-- a yes-or-no octet is 1 or 0
 abbrev pub bitOf : Bool → ℕ
 bitOf b = boolByte b
+
+abbrev pub isBit : ℕ → Bool
+isBit x = leb x 1
 
 abbrev pub flag : ℕ → Bool
 flag x = not (eqb x 0)
@@ -41,6 +45,10 @@ abbrev pub entryOctets : List Entry → ℕ → ℕ → List ℕ
 entryOctets rs i zero = []
 entryOctets rs i (suc n) = getD rs i blankEntry .opcode ∷ getD rs i blankEntry .code ∷ entryOctets rs (suc i) n
 
+-- the ATT_MTU of a record; where a yes-or-no octet of it is neither 0 nor 1 it is 0, which no record may have, so that 201 refuses the state
+unfoldable pub mtuOf : List ℕ → ℕ
+mtuOf s = pick (isBit (getD s 0 0) && isBit (getD s 1 0)) (wordAt s 2) 0
+
 -- a client record: flags at 0 and 1, ATT_MTU at 2, subscribed at 6, owed at 10, changed marks at 14, slot mark at 18, number of results at 22, results
 -- at 30
 unfoldable pub clientOf : List ℕ → Client
@@ -48,7 +56,7 @@ clientOf s =
     record {
       connected = flag (getD s 0 0);
       encrypted = flag (getD s 1 0);
-      mtu = wordAt s 2;
+      mtu = mtuOf s;
       subscribed = wordAt s 6;
       owed = wordAt s 10;
       fresh = wordAt s 14;

@@ -1,11 +1,11 @@
 // The state as octets at fixed places, lowest octet first: the name at 0, the player's numbers and the turn at 128, the clients at 154, 200, 246 and 292,
-// 46 octets each; 338 in all. Any octet but 0 is true in a flag, so every string of octets is a state.
+// 46 octets each; 338 in all. A yes-or-no octet that is neither 0 nor 1 makes a state that 201 refuses.
 ghost use mathlib.Core.Path.{_≡_};
 ghost use mathlib.Core.List.{_++_};
 ghost use Prim.Native.Nat.{_+_, _≤_};
 ghost use lib.ListN.{length, drop};
 ghost use lib.Seq.{paste};
-ghost use Rattle.mcs_state.specs.Codec.{wideAt, clientOf, clientOctets, playerOf, headOctets, deskOf, deskOctets};
+ghost use Rattle.mcs_state.specs.Codec.{wideAt, mtuOf, clientOf, clientOctets, playerOf, headOctets, deskOf, deskOctets};
 use desk_client::Client;
 use desk_client::Entry;
 use desk_state::Desk;
@@ -23,6 +23,18 @@ fn wide_at(s: &[u8], at: usize) -> usize
     let low = ground::word_at(s, at);
     let high = ground::word_at(s, at + 4);
     (low as usize) + (high as usize) * 4294967296
+}
+
+// The ATT_MTU of a client record; 0, which 201 refuses, where a yes-or-no octet is neither 0 nor 1.
+fn mtu_of(s: &[u8]) -> u32
+    requires { ⌜ 46 ≤ length (now s) ⌝ }
+    ensures { λ r. ⌜ r ≡ mtuOf (now (s .entry)) ⌝ }
+{
+    let plain = (s[0] <= 1) & (s[1] <= 1);
+    if plain {
+        return ground::word_at(s, 2);
+    }
+    0
 }
 
 // A client record, from its 46 octets.
@@ -65,7 +77,7 @@ pub fn client_of(s: &[u8]) -> Client
     Client {
         connected: s[0] != 0,
         encrypted: s[1] != 0,
-        mtu: ground::word_at(s, 2),
+        mtu: mtu_of(s),
         subscribed: ground::word_at(s, 6),
         owed: ground::word_at(s, 10),
         fresh: ground::word_at(s, 14),

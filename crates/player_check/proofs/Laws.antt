@@ -11,7 +11,7 @@ use lib.Seq.{take-append-seam}
 use Rattle.ground.specs.Cases.{pick, within}
 use Rattle.ground.specs.Limits.{mostTitle}
 use Rattle.ground.proofs.Cases.{past, here, and-left, and-right, and-both}
-use Rattle.catalogue_tables.specs.Tables.{groupCount, firstTrackOf, tracksIn, durationOf}
+use Rattle.catalogue_tables.specs.Tables.{groupCount, firstTrackOf, tracksIn, endOf}
 use Rattle.player_state.specs.declared.Mode.{Mode}
 use Rattle.player_state.specs.declared.Player.{Player}
 use Rattle.player_state.specs.Player.{inactive, seeking, named}
@@ -96,7 +96,7 @@ module _ (groups tracks : List ℕ) (p : Player) where
   unfolding playerRule
   stands name mode place = and-both (and-both name mode) place
 
-  pub place-stands : inactive < media → group < groupCount groups → first ≤ track → track < first + count → position ≤ durationOf tracks track
+  pub place-stands : inactive < media → group < groupCount groups → first ≤ track → track < first + count → position ≤ endOf tracks track
       → placeRule groups tracks (ltb inactive media) (p .place) ≡ true
   unfolding placeRule
   place-stands active exists from to held =
@@ -141,12 +141,12 @@ module _ (groups tracks : List ℕ) (p : Player) where
     speed-none n =
         eqb-true _ _ (left-over (member (p .mode .seeking) rungs) (eqb (p .mode .seeking) 0) (ne-eqb _ _ n) (speed-kept (p .mode) mode-kept))
 
-    -- an active player has a group, a track of it and a position up to the duration
+    -- an active player has a group, a track of it and a position up to the end
     module _ (active : inactive < media) where
       within-group : inGroup groups group track ≡ true
       unfolding placeRule
       within-group =
-          and-left (inGroup groups group track) (leb position (durationOf tracks track))
+          and-left (inGroup groups group track) (leb position (endOf tracks track))
           (chosen (somePlace groups tracks (p .place)) (noPlace (p .place)) (lt-ltb inactive media active) place-kept)
 
       group-and-start : (ltb group (groupCount groups) && leb first track) ≡ true
@@ -161,11 +161,11 @@ module _ (groups tracks : List ℕ) (p : Player) where
       pub track-to : track < first + count
       track-to = ltb-true _ _ (and-right (ltb group (groupCount groups) && leb first track) (ltb track (first + count)) within-group)
 
-      pub position-held : position ≤ durationOf tracks track
+      pub position-held : position ≤ endOf tracks track
       unfolding placeRule
       position-held =
           leb-true _ _
-          (and-right (inGroup groups group track) (leb position (durationOf tracks track))
+          (and-right (inGroup groups group track) (leb position (endOf tracks track))
           (chosen (somePlace groups tracks (p .place)) (noPlace (p .place)) (lt-ltb inactive media active) place-kept))
 
     -- an inactive one has none

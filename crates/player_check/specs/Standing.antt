@@ -10,7 +10,7 @@ use Rattle.ground.specs.Cases.{pick, within}
 use Rattle.ground.specs.Refusals.{Row, row}
 use Rattle.ground.specs.Limits.{mostTitle}
 use Rattle.text.specs.Utf8.{textOf, isFine}
-use Rattle.catalogue_tables.specs.Tables.{groupCount, firstTrackOf, tracksIn, durationOf}
+use Rattle.catalogue_tables.specs.Tables.{groupCount, firstTrackOf, tracksIn, endOf}
 use Rattle.player_state.specs.declared.Name.{Name}
 use Rattle.player_state.specs.declared.Mode.{Mode}
 use Rattle.player_state.specs.declared.Place.{Place}
@@ -57,7 +57,7 @@ inGroup groups g t =
 
 abbrev pub somePlace : List ℕ → List ℕ → Place → Bool
 somePlace groups tracks l =
-    inGroup groups (l .group .0) (l .track .0) && leb (l .position .0) (durationOf tracks (l .track .0))
+    inGroup groups (l .group .0) (l .track .0) && leb (l .position .0) (endOf tracks (l .track .0))
 
 unfoldable pub placeRule : List ℕ → List ℕ → Bool → Place → Bool
 placeRule groups tracks active l = pick active (somePlace groups tracks l) (noPlace l)

@@ -43,9 +43,9 @@ fn is_rung(s: u8) -> bool
 fn mode_right(m: player_state::Mode) -> bool
     ensures { λ r. ⌜ r ≡ modeRule m ⌝ }
 {
-    let state = m.media <= 3;
+    let state = m.media <= player_state::SEEKING;
     let order = (1 <= m.order) & (m.order <= 8);
-    if m.media == 3 {
+    if m.media == player_state::SEEKING {
         let rung = is_rung(m.seeking);
         return state & order & rung;
     }
@@ -68,8 +68,8 @@ fn place_right(groups: &[u32], tracks: &[u32], active: bool, l: player_state::Pl
 {
     if active {
         let within = in_group(groups, l.group, l.track);
-        let duration = catalogue_tables::duration(tracks, l.track);
-        return within & (l.position.0 <= duration.0);
+        let end = catalogue_tables::end(tracks, l.track);
+        return within & (l.position.0 <= end.0);
     }
     (l.group.0 == 0) & (l.track.0 == 0) & (l.position.0 == 0)
 }
@@ -78,7 +78,7 @@ fn place_right(groups: &[u32], tracks: &[u32], active: bool, l: player_state::Pl
 pub fn player_right(groups: &[u32], tracks: &[u32], p: player_state::Player) -> bool
     ensures { λ r. ⌜ r ≡ playerRule (now (groups .entry)) (now (tracks .entry)) p ⌝ }
 {
-    let active = 0 < p.mode.media;
+    let active = player_state::INACTIVE < p.mode.media;
     let name = name_right(p.name);
     let mode = mode_right(p.mode);
     let place = place_right(groups, tracks, active, p.place);

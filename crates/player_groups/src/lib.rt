@@ -3,6 +3,7 @@ ghost use mathlib.Core.Path.{_≡_};
 ghost use mathlib.Core.Bool.{false};
 ghost use Prim.Native.Nat.{_≤_};
 ghost use lib.ListN.{length};
+ghost use Rattle.ground.specs.Limits.{mostGroups};
 ghost use Rattle.ground.specs.Lists.{span, those};
 ghost use Rattle.player_walk.specs.Steps.{at, moveIn};
 ghost use Rattle.player_groups.specs.Family.{isSibling, siblings, nearGroup, Current};
@@ -22,13 +23,18 @@ fn is_sibling(groups: &[u32], g: catalogue_tables::GroupNo, h: catalogue_tables:
 }
 
 // How many siblings of g have a number below the bound.
-fn siblings_below(groups: &[u32], g: catalogue_tables::GroupNo, bound: u32) -> usize
-    requires { ⌜ bound ≤ 64 ⌝ }
-    ensures { λ r. ⌜ (r ≡ length (those (isSibling (now (groups .entry)) (g .0)) (span 0 bound))) × (r ≤ bound) ⌝ }
+fn siblings_below(
+    groups: &[u32],
+    g: catalogue_tables::GroupNo,
+    bound: catalogue_tables::GroupNo,
+) -> usize
+    requires { ⌜ bound .0 ≤ mostGroups ⌝ }
+    ensures { λ r. ⌜ (r ≡ length (those (isSibling (now (groups .entry)) (g .0)) (span 0 (bound .0)))) × (r ≤ bound .0) ⌝ }
 {
+    let end = bound.0;
     let mut n: usize = 0;
     let mut i: u32 = 0;
-    while i < bound {
+    while i < end {
         let h = catalogue_tables::GroupNo(i);
         let found = is_sibling(groups, g, h);
         if found {
@@ -40,13 +46,19 @@ fn siblings_below(groups: &[u32], g: catalogue_tables::GroupNo, bound: u32) -> u
 }
 
 // The sibling at place k, of those with a number below the bound.
-fn nth_sibling(groups: &[u32], g: catalogue_tables::GroupNo, bound: u32, k: usize) -> NearGroup
-    requires { ⌜ bound ≤ 64 ⌝ }
-    ensures { λ r. ⌜ nearGroup r ≡ at (those (isSibling (now (groups .entry)) (g .0)) (span 0 bound)) k ⌝ }
+fn nth_sibling(
+    groups: &[u32],
+    g: catalogue_tables::GroupNo,
+    bound: catalogue_tables::GroupNo,
+    k: usize,
+) -> NearGroup
+    requires { ⌜ bound .0 ≤ mostGroups ⌝ }
+    ensures { λ r. ⌜ nearGroup r ≡ at (those (isSibling (now (groups .entry)) (g .0)) (span 0 (bound .0))) k ⌝ }
 {
+    let end = bound.0;
     let mut left: usize = k;
     let mut i: u32 = 0;
-    while i < bound {
+    while i < end {
         let h = catalogue_tables::GroupNo(i);
         let found = is_sibling(groups, g, h);
         if found {
@@ -80,8 +92,9 @@ pub fn group_after(
             }
         }
     }
-    let bound = catalogue_tables::group_count(groups) as u32;
-    let k = siblings_below(groups, g, g.0);
+    let count = catalogue_tables::group_count(groups) as u32;
+    let bound = catalogue_tables::GroupNo(count);
+    let k = siblings_below(groups, g, g);
     let n = siblings_below(groups, g, bound);
     let p = player_walk::place_after(step, false, n, k);
     match p {

@@ -3,9 +3,9 @@ use mathlib.Core.Path.{_≡_, refl, sym, ap, _∙_}
 use mathlib.Core.Bool.{true, false}
 use mathlib.Core.Logic.{_↔_, _⊎_, inl, inr, ⊎-elim}
 use mathlib.Core.List.{List}
-use Prim.Native.Nat.{ℕ, _+_, _<_}
+use Prim.Native.Nat.{ℕ, _+_}
 use native.Mathlib.Omega.{arith}
-use borrow.Author.Tests.{lt-ltb, eq-eqb, ne-eqb, eqb-true, eqb-false, ltb-true, not-true, not-false}
+use borrow.Author.Tests.{eq-eqb, ne-eqb, eqb-true, eqb-false, ltb-true, not-true, not-false}
 use lib.Dec.{eqb, ltb}
 use Rattle.ground.specs.Cases.{has}
 use Rattle.ground.proofs.Cases.{past, here, and-left, clash}
@@ -21,9 +21,9 @@ use Rattle.player_state.specs.declared.Offer.{Offer}
 use Rattle.player_state.specs.declared.Player.{Player}
 use Rattle.player_state.specs.Player.{inactive, playing, seeking, isActive, inMode, withName, atPosition, atPlace, renamed, deactivated, withOrder, withSpeed}
 use Rattle.player_state.specs.Modes.{forwarded, rewound, movedTo}
-use Rattle.player_moves.specs.Moves.{durationNow, segmentAfter, trackAfter, groupAfter, entryOf}
+use Rattle.player_moves.specs.Moves.{segmentAfter, trackAfter, groupAfter, entryOf}
 use Rattle.player_moves.specs.Control.{failed, entered, acted, controlled}
-use Rattle.player_moves.specs.Clock.{afterEnd, playedOn, soughtOn, advanced, positioned, activatedOn, activated}
+use Rattle.player_moves.specs.Clock.{staysBelow, afterEnd, playedOn, soughtOn, advanced, positioned, activatedOn, activated}
 use Rattle.player_moves.specs.declared.Controlled.{Controlled}
 use Rattle.player_moves.proofs.Choices.{by-test, by-found, by-control}
 
@@ -103,14 +103,14 @@ module _ (p : Player) where
     unfolding advanced playedOn soughtOn
     advanced-setting d =
         by-test Alike (eqb (p .mode .media) playing) _ _
-        (λ e. by-test Alike (ltb (p .place .position .0 + d) (durationNow tracks p)) _ _
+        (λ e. by-test Alike (staysBelow tracks d p) _ _
         (λ t. refl) (λ t. after-setting (trackAfter groups tracks Next p)))
         (λ n. by-test Alike (eqb (p .mode .media) seeking) _ _ (λ e. refl) (λ m. refl))
 
-    pub advanced-within : (d : ℕ) → p .mode .media ≡ playing → p .place .position .0 + d < durationNow tracks p
+    pub advanced-within : (d : ℕ) → p .mode .media ≡ playing → staysBelow tracks d p ≡ true
         → advanced groups tracks d p ≡ atPosition (p .place .position .0 + d) p
     unfolding advanced playedOn
-    advanced-within d e h = sym (here _ (eq-eqb _ _ e) (here _ (lt-ltb _ _ h) refl))
+    advanced-within d e h = sym (here _ (eq-eqb _ _ e) (here _ h refl))
 
     pub advanced-idle : (d : ℕ) → (p .mode .media ≡ playing → ⊥) → (p .mode .media ≡ seeking → ⊥) → advanced groups tracks d p ≡ p
     unfolding advanced

@@ -1,4 +1,4 @@
--- A moved or written position is at most the duration, and a rung leads to a rung. Assumes nothing.
+-- A moved or written position is at most the end, and a rung leads to a rung. Assumes nothing.
 use mathlib.Core.Path.{_≡_, refl, sym, subst}
 use mathlib.Core.Bool.{true}
 use mathlib.Core.Logic.{⊎-elim}

@@ -6,11 +6,11 @@ use mathlib.Core.List.{List}
 use Prim.Native.Nat.{ℕ, _+_, _<_, _≤_}
 use native.Mathlib.Omega.{arith}
 use borrow.Author.Tests.{eqb-true, eqb-false, ltb-true}
-use lib.Dec.{eqb, ltb}
+use lib.Dec.{eqb}
 use lib.ListN.{length, replicate}
 use Rattle.ground.specs.Limits.{mostTitle}
 use Rattle.ground.proofs.Cases.{true-or}
-use Rattle.catalogue_tables.specs.Tables.{groupCount, firstTrackOf, tracksIn, durationOf, startsOf}
+use Rattle.catalogue_tables.specs.Tables.{groupCount, firstTrackOf, tracksIn, endOf, startsOf}
 use Rattle.player_walk.specs.Signed.{signedWord}
 use Rattle.player_walk.specs.declared.Near.{Near}
 use Rattle.player_walk.specs.declared.Near.the-variants.{At, Nothing}
@@ -29,9 +29,9 @@ use Rattle.player_state.specs.Player.{playing, paused, seeking, isActive, withM
 use Rattle.player_state.specs.Modes.{rungs, rungUp, rungDown, forwarded, rewound, movedTo}
 use Rattle.player_check.specs.Standing.{textRule, modeRule, member, playerRule}
 use Rattle.player_check.proofs.Laws as laws
-use Rattle.player_moves.specs.Moves.{durationNow, segmentAfter, trackAfter, groupAfter, entryOf, Shaped}
+use Rattle.player_moves.specs.Moves.{endNow, segmentAfter, trackAfter, groupAfter, entryOf, Shaped}
 use Rattle.player_moves.specs.Control.{entered, acted, controlled}
-use Rattle.player_moves.specs.Clock.{afterEnd, playedOn, soughtOn, advanced, positioned, activatedOn, activated}
+use Rattle.player_moves.specs.Clock.{staysBelow, afterEnd, playedOn, soughtOn, advanced, positioned, activatedOn, activated}
 use Rattle.player_moves.proofs.Ready as ready
 use Rattle.player_moves.proofs.Choices.{by-test, by-found, by-control, active-above}
 use Rattle.player_moves.proofs.Held.{held-within, written-within, sought-within, up-rung, down-rung}
@@ -75,8 +75,8 @@ module _ (groups tracks : List ℕ) where
         (λ t. laws.mode-stands m (laws.few-states groups tracks p right) low high (eqb-false _ _ t) (laws.speed-none groups tracks p right (eqb-false _ _ t)))
         (true-or (eqb (p .mode .media) seeking))
 
-    -- at a track of a group, at a position up to the duration
-    at-stands : (m : Mode) → modeRule m ≡ true → 0 < m .media → (g t x : ℕ) → Found g t → x ≤ durationOf tracks t → Stands (atPlace g t x (withMode m p))
+    -- at a track of a group, at a position up to the end
+    at-stands : (m : Mode) → modeRule m ≡ true → 0 < m .media → (g t x : ℕ) → Found g t → x ≤ endOf tracks t → Stands (atPlace g t x (withMode m p))
     at-stands m h active g t x f held =
         let q = atPlace g t x (withMode m p) in
         laws.stands groups tracks q (laws.name-kept groups tracks p right) h (laws.place-stands groups tracks q active (f .exists) (f .from) (f .to) held)
@@ -115,7 +115,7 @@ module _ (groups tracks : List ℕ) where
       in-stands : (m : Mode) → modeRule m ≡ true → 0 < m .media → Stands (withMode m p)
       in-stands m h above = at-stands m h above _ _ _ here (laws.position-held groups tracks p right active)
 
-      position-stands : (x : ℕ) → x ≤ durationNow tracks p → Stands (atPosition x p)
+      position-stands : (x : ℕ) → x ≤ endNow tracks p → Stands (atPosition x p)
       position-stands x h = at-stands (p .mode) (laws.mode-kept groups tracks p right) active _ _ x here h
 
       moved-stands : (g t : ℕ) → Found g t → Stands (movedTo g t p)
@@ -143,7 +143,7 @@ module _ (groups tracks : List ℕ) where
     unfolding positioned
     kept-positioned number =
         by-test Stands (isActive p) _ p
-        (λ a. position-stands (active-above p a) _ (written-within (durationNow tracks p) (signedWord number)))
+        (λ a. position-stands (active-above p a) _ (written-within (endNow tracks p) (signedWord number)))
         (λ a. right)
 
   module _ (segments : List ℕ) (s : Shaped groups tracks segments) where
@@ -165,10 +165,10 @@ module _ (groups tracks : List ℕ) where
             (ready.seated groups tracks segments s p right active) step t e in
             record { exists = laws.group-exists groups tracks p right active; from = r .0; to = r .1 }
 
-        segment-within : (step : Step) (x : ℕ) → segmentAfter tracks segments step p ≡ At x → x ≤ durationNow tracks p
+        segment-within : (step : Step) (x : ℕ) → segmentAfter tracks segments step p ≡ At x → x ≤ endNow tracks p
         unfolding segmentAfter
         segment-within step x e =
-            move-within step (startsOf tracks segments (p .place .track .0)) (durationNow tracks p) (p .place .position .0) x
+            move-within step (startsOf tracks segments (p .place .track .0)) (endNow tracks p) (p .place .position .0) x
             (ready.rising-now groups tracks segments s p right active) (laws.position-held groups tracks p right active) e
 
         group-current : (step : Step) (g : ℕ) → groupAfter groups step p ≡ At g → Current groups g
@@ -182,7 +182,7 @@ module _ (groups tracks : List ℕ) where
         kept-acted Rewind = rewind-stands p right active
         kept-acted Forward = forward-stands p right active
         kept-acted Stop = at-stands p right (inMode paused 0 p .mode) (calm p right 2 (omega arith)) (omega arith) _ _ 0 (here p right active) (omega arith)
-        kept-acted (Relative n) = position-stands p right active _ (held-within (durationNow tracks p) (p .place .position .0) (signedWord n))
+        kept-acted (Relative n) = position-stands p right active _ (held-within (endNow tracks p) (p .place .position .0) (signedWord n))
         kept-acted (Segment step) =
             by-found (λ c. Stands (c .player)) (segmentAfter tracks segments step p) _ p
             (λ x e. position-stands p right active x (segment-within step x e)) right
@@ -199,18 +199,18 @@ module _ (groups tracks : List ℕ) where
         kept-after : (near : Near) → trackAfter groups tracks Next p ≡ near → Stands (afterEnd tracks near p)
         kept-after (At t) e = at-stands p right (p .mode) (laws.mode-kept groups tracks p right) active _ t 0 (track-found Next t e) (omega arith)
         kept-after Nothing e =
-            at-stands p right (inMode paused 0 p .mode) (calm p right 2 (omega arith)) (omega arith) _ _ (durationNow tracks p) (here p right active) (omega arith)
+            at-stands p right (inMode paused 0 p .mode) (calm p right 2 (omega arith)) (omega arith) _ _ (endNow tracks p) (here p right active) (omega arith)
 
         kept-played-on : (d : ℕ) → Stands (playedOn groups tracks d p)
         unfolding playedOn
         kept-played-on d =
-            by-test Stands (ltb (p .place .position .0 + d) (durationNow tracks p)) _ _
-            (λ t. position-stands p right active _ (omega (arith, ltb-true (p .place .position .0 + d) (durationNow tracks p) t)))
+            by-test Stands (staysBelow tracks d p) _ _
+            (λ t. position-stands p right active _ (omega (arith, ltb-true (p .place .position .0 + d) (endNow tracks p) t)))
             (λ t. kept-after (trackAfter groups tracks Next p) refl)
 
         kept-sought-on : (d : ℕ) → Stands (soughtOn tracks d p)
         unfolding soughtOn
-        kept-sought-on d = position-stands p right active _ (sought-within (durationNow tracks p) (p .place .position .0) (p .mode .seeking) d)
+        kept-sought-on d = position-stands p right active _ (sought-within (endNow tracks p) (p .place .position .0) (p .mode .seeking) d)
 
       pub kept-controlled : (opcode number : ℕ) → Stands (controlled groups tracks segments opcode number p .player)
       kept-controlled opcode number =

@@ -4,7 +4,7 @@ use mathlib.Core.Bool.{true}
 use mathlib.Core.List.{List}
 use Prim.Native.Nat.{ℕ, _<_}
 use native.Mathlib.Omega.{arith}
-use Rattle.catalogue_tables.specs.Tables.{Tables, groupCount, trackCount, durationOf, startsOf}
+use Rattle.catalogue_tables.specs.Tables.{Tables, groupCount, trackCount, endOf, startsOf}
 use Rattle.catalogue_check.specs.Catalogue.{Right}
 use Rattle.catalogue_check.proofs.Laws.{few-groups, few-tracks, track-run-inside, starts-begin, starts-rise, starts-below}
 use Rattle.player_groups.specs.Family.{Current}
@@ -54,5 +54,5 @@ module _ (groups tracks segments : List ℕ) (s : Shaped groups tracks segments)
     pub track-there : p .place .track .0 < trackCount tracks
     track-there = omega (arith, stands.track-to groups tracks p right active, s .runs (p .place .group .0) there)
 
-    pub rising-now : Rising (startsOf tracks segments (p .place .track .0)) (durationOf tracks (p .place .track .0))
+    pub rising-now : Rising (startsOf tracks segments (p .place .track .0)) (endOf tracks (p .place .track .0))
     rising-now = s .rising (p .place .track .0) track-there

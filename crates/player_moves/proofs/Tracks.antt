@@ -1,11 +1,11 @@
 -- When the track number, and whether there is a track, can change. Assumes nothing.
-use mathlib.Core.Path.{_≡_, refl, sym, ap}
+use mathlib.Core.Path.{_≡_, refl, sym, ap, _∙_}
 use mathlib.Core.Bool.{Bool, true}
 use mathlib.Core.List.{List}
-use Prim.Native.Nat.{ℕ, _+_, _<_}
-use native.Mathlib.Omega.{arith}
-use borrow.Author.Tests.{ltb-false, eqb-true}
-use lib.Dec.{eqb, ltb}
+use Prim.Native.Nat.{ℕ}
+use borrow.Author.Tests.{eqb-true}
+use lib.Dec.{eqb}
+use Rattle.ground.proofs.Cases.{clash}
 use Rattle.player_walk.specs.declared.Near.{Near}
 use Rattle.player_walk.specs.declared.Near.the-variants.{At, Nothing}
 use Rattle.player_walk.specs.declared.Step.{Step}
@@ -16,9 +16,9 @@ use Rattle.player_opcodes.specs.declared.Action.the-variants.{Play, Pause, Rewi
 use Rattle.player_state.specs.declared.Player.{Player}
 use Rattle.player_state.specs.Player.{playing, seeking, isActive, inMode, atPlace, renamed, withOrder, withSpeed}
 use Rattle.player_state.specs.Modes.{forwarded, rewound, movedTo}
-use Rattle.player_moves.specs.Moves.{durationNow, segmentAfter, trackAfter, groupAfter, entryOf}
+use Rattle.player_moves.specs.Moves.{segmentAfter, trackAfter, groupAfter, entryOf}
 use Rattle.player_moves.specs.Control.{entered, acted, controlled}
-use Rattle.player_moves.specs.Clock.{afterEnd, playedOn, soughtOn, advanced, positioned}
+use Rattle.player_moves.specs.Clock.{staysBelow, afterEnd, playedOn, soughtOn, advanced, positioned}
 use Rattle.player_moves.proofs.Choices.{by-test, by-found, by-control}
 use Rattle.player_moves.proofs.Alone.{refused-alone}
 
@@ -53,13 +53,13 @@ module _ (p : Player) where
 
   module _ (groups tracks : List ℕ) where
     -- the clock goes to another track only at the end of one
-    pub advanced-stays : (d : ℕ) → (p .mode .media ≡ playing → p .place .position .0 + d < durationNow tracks p) → seat (advanced groups tracks d p) ≡ seat p
+    pub advanced-stays : (d : ℕ) → (p .mode .media ≡ playing → staysBelow tracks d p ≡ true) → seat (advanced groups tracks d p) ≡ seat p
     unfolding advanced playedOn soughtOn
     advanced-stays d early =
         by-test Stays (eqb (p .mode .media) playing) _ _
-        (λ e. by-test Stays (ltb (p .place .position .0 + d) (durationNow tracks p)) _ _
+        (λ e. by-test Stays (staysBelow tracks d p) _ _
         (λ t. refl)
-        (λ t. let z : ⊥ = omega (arith, ltb-false (p .place .position .0 + d) (durationNow tracks p) t, early (eqb-true _ _ e)) in absurd z))
+        (λ t. clash (sym t ∙ early (eqb-true _ _ e))))
         (λ n. by-test Stays (eqb (p .mode .media) seeking) _ _ (λ e. refl) (λ m. refl))
 
     after-active : (near : Near) → isActive p ≡ true → Same (afterEnd tracks near p)
@@ -71,7 +71,7 @@ module _ (p : Player) where
     unfolding advanced playedOn soughtOn
     advanced-active d =
         by-test Same (eqb (p .mode .media) playing) _ _
-        (λ e. by-test Same (ltb (p .place .position .0 + d) (durationNow tracks p)) _ _
+        (λ e. by-test Same (staysBelow tracks d p) _ _
         (λ t. refl)
         (λ t. after-active (trackAfter groups tracks Next p) (rw (eqb-true (p .mode .media) playing e))))
         (λ n. by-test Same (eqb (p .mode .media) seeking) _ _ (λ e. refl) (λ m. refl))

@@ -3,17 +3,12 @@
 use mathlib.Core.Path.{_≡_}
 use mathlib.Core.List.{List, [], _∷_}
 use Prim.Native.Nat.{ℕ, _-_}
-use Rattle.player_walk.specs.Signed.{signedWord}
-use Rattle.player_walk.specs.Steps.{then}
-use Rattle.player_walk.specs.declared.Near.{Near}
-use Rattle.player_walk.specs.declared.Near.the-variants.{At, Nothing}
-use Rattle.player_walk.specs.declared.Step.{Step}
-use Rattle.player_walk.specs.declared.Step.the-variants.{Previous, Next, Goto}
 use Rattle.player_state.specs.declared.Player.{Player}
 use Rattle.player_state.specs.Player.{atPosition, withOrder, startedPlayer}
 use Rattle.player_state.specs.Modes.{activatedAt}
-use Rattle.player_state.specs.Positions.{heldSum, written}
-use Rattle.player_moves.specs.Moves.{durationNow, segmentAfter, trackAfter, groupAfter, entryOf}
+use Rattle.player_moves.specs.Control.{controlled}
+use Rattle.player_moves.specs.Clock.{positioned}
+use Rattle.player_moves.specs.declared.Controlled.{Controlled}
 
 -- "Groups: 0 (no tracks), 1 (tracks 0–2), 2 (none), 3 (track 3); parents 0."
 abbrev pub sampleGroups : List ℕ
@@ -35,69 +30,107 @@ sampleSegments = 0 ∷ 1500 ∷ 4000 ∷ []
 abbrev pub minus : ℕ → ℕ
 minus n = 0x1_0000_0000 - n
 
--- a player in group 1: in an order, at a track and a position
-abbrev pub inSample : ℕ → ℕ → ℕ → Player
-inSample order track position = atPosition position (activatedAt 1 track (withOrder order (startedPlayer [] 0 0)))
+-- the opcodes of the cases
+abbrev pub moveRelative : ℕ
+moveRelative = 0x10
 
--- the calls of the cases: in track 0 from a position, in group 1 from a track
-abbrev pub bySegment : ℕ → Step → Near
-bySegment position step = segmentAfter sampleTracks sampleSegments step (inSample 3 0 position)
+abbrev pub previousSegment : ℕ
+previousSegment = 0x20
 
-abbrev pub byRelative : ℕ → ℕ → Near
-byRelative position number = At (heldSum (durationNow sampleTracks (inSample 3 0 position)) position (signedWord number))
+abbrev pub nextSegment : ℕ
+nextSegment = 0x21
 
-abbrev pub byWrite : ℕ → Near
-byWrite number = At (written (durationNow sampleTracks (inSample 3 0 0)) (signedWord number))
+abbrev pub gotoSegment : ℕ
+gotoSegment = 0x24
 
-abbrev pub byTrack : ℕ → ℕ → Step → Near
-byTrack order track step = trackAfter sampleGroups sampleTracks step (inSample order track 0)
+abbrev pub nextTrack : ℕ
+nextTrack = 0x31
 
-abbrev pub byGroup : Step → Near
-byGroup step = groupAfter sampleGroups step (inSample 3 0 0)
+abbrev pub gotoTrack : ℕ
+gotoTrack = 0x34
 
--- `Nothing` is result 4
+abbrev pub nextGroup : ℕ
+nextGroup = 0x41
+
+abbrev pub gotoGroup : ℕ
+gotoGroup = 0x44
+
+-- the 21 bits that opcodes have
+abbrev pub everyOpcode : ℕ
+everyOpcode = 0x1F_FFFF
+
+-- a player of the sample in group 1: in an order, at a track and a position
+abbrev pub inGroup1 : ℕ → ℕ → ℕ → Player
+inGroup1 order track position = atPosition position (activatedAt 1 track (withOrder order (startedPlayer [] everyOpcode 0)))
+
+abbrev pub inTrack0 : ℕ → Player
+inTrack0 position = inGroup1 3 0 position
+
+-- what a call came to: its result, and the group, the track and the position afterwards
+pub record Came : Type 0 where
+  pub result : ℕ
+  pub group : ℕ
+  pub track : ℕ
+  pub position : ℕ
+
+abbrev pub came : ℕ → ℕ → ℕ → ℕ → Came
+came result group track position = record { result = result; group = group; track = track; position = position }
+
+abbrev pub placed : ℕ → Player → Came
+placed result p = came result (p .place .group .0) (p .place .track .0) (p .place .position .0)
+
+abbrev pub outcome : Controlled → Came
+outcome c = placed (c .result) (c .player)
+
+-- a write to the control point: an opcode, and its number or 0
+abbrev pub control : ℕ → ℕ → Player → Came
+control opcode number p = outcome (controlled sampleGroups sampleTracks sampleSegments opcode number p)
+
+-- a position write, which has no result: 0 stands there
+abbrev pub write : ℕ → Player → Came
+write number p = placed 0 (positioned sampleTracks number p)
+
 pub record Case : Type 0 where
-  pub got : Near
-  pub want : Near
+  pub got : Came
+  pub want : Came
 
-abbrev pub case : Near → Near → Case
+abbrev pub case : Came → Came → Case
 case got want = record { got = got; want = want }
 
 abbrev pub cases : List Case
 cases =
     -- "In track 0: P 1500 Previous Segment → 0"
-    case (bySegment 1500 Previous) (At 0)
+    case (control previousSegment 0 (inTrack0 1500)) (came 1 1 0 0)
     -- "P 1501 → 1500"
-    ∷ case (bySegment 1501 Previous) (At 1500)
+    ∷ case (control previousSegment 0 (inTrack0 1501)) (came 1 1 0 1500)
     -- "P 4000 Next → 6000"
-    ∷ case (bySegment 4000 Next) (At 6000)
+    ∷ case (control nextSegment 0 (inTrack0 4000)) (came 1 1 0 6000)
     -- "P Goto 3 → 4000"
-    ∷ case (bySegment 1500 (Goto 3)) (At 4000)
+    ∷ case (control gotoSegment 3 (inTrack0 1500)) (came 1 1 0 4000)
     -- "P Goto 4 → 6000"
-    ∷ case (bySegment 1500 (Goto 4)) (At 6000)
+    ∷ case (control gotoSegment 4 (inTrack0 1500)) (came 1 1 0 6000)
     -- "P Goto −2 → 1500"
-    ∷ case (bySegment 4000 (Goto (minus 2))) (At 1500)
+    ∷ case (control gotoSegment (minus 2) (inTrack0 4000)) (came 1 1 0 1500)
     -- "P Goto −2147483648 → 0"
-    ∷ case (bySegment 1500 (Goto (minus 2147483648))) (At 0)
+    ∷ case (control gotoSegment (minus 2147483648) (inTrack0 1500)) (came 1 1 0 0)
     -- "P 1500 Move Relative 2147483647 → 6000"
-    ∷ case (byRelative 1500 2147483647) (At 6000)
+    ∷ case (control moveRelative 2147483647 (inTrack0 1500)) (came 1 1 0 6000)
     -- "P write −4000 → 2000"
-    ∷ case (byWrite (minus 4000)) (At 2000)
+    ∷ case (write (minus 4000) (inTrack0 1500)) (came 0 1 0 2000)
     -- "write −1 → 5999"
-    ∷ case (byWrite (minus 1)) (At 5999)
+    ∷ case (write (minus 1) (inTrack0 1500)) (came 0 1 0 5999)
     -- "In group 1: P order 3 Next from 2 → result 4"
-    ∷ case (byTrack 3 2 Next) Nothing
+    ∷ case (control nextTrack 0 (inGroup1 3 2 0)) (came 4 1 2 0)
     -- "P order 4 → track 0"
-    ∷ case (byTrack 4 2 Next) (At 0)
+    ∷ case (control nextTrack 0 (inGroup1 4 2 0)) (came 1 1 0 0)
     -- "P order 5 Next from 2 → track 0"
-    ∷ case (byTrack 5 2 Next) (At 0)
+    ∷ case (control nextTrack 0 (inGroup1 5 2 0)) (came 1 1 0 0)
     -- "P order 4 Goto −2147483648 → track 1"
-    ∷ case (byTrack 4 0 (Goto (minus 2147483648))) (At 1)
-    -- "P Next Group → group 3, track 3": the group, and its first track in the order
-    ∷ case (byGroup Next) (At 3)
-    ∷ case (then (byGroup Next) (entryOf sampleGroups sampleTracks 3)) (At 3)
+    ∷ case (control gotoTrack (minus 2147483648) (inGroup1 4 0 1500)) (came 1 1 1 0)
+    -- "P Next Group → group 3, track 3"
+    ∷ case (control nextGroup 0 (inGroup1 3 0 1500)) (came 1 3 3 0)
     -- "Goto Group 3 → result 4"
-    ∷ case (byGroup (Goto 3)) Nothing
+    ∷ case (control gotoGroup 3 (inGroup1 3 0 1500)) (came 4 1 0 1500)
     ∷ []
 
 -- each comes to what it should

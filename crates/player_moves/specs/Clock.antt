@@ -1,5 +1,6 @@
 -- Advance, the written position, and activation (document 01, "Player rules").
 -- Assumes nothing.
+use mathlib.Core.Bool.{Bool}
 use mathlib.Core.List.{List}
 use Prim.Native.Nat.{ℕ, _+_}
 use lib.Dec.{eqb, ltb}
@@ -12,24 +13,28 @@ use Rattle.player_state.specs.declared.Player.{Player}
 use Rattle.player_state.specs.Player.{playing, seeking, isActive, atPlace, atPosition}
 use Rattle.player_state.specs.Modes.{pausedAt, activatedAt}
 use Rattle.player_state.specs.Positions.{written, sought}
-use Rattle.player_moves.specs.Moves.{durationNow, trackAfter, entryOf}
+use Rattle.player_moves.specs.Moves.{endNow, trackAfter, entryOf}
+
+-- an advance by d "stays below D"
+abbrev pub staysBelow : List ℕ → ℕ → Player → Bool
+staysBelow tracks d p = ltb (p .place .position .0 + d) (endNow tracks p)
 
 -- "at D or beyond, the next track at 0, or, where none, Paused at D"
 abbrev pub afterEnd : List ℕ → Near → Player → Player
 afterEnd tracks (At t) p = atPlace (p .place .group .0) t 0 p
-afterEnd tracks Nothing p = pausedAt (durationNow tracks p) p
+afterEnd tracks Nothing p = pausedAt (endNow tracks p) p
 
 -- "Playing adds d"
 unfoldable pub playedOn : List ℕ → List ℕ → ℕ → Player → Player
 playedOn groups tracks d p =
-    pick (ltb (p .place .position .0 + d) (durationNow tracks p))
+    pick (staysBelow tracks d p)
     (atPosition (p .place .position .0 + d) p)
     (afterEnd tracks (trackAfter groups tracks Next p) p)
 
 -- "Seeking adds d times the seeking speed, held to 0..D."
 unfoldable pub soughtOn : List ℕ → ℕ → Player → Player
 soughtOn tracks d p =
-    atPosition (sought (durationNow tracks p) (p .place .position .0) (p .mode .seeking) d) p
+    atPosition (sought (endNow tracks p) (p .place .position .0) (p .mode .seeking) d) p
 
 -- "Advance d"; "Otherwise nothing."
 unfoldable pub advanced : List ℕ → List ℕ → ℕ → Player → Player
@@ -40,7 +45,7 @@ advanced groups tracks d p =
 -- "While Inactive the write is taken and alters nothing."
 unfoldable pub positioned : List ℕ → ℕ → Player → Player
 positioned tracks number p =
-    pick (isActive p) (atPosition (written (durationNow tracks p) (signedWord number)) p) p
+    pick (isActive p) (atPosition (written (endNow tracks p) (signedWord number)) p) p
 
 -- "Activate: the group's first track in the order, position 0, Paused, seeking speed 0."
 abbrev pub activatedOn : ℕ → Near → Player → Player

@@ -14,7 +14,7 @@ use Rattle.player_state.specs.declared.Player.{Player}
 use Rattle.player_state.specs.Player.{paused, isActive, inMode, atPosition}
 use Rattle.player_state.specs.Modes.{played, pausedAt, forwarded, rewound, movedTo}
 use Rattle.player_state.specs.Positions.{heldSum}
-use Rattle.player_moves.specs.Moves.{durationNow, segmentAfter, trackAfter, groupAfter, entryOf}
+use Rattle.player_moves.specs.Moves.{endNow, segmentAfter, trackAfter, groupAfter, entryOf}
 use Rattle.player_moves.specs.declared.Controlled.{Controlled}
 
 -- "1 Success; 2 opcode unknown or not in the mask; 3 Inactive; 4 cannot be completed"
@@ -41,7 +41,7 @@ acted groups tracks segments Rewind p = success (rewound p)
 acted groups tracks segments Forward p = success (forwarded p)
 acted groups tracks segments Stop p = success (pausedAt 0 p)
 acted groups tracks segments (Relative n) p =
-    success (atPosition (heldSum (durationNow tracks p) (p .place .position .0) (signedWord n)) p)
+    success (atPosition (heldSum (endNow tracks p) (p .place .position .0) (signedWord n)) p)
 acted groups tracks segments (Segment step) p =
     onward (segmentAfter tracks segments step p) (λ x. success (atPosition x p)) p
 acted groups tracks segments (Track step) p =

@@ -5,7 +5,7 @@ use mathlib.Core.List.{List}
 use Prim.Native.Nat.{ℕ, _+_, _<_, _≤_}
 use lib.ListN.{length}
 use Rattle.ground.specs.Limits.{mostGroups, mostTracks}
-use Rattle.catalogue_tables.specs.Tables.{groupCount, trackCount, firstTrackOf, tracksIn, durationOf, startsOf}
+use Rattle.catalogue_tables.specs.Tables.{groupCount, trackCount, firstTrackOf, tracksIn, endOf, startsOf}
 use Rattle.player_walk.specs.Steps.{firstOf, moveIn}
 use Rattle.player_walk.specs.declared.Near.{Near}
 use Rattle.player_walk.specs.declared.Step.{Step}
@@ -14,13 +14,13 @@ use Rattle.player_groups.specs.Family.{siblings}
 use Rattle.player_segments.specs.Segments.{segmentMove, Rising}
 use Rattle.player_state.specs.declared.Player.{Player}
 
--- D, "the duration"
-abbrev pub durationNow : List ℕ → Player → ℕ
-durationNow tracks p = durationOf tracks (p .place .track .0)
+-- D of the current track
+abbrev pub endNow : List ℕ → Player → ℕ
+endNow tracks p = endOf tracks (p .place .track .0)
 
 unfoldable pub segmentAfter : List ℕ → List ℕ → Step → Player → Near
 segmentAfter tracks segments step p =
-    segmentMove step (startsOf tracks segments (p .place .track .0)) (durationNow tracks p) (p .place .position .0)
+    segmentMove step (startsOf tracks segments (p .place .track .0)) (endNow tracks p) (p .place .position .0)
 
 -- a group's tracks in an order, where t is the current one
 abbrev pub inOrder : List ℕ → List ℕ → ℕ → ℕ → ℕ → List ℕ
@@ -42,7 +42,7 @@ pub record Shaped (groups tracks segments : List ℕ) : Type 0 where
   pub few-groups : groupCount groups ≤ mostGroups
   pub few-tracks : trackCount tracks ≤ mostTracks
   pub runs : (g : ℕ) → g < groupCount groups → firstTrackOf groups g + tracksIn groups g ≤ trackCount tracks
-  pub rising : (t : ℕ) → t < trackCount tracks → Rising (startsOf tracks segments t) (durationOf tracks t)
+  pub rising : (t : ℕ) → t < trackCount tracks → Rising (startsOf tracks segments t) (endOf tracks t)
 
 -- the current track lies in the current group's run, and a group's run in the tracks
 abbrev pub Seated : List ℕ → List ℕ → Player → Type 0

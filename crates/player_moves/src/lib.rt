@@ -10,10 +10,10 @@ ghost use Rattle.player_state.specs.Modes.{movedTo};
 ghost use Rattle.player_groups.specs.Family.{Current};
 ghost use Rattle.player_segments.specs.Segments.{Rising};
 ghost use Rattle.player_check.specs.Standing.{playerRule};
-ghost use Rattle.catalogue_tables.specs.Tables.{startsOf, durationOf};
-ghost use Rattle.player_moves.specs.Moves.{durationNow, segmentAfter, trackAfter, groupAfter, entryOf, Shaped, Seated, RunOf};
+ghost use Rattle.catalogue_tables.specs.Tables.{startsOf, endOf};
+ghost use Rattle.player_moves.specs.Moves.{endNow, segmentAfter, trackAfter, groupAfter, entryOf, Shaped, Seated, RunOf};
 ghost use Rattle.player_moves.specs.Control.{success, failed, onward, entered, acted, controlled};
-ghost use Rattle.player_moves.specs.Clock.{playedOn, soughtOn, advanced, positioned, activated};
+ghost use Rattle.player_moves.specs.Clock.{staysBelow, playedOn, soughtOn, advanced, positioned, activated};
 
 // A result code, and the player afterwards.
 pub struct Controlled {
@@ -45,16 +45,21 @@ fn move_segment(
     p: player_state::Player,
     step: player_walk::Step,
 ) -> Controlled
-    requires { ⌜ Rising (startsOf (now tracks) (now segments) (p .place .track .0)) (durationOf (now tracks) (p .place .track .0)) ⌝ }
+    requires { ⌜ Rising (startsOf (now tracks) (now segments) (p .place .track .0)) (endOf (now tracks) (p .place .track .0)) ⌝ }
     ensures { λ r. ⌜ r ≡ onward (segmentAfter (now (tracks .entry)) (now (segments .entry)) step p) (λ (x : ℕ). success (atPosition x p)) p ⌝ }
 {
     let t = p.place.track;
     let from = p.place.position;
-    let d = catalogue_tables::duration(tracks, t);
+    let end = catalogue_tables::end(tracks, t);
     let starts = catalogue_tables::starts(tracks, segments, t);
-    let to = player_segments::segment_after(starts, d, from, step);
-    let q = player_state::at_position(p, to);
-    done(q)
+    let near = player_segments::segment_after(starts, end, from, step);
+    match near {
+        player_segments::NearPosition::Found(to) => {
+            let q = player_state::at_position(p, to);
+            done(q)
+        }
+        player_segments::NearPosition::None => undone(p, 4),
+    }
 }
 
 fn near_track(
@@ -146,11 +151,10 @@ fn move_group(
 }
 
 fn move_relative(tracks: &[u32], p: player_state::Player, number: u32) -> player_state::Player
-    ensures { λ r. ⌜ r ≡ atPosition (heldSum (durationNow (now (tracks .entry)) p) (p .place .position .0) (signedWord number)) p ⌝ }
+    ensures { λ r. ⌜ r ≡ atPosition (heldSum (endNow (now (tracks .entry)) p) (p .place .position .0) (signedWord number)) p ⌝ }
 {
-    let d = catalogue_tables::duration(tracks, p.place.track);
-    let x = player_state::held_sum(d.0, p.place.position.0, number);
-    let to = catalogue_tables::Position(x);
+    let end = catalogue_tables::end(tracks, p.place.track);
+    let to = player_state::held_sum(end, p.place.position, number);
     player_state::at_position(p, to)
 }
 
@@ -169,11 +173,11 @@ fn act(
 {
     match action {
         player_opcodes::Action::Play => {
-            let q = player_state::in_mode(p, 1, 0);
+            let q = player_state::in_mode(p, player_state::PLAYING, 0);
             done(q)
         }
         player_opcodes::Action::Pause => {
-            let q = player_state::in_mode(p, 2, 0);
+            let q = player_state::in_mode(p, player_state::PAUSED, 0);
             done(q)
         }
         player_opcodes::Action::Rewind => {
@@ -185,7 +189,7 @@ fn act(
             done(q)
         }
         player_opcodes::Action::Stop => {
-            let q = player_state::in_mode(p, 2, 0);
+            let q = player_state::in_mode(p, player_state::PAUSED, 0);
             let begin = catalogue_tables::Position(0);
             let s = player_state::at_position(q, begin);
             done(s)
@@ -217,11 +221,20 @@ pub fn control(
     if !player_opcodes::is_offered(p.offer.mask, opcode) {
         return undone(p, 2);
     }
-    if p.mode.media == 0 {
+    if p.mode.media == player_state::INACTIVE {
         return undone(p, 3);
     }
     let action = player_opcodes::action_of(opcode, number);
     act(groups, tracks, segments, p, action)
+}
+
+// Whether an advance by d stays below the current track's end.
+pub fn stays_below(tracks: &[u32], p: player_state::Player, d: u32) -> bool
+    ensures { λ r. ⌜ r ≡ staysBelow (now (tracks .entry)) d p ⌝ }
+{
+    let end = catalogue_tables::end(tracks, p.place.track);
+    let to = (p.place.position.0 as u64) + (d as u64);
+    to < (end.0 as u64)
 }
 
 // Playing: on by d, or to the next track, or Paused at the end.
@@ -229,11 +242,10 @@ fn play_on(groups: &[u32], tracks: &[u32], p: player_state::Player, d: u32) -> p
     requires { ⌜ Seated (now groups) (now tracks) p ⌝ }
     ensures { λ r. ⌜ r ≡ playedOn (now (groups .entry)) (now (tracks .entry)) d p ⌝ }
 {
-    let end = catalogue_tables::duration(tracks, p.place.track);
-    let to = ground::wide_word(p.place.position.0) + ground::wide_word(d);
-    if to < ground::wide_word(end.0) {
-        let x = catalogue_tables::Position(to as u32);
-        return player_state::at_position(p, x);
+    if stays_below(tracks, p, d) {
+        let sum = p.place.position.0 + d;
+        let to = catalogue_tables::Position(sum);
+        return player_state::at_position(p, to);
     }
     let near = near_track(groups, tracks, p, player_walk::Step::Next);
     match near {
@@ -243,7 +255,8 @@ fn play_on(groups: &[u32], tracks: &[u32], p: player_state::Player, d: u32) -> p
             player_state::at_place(p, g, t, begin)
         }
         player_orders::NearTrack::None => {
-            let q = player_state::in_mode(p, 2, 0);
+            let q = player_state::in_mode(p, player_state::PAUSED, 0);
+            let end = catalogue_tables::end(tracks, p.place.track);
             player_state::at_position(q, end)
         }
     }
@@ -252,9 +265,8 @@ fn play_on(groups: &[u32], tracks: &[u32], p: player_state::Player, d: u32) -> p
 fn seek_on(tracks: &[u32], p: player_state::Player, d: u32) -> player_state::Player
     ensures { λ r. ⌜ r ≡ soughtOn (now (tracks .entry)) d p ⌝ }
 {
-    let end = catalogue_tables::duration(tracks, p.place.track);
-    let x = player_state::sought_position(end.0, p.place.position.0, p.mode.seeking, d);
-    let to = catalogue_tables::Position(x);
+    let end = catalogue_tables::end(tracks, p.place.track);
+    let to = player_state::sought_position(end, p.place.position, p.mode.seeking, d);
     player_state::at_position(p, to)
 }
 
@@ -268,10 +280,10 @@ pub fn advance(
     requires { ⌜ (0 < p .mode .media → Seated (now groups) (now tracks) p) ⌝ }
     ensures { λ r. ⌜ r ≡ advanced (now (groups .entry)) (now (tracks .entry)) d p ⌝ }
 {
-    if p.mode.media == 1 {
+    if p.mode.media == player_state::PLAYING {
         return play_on(groups, tracks, p, d);
     }
-    if p.mode.media == 3 {
+    if p.mode.media == player_state::SEEKING {
         return seek_on(tracks, p, d);
     }
     p
@@ -280,12 +292,11 @@ pub fn advance(
 pub fn write_position(tracks: &[u32], p: player_state::Player, number: u32) -> player_state::Player
     ensures { λ r. ⌜ r ≡ positioned (now (tracks .entry)) number p ⌝ }
 {
-    if p.mode.media == 0 {
+    if p.mode.media == player_state::INACTIVE {
         return p;
     }
-    let end = catalogue_tables::duration(tracks, p.place.track);
-    let x = player_state::written_position(end.0, number);
-    let to = catalogue_tables::Position(x);
+    let end = catalogue_tables::end(tracks, p.place.track);
+    let to = player_state::written_position(end, number);
     player_state::at_position(p, to)
 }
 
@@ -302,7 +313,7 @@ pub fn activate(
     let near = entry(groups, tracks, p.mode.order, g);
     match near {
         player_orders::NearTrack::Found(t) => {
-            let q = player_state::in_mode(p, 2, 0);
+            let q = player_state::in_mode(p, player_state::PAUSED, 0);
             let begin = catalogue_tables::Position(0);
             player_state::at_place(q, g, t, begin)
         }
@@ -313,7 +324,7 @@ pub fn activate(
 pub fn deactivate(p: player_state::Player) -> player_state::Player
     ensures { λ r. ⌜ r ≡ deactivated p ⌝ }
 {
-    let q = player_state::in_mode(p, 0, 0);
+    let q = player_state::in_mode(p, player_state::INACTIVE, 0);
     let g = catalogue_tables::GroupNo(0);
     let t = catalogue_tables::TrackNo(0);
     let x = catalogue_tables::Position(0);

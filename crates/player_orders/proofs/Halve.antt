@@ -15,8 +15,8 @@ use Rattle.player_walk.proofs.Walk.{at-is, at-none}
 use Rattle.player_walk.specs.declared.Near.the-variants.{At, Nothing}
 use Rattle.player_orders.specs.declared.By.{By}
 use Rattle.player_orders.specs.declared.By.the-variants.{Number, Rising, Falling}
-use Rattle.player_orders.specs.Order.{keyOf, ordered}
-use Rattle.player_orders.specs.Below.{below}
+use Rattle.player_orders.specs.Order.{ordered}
+use Rattle.player_orders.specs.Keys.{keyOf, below}
 use Rattle.player_orders.proofs.Sorted.{below-lt, below-le}
 use Rattle.player_orders.proofs.Span.{is-sorted, how-many, in-list, at-place, as-many, number-of}
 
@@ -33,24 +33,24 @@ module _ (by : By) (tracks : List ℕ) (first count : ℕ) (small : first + coun
   pub too-far : count ≤ k → Nothing ≡ at (ordered by tracks first count) k
   too-far h = sym (at-none (ordered by tracks first count) k (omega (arith, how-many by tracks first count small)))
 
-  module _ (h : k < count) where
+  module _ (words : (i : ℕ) → getD tracks i 0 < 0x1_0000_0000) (h : k < count) where
     there : k < length (ordered by tracks first count)
     there = in-list by tracks first count small k h
 
     at-k : (first ≤ getD (ordered by tracks first count) k 0) × (getD (ordered by tracks first count) k 0 < first + count)
     at-k = at-place by tracks first count small k h
 
-    pub starts : ((i : ℕ) → getD tracks i 0 < 0x1_0000_0000) → goal by tracks first count k < 0xFFFF_FFFF_FFFF_FFFF
+    pub starts : goal by tracks first count k < 0xFFFF_FFFF_FFFF_FFFF
     unfolding goal
-    starts words = key-top by tracks (getD (ordered by tracks first count) k 0) (omega (arith, at-k .1)) (words (getD (ordered by tracks first count) k 0 * 6 + 1))
+    starts = key-top by tracks (getD (ordered by tracks first count) k 0) (omega (arith, at-k .1)) (words (getD (ordered by tracks first count) k 0 * 6 + 1))
 
     pub up : (x n : ℕ) → n ≡ below (keyOf by tracks) x (span first count) → n ≤ k → x ≤ goal by tracks first count k
     unfolding goal
-    up x n e q = ⊎-elim (λ r. r) (λ r. absurd (lt-irrefl k (omega (arith, e ∙ as-many by tracks first count small x, below-lt (keyOf by tracks) x (ordered by tracks first count) k (is-sorted by tracks first count small) there r)))) (le-or x (goal by tracks first count k))
+    up x n e q = ⊎-elim (λ r. r) (λ r. absurd (lt-irrefl k (omega (arith, e ∙ as-many by tracks first count small x, below-lt (keyOf by tracks) x (ordered by tracks first count) k (is-sorted by tracks first count small words) there r)))) (le-or x (goal by tracks first count k))
 
     pub down : (x n : ℕ) → n ≡ below (keyOf by tracks) x (span first count) → k < n → goal by tracks first count k < x
     unfolding goal
-    down x n e q = ⊎-elim (λ r. absurd (lt-irrefl k (omega (arith, e ∙ as-many by tracks first count small x, below-le (keyOf by tracks) x (ordered by tracks first count) k (is-sorted by tracks first count small) there r)))) (λ r. r) (le-or x (goal by tracks first count k))
+    down x n e q = ⊎-elim (λ r. absurd (lt-irrefl k (omega (arith, e ∙ as-many by tracks first count small x, below-le (keyOf by tracks) x (ordered by tracks first count) k (is-sorted by tracks first count small words) there r)))) (λ r. r) (le-or x (goal by tracks first count k))
 
     pub met : (lo hi : ℕ) → lo ≤ goal by tracks first count k → goal by tracks first count k < hi → hi - lo ≤ 1 → At (lo % 0x1_0000_0000) ≡ at (ordered by tracks first count) k
     unfolding goal

@@ -23,8 +23,7 @@ use Rattle.player_walk.specs.declared.Way.the-variants.{Stay, Ahead, Back}
 use Rattle.player_walk.proofs.Walk.{at-is, move-is}
 use Rattle.player_orders.specs.Order.{ordered, byOf, repeats, tracksInOrder, Run, InRun}
 use Rattle.player_orders.proofs.Sorted.{All}
-use Rattle.player_orders.proofs.Span.{within, at-member}
-use Rattle.player_orders.proofs.Moves.{apart}
+use Rattle.player_orders.proofs.Span.{within, apart-places, at-member}
 
 -- a list with t in it, each of its elements at one place and from lo up to hi
 record Holds (lo hi t : ℕ) (l : List ℕ) : Type 0 where
@@ -99,7 +98,7 @@ module _ (order : ℕ) (tracks : List ℕ) (words first count : ℕ) where
       go : (b : Bool) → Holds first (first + count) t (pick b (t ∷ []) (ordered (byOf order) tracks first count))
       go true = one first (first + count) t (r .low) (r .high)
       go false = record {
-        places = apart (byOf order) tracks first count (r .small);
+        places = apart-places (byOf order) tracks first count (r .small);
         inside = within (byOf order) tracks first count (r .small);
         holds = at-member (byOf order) tracks first count (r .small) t (r .low) (r .high);
       }

@@ -1,4 +1,5 @@
 -- The laws that belong to no one function.
+pub mod Compare
 pub mod Sorted
 pub mod Span
 pub mod Few

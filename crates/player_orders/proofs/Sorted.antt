@@ -1,19 +1,19 @@
--- A list sorted by distinct keys: a key's rank, the number of keys below it, is its place. Assumes nothing.
+-- Sorting keeps what a list has; where what comes before has the lesser key, a key's rank, the number of keys below it, is its place. Assumes nothing.
 use mathlib.Core.Path.{_≡_, refl, sym, ap, _∙_, subst}
 use mathlib.Core.Bool.{Bool, true, false}
 use mathlib.Core.Logic.{_⊎_, inl, inr, ⊎-elim}
 use mathlib.Core.List.{List, [], _∷_}
 use Prim.Native.Nat.{ℕ, zero, suc, _<_, _≤_, suc-le-suc}
-use native.Mathlib.Nat.{le-of-suc-le-suc, not-suc-le-zero, lt-irrefl, eq-or-lt-of-le, le-of-lt}
+use native.Mathlib.Nat.{le-of-suc-le-suc, not-suc-le-zero, eq-or-lt-of-le, le-of-lt}
 use native.Mathlib.Omega.{arith}
-use borrow.Author.Tests.{lt-ltb, le-ltb, le-leb, lt-leb, eq-eqb, ne-eqb}
-use lib.Dec.{leb, ltb}
+use borrow.Author.Tests.{lt-ltb, le-ltb, eq-eqb, ne-eqb}
+use lib.Dec.{ltb}
 use lib.ListN.{length, getD}
 use Rattle.ground.specs.Cases.{pick}
 use Rattle.ground.proofs.Cases.{le-or}
 use Rattle.player_walk.specs.Steps.{place}
 use Rattle.player_orders.specs.Order.{insert, sort}
-use Rattle.player_orders.specs.Below.{below}
+use Rattle.player_orders.specs.Keys.{below}
 
 -- P of every element
 abbrev pub All : (ℕ → Type 0) → List ℕ → Type 0
@@ -43,79 +43,109 @@ pub in-index : (t : ℕ) (l : List ℕ) → In t l → (k : ℕ) × (k < length 
 in-index t (u ∷ l) (inl e) = (zero, omega arith, sym e)
 in-index t (u ∷ l) (inr m) = let r = in-index t l m in (suc (r .0), suc-le-suc (r .1), r .2)
 
+-- what is the same of no two elements
 module _ (f : ℕ → ℕ) where
-  -- no two keys are equal
   abbrev pub Apart : List ℕ → Type 0
   Apart [] = Unit
   Apart (t ∷ l) = All (λ u. f u ≡ f t → ⊥) l × Apart l
 
+-- no element stands at two places
+abbrev pub Different : List ℕ → Type 0
+Different = Apart (λ u. u)
+
+pub place-at : (l : List ℕ) (k : ℕ) → Different l → k < length l → place (getD l k 0) l ≡ k
+place-at [] k s h = absurd (not-suc-le-zero h)
+place-at (t ∷ l) zero s h = rw (eq-eqb t t refl)
+place-at (t ∷ l) (suc k) s h =
+    let h′ = le-of-suc-le-suc h in
+    rw (ne-eqb (getD l k 0) t (all-at (λ v. v ≡ t → ⊥) l k (s .0) h′)) (ap suc (place-at l k (s .1) h′))
+
+module _ (before : ℕ → ℕ → Bool) where
+  length-insert : (t : ℕ) (l : List ℕ) → length (insert before t l) ≡ suc (length l)
+  length-insert t [] = refl
+  length-insert t (u ∷ l) = go (before u t) (length-insert t l)
+    where
+      go : (b : Bool) → length (insert before t l) ≡ suc (length l) → length (pick b (u ∷ insert before t l) (t ∷ u ∷ l)) ≡ suc (suc (length l))
+      go true e = ap suc e
+      go false e = refl
+
+  pub length-sort : (l : List ℕ) → length (sort before l) ≡ length l
+  length-sort [] = refl
+  length-sort (t ∷ l) = length-insert t (sort before l) ∙ ap suc (length-sort l)
+
+  insert-in : (x t : ℕ) (l : List ℕ) → In x (t ∷ l) → In x (insert before t l)
+  insert-in x t [] h = h
+  insert-in x t (u ∷ l) h = go (before u t) h (insert-in x t l)
+    where
+      go : (b : Bool) → In x (t ∷ u ∷ l) → (In x (t ∷ l) → In x (insert before t l)) → In x (pick b (u ∷ insert before t l) (t ∷ u ∷ l))
+      go true (inl e) r = inr (r (inl e))
+      go true (inr (inl e)) r = inl e
+      go true (inr (inr m)) r = inr (r (inr m))
+      go false h r = h
+
+  pub sort-in : (x : ℕ) (l : List ℕ) → In x l → In x (sort before l)
+  sort-in x (t ∷ l) (inl e) = insert-in x t (sort before l) (inl e)
+  sort-in x (t ∷ l) (inr m) = insert-in x t (sort before l) (inr (sort-in x l m))
+
+  insert-all : (P : ℕ → Type 0) (t : ℕ) (l : List ℕ) → P t → All P l → All P (insert before t l)
+  insert-all P t [] p a = (p, tt)
+  insert-all P t (u ∷ l) p a = go (before u t) (insert-all P t l p (a .1))
+    where
+      go : (b : Bool) → All P (insert before t l) → All P (pick b (u ∷ insert before t l) (t ∷ u ∷ l))
+      go true r = (a .0, r)
+      go false r = (p, a)
+
+  pub sort-all : (P : ℕ → Type 0) (l : List ℕ) → All P l → All P (sort before l)
+  sort-all P [] a = tt
+  sort-all P (t ∷ l) a = insert-all P t (sort before l) (a .0) (sort-all P l (a .1))
+
+  module _ (f : ℕ → ℕ) where
+    insert-apart : (t : ℕ) (l : List ℕ) → All (λ u. f u ≡ f t → ⊥) l → Apart f l → Apart f (insert before t l)
+    insert-apart t [] a s = (tt, tt)
+    insert-apart t (u ∷ l) a s = go (before u t) (insert-apart t l (a .1) (s .1))
+      where
+        go : (b : Bool) → Apart f (insert before t l) → Apart f (pick b (u ∷ insert before t l) (t ∷ u ∷ l))
+        go true r = (insert-all (λ v. f v ≡ f u → ⊥) t l (λ e. a .0 (sym e)) (s .0), r)
+        go false r = (a, s)
+
+    pub sort-apart : (l : List ℕ) → Apart f l → Apart f (sort before l)
+    sort-apart [] a = tt
+    sort-apart (t ∷ l) a = insert-apart t (sort before l) (sort-all (λ u. f u ≡ f t → ⊥) l (a .0)) (sort-apart l (a .1))
+
+    below-insert : (x t : ℕ) (l : List ℕ) → below f x (insert before t l) ≡ below f x (t ∷ l)
+    below-insert x t [] = refl
+    below-insert x t (u ∷ l) = go (before u t) (below-insert x t l)
+      where
+        go : (b : Bool) → below f x (insert before t l) ≡ pick (ltb (f t) x) (suc (below f x l)) (below f x l) → below f x (pick b (u ∷ insert before t l) (t ∷ u ∷ l)) ≡ below f x (t ∷ u ∷ l)
+        go true e = rw e (swap (ltb (f t) x) (ltb (f u) x) (below f x l))
+        go false e = refl
+
+    pub below-sort : (x : ℕ) (l : List ℕ) → below f x (sort before l) ≡ below f x l
+    below-sort x [] = refl
+    below-sort x (t ∷ l) = below-insert x t (sort before l) ∙ ap (λ (n : ℕ). pick (ltb (f t) x) (suc n) n) (below-sort x l)
+
+module _ (f : ℕ → ℕ) where
   abbrev pub Sorted : List ℕ → Type 0
   Sorted [] = Unit
   Sorted (t ∷ l) = All (λ u. f t < f u) l × Sorted l
 
-  length-insert : (t : ℕ) (l : List ℕ) → length (insert f t l) ≡ suc (length l)
-  length-insert t [] = refl
-  length-insert t (u ∷ l) = go (leb (f t) (f u)) (length-insert t l)
-    where
-      go : (b : Bool) → length (insert f t l) ≡ suc (length l) → length (pick b (t ∷ u ∷ l) (u ∷ insert f t l)) ≡ suc (suc (length l))
-      go true e = refl
-      go false e = ap suc e
+  -- of elements that have P, the one that comes before has the lesser key
+  module _ (before : ℕ → ℕ → Bool) (P : ℕ → Type 0) (compares : (t u : ℕ) → P t → P u → before t u ≡ ltb (f t) (f u)) where
+    insert-sorted : (t : ℕ) (l : List ℕ) → P t → All P l → Sorted l → All (λ u. f u ≡ f t → ⊥) l → Sorted (insert before t l)
+    insert-sorted t [] p q s a = (tt, tt)
+    insert-sorted t (u ∷ l) p q s a = go (le-or (f t) (f u)) (insert-sorted t l p (q .1) (s .1) (a .1))
+      where
+        go : (f t ≤ f u) ⊎ (f u < f t) → Sorted (insert before t l) → Sorted (pick (before u t) (u ∷ insert before t l) (t ∷ u ∷ l))
+        go (inl h) r =
+            let lt : f t < f u = ⊎-elim (λ e. absurd (a .0 (sym e))) (λ q. q) (eq-or-lt-of-le h) in
+            rw (compares u t (q .0) p ∙ le-ltb (f u) (f t) h) (((lt, map-all (λ v. f u < f v) (λ v. f t < f v) l (λ v q. omega arith) (s .0)), s))
+        go (inr h) r = rw (compares u t (q .0) p ∙ lt-ltb (f u) (f t) h) ((insert-all before (λ v. f u < f v) t l h (s .0), r))
 
-  pub length-sort : (l : List ℕ) → length (sort f l) ≡ length l
-  length-sort [] = refl
-  length-sort (t ∷ l) = length-insert t (sort f l) ∙ ap suc (length-sort l)
-
-  below-insert : (x t : ℕ) (l : List ℕ) → below f x (insert f t l) ≡ below f x (t ∷ l)
-  below-insert x t [] = refl
-  below-insert x t (u ∷ l) = go (leb (f t) (f u)) (below-insert x t l)
-    where
-      go : (b : Bool) → below f x (insert f t l) ≡ pick (ltb (f t) x) (suc (below f x l)) (below f x l) → below f x (pick b (t ∷ u ∷ l) (u ∷ insert f t l)) ≡ below f x (t ∷ u ∷ l)
-      go true e = refl
-      go false e = rw e (swap (ltb (f t) x) (ltb (f u) x) (below f x l))
-
-  insert-in : (x t : ℕ) (l : List ℕ) → In x (t ∷ l) → In x (insert f t l)
-  insert-in x t [] h = h
-  insert-in x t (u ∷ l) h = go (leb (f t) (f u)) h (insert-in x t l)
-    where
-      go : (b : Bool) → In x (t ∷ u ∷ l) → (In x (t ∷ l) → In x (insert f t l)) → In x (pick b (t ∷ u ∷ l) (u ∷ insert f t l))
-      go true h r = h
-      go false (inl e) r = inr (r (inl e))
-      go false (inr (inl e)) r = inl e
-      go false (inr (inr m)) r = inr (r (inr m))
-
-  pub sort-in : (x : ℕ) (l : List ℕ) → In x l → In x (sort f l)
-  sort-in x (t ∷ l) (inl e) = insert-in x t (sort f l) (inl e)
-  sort-in x (t ∷ l) (inr m) = insert-in x t (sort f l) (inr (sort-in x l m))
-
-  insert-all : (P : ℕ → Type 0) (t : ℕ) (l : List ℕ) → P t → All P l → All P (insert f t l)
-  insert-all P t [] p a = (p, tt)
-  insert-all P t (u ∷ l) p a = go (leb (f t) (f u)) (insert-all P t l p (a .1))
-    where
-      go : (b : Bool) → All P (insert f t l) → All P (pick b (t ∷ u ∷ l) (u ∷ insert f t l))
-      go true r = (p, a)
-      go false r = (a .0, r)
-
-  pub sort-all : (P : ℕ → Type 0) (l : List ℕ) → All P l → All P (sort f l)
-  sort-all P [] a = tt
-  sort-all P (t ∷ l) a = insert-all P t (sort f l) (a .0) (sort-all P l (a .1))
-
-  pub below-sort : (x : ℕ) (l : List ℕ) → below f x (sort f l) ≡ below f x l
-  below-sort x [] = refl
-  below-sort x (t ∷ l) = below-insert x t (sort f l) ∙ ap (λ (n : ℕ). pick (ltb (f t) x) (suc n) n) (below-sort x l)
-
-  insert-sorted : (t : ℕ) (l : List ℕ) → Sorted l → All (λ u. f u ≡ f t → ⊥) l → Sorted (insert f t l)
-  insert-sorted t [] s a = (tt, tt)
-  insert-sorted t (u ∷ l) s a = go (le-or (f t) (f u)) (insert-sorted t l (s .1) (a .1))
-    where
-      go : (f t ≤ f u) ⊎ (f u < f t) → Sorted (insert f t l) → Sorted (pick (leb (f t) (f u)) (t ∷ u ∷ l) (u ∷ insert f t l))
-      go (inl h) r =
-          let lt : f t < f u = ⊎-elim (λ e. absurd (a .0 (sym e))) (λ q. q) (eq-or-lt-of-le h) in
-          rw (le-leb (f t) (f u) h) (((lt, map-all (λ v. f u < f v) (λ v. f t < f v) l (λ v q. omega arith) (s .0)), s))
-      go (inr h) r = rw (lt-leb (f t) (f u) h) ((insert-all (λ v. f u < f v) t l h (s .0), r))
-
-  pub sort-sorted : (l : List ℕ) → Apart l → Sorted (sort f l)
-  sort-sorted [] a = tt
-  sort-sorted (t ∷ l) a = insert-sorted t (sort f l) (sort-sorted l (a .1)) (sort-all (λ u. f u ≡ f t → ⊥) l (a .0))
+    pub sort-sorted : (l : List ℕ) → All P l → Apart f l → Sorted (sort before l)
+    sort-sorted [] q a = tt
+    sort-sorted (t ∷ l) q a =
+        insert-sorted t (sort before l) (q .0) (sort-all before P l (q .1)) (sort-sorted l (q .1) (a .1))
+        (sort-all before (λ u. f u ≡ f t → ⊥) l (a .0))
 
   below-none : (x : ℕ) (l : List ℕ) → All (λ u. x ≤ f u) l → below f x l ≡ 0
   below-none x [] a = refl
@@ -129,19 +159,11 @@ module _ (f : ℕ → ℕ) where
       let h′ = le-of-suc-le-suc h in
       rw (lt-ltb (f t) (f (getD l k 0)) (all-at (λ v. f t < f v) l k (s .0) h′)) (ap suc (rank-at l k (s .1) h′))
 
-  pub place-at : (l : List ℕ) (k : ℕ) → Sorted l → k < length l → place (getD l k 0) l ≡ k
-  place-at [] k s h = absurd (not-suc-le-zero h)
-  place-at (t ∷ l) zero s h = rw (eq-eqb t t refl)
-  place-at (t ∷ l) (suc k) s h =
-      let h′ = le-of-suc-le-suc h in
-      let q : f t < f (getD l k 0) = all-at (λ v. f t < f v) l k (s .0) h′ in
-      rw (ne-eqb (getD l k 0) t (λ e. lt-irrefl (f t) (rw e at q))) (ap suc (place-at l k (s .1) h′))
-
   -- so the rank of a member is its place
-  pub rank-place : (l : List ℕ) (t : ℕ) → Sorted l → In t l → below f (f t) l ≡ place t l
-  rank-place l t s m =
+  pub rank-place : (l : List ℕ) (t : ℕ) → Sorted l → Different l → In t l → below f (f t) l ≡ place t l
+  rank-place l t s d m =
       let i = in-index t l m in
-      subst (λ (u : ℕ). below f (f u) l ≡ place u l) (i .2) (rank-at l (i .0) s (i .1) ∙ sym (place-at l (i .0) s (i .1)))
+      subst (λ (u : ℕ). below f (f u) l ≡ place u l) (i .2) (rank-at l (i .0) s (i .1) ∙ sym (place-at l (i .0) d (i .1)))
 
   -- keys below x are counted as places are
   pub below-lt : (x : ℕ) (l : List ℕ) (k : ℕ) → Sorted l → k < length l → f (getD l k 0) < x → k < below f x l

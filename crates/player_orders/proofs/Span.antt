@@ -3,7 +3,7 @@ use mathlib.Core.Path.{_≡_, refl, sym, ap, _∙_}
 use mathlib.Core.Bool.{true, false}
 use mathlib.Core.Logic.{inl, inr, ⊎-elim}
 use mathlib.Core.List.{List, [], _∷_}
-use Prim.Native.Nat.{ℕ, zero, suc, _+_, _-_, _%_, _<_, _≤_}
+use Prim.Native.Nat.{ℕ, zero, suc, _+_, _-_, _*_, _%_, _<_, _≤_}
 use native.Mathlib.Nat.{not-suc-le-zero, eq-or-lt-of-le, zero-add}
 use native.Mathlib.Numerals.{add-one}
 use native.Mathlib.Omega.{arith}
@@ -16,9 +16,10 @@ use Rattle.ground.specs.Lists.{span}
 use Rattle.catalogue_tables.specs.Tables.{stampOf}
 use Rattle.player_walk.specs.Steps.{place}
 use Rattle.player_orders.specs.declared.By.{By}
-use Rattle.player_orders.specs.Order.{keyOf, major, ordered}
-use Rattle.player_orders.specs.Below.{below}
-use Rattle.player_orders.proofs.Sorted.{all-at, All, In, Apart, Sorted, sort-sorted, sort-in, sort-all, length-sort, below-sort, rank-place, place-at, in-index}
+use Rattle.player_orders.specs.Order.{comesBefore, ordered}
+use Rattle.player_orders.specs.Keys.{major, keyOf, below}
+use Rattle.player_orders.proofs.Compare.{key-compares}
+use Rattle.player_orders.proofs.Sorted.{all-at, All, In, Apart, Different, Sorted, sort-sorted, sort-in, sort-all, sort-apart, length-sort, below-sort, rank-place, place-at, in-index}
 
 pub span-all : (P : ℕ → Type 0) (i n : ℕ) → ((u : ℕ) → i ≤ u → u < i + n → P u) → All P (span i n)
 span-all P i zero h = tt
@@ -27,6 +28,10 @@ span-all P i (suc n) h = (h i (omega arith) (omega arith), span-all P (suc i) n 
 pub span-in : (t i n : ℕ) → i ≤ t → t < i + n → In t (span i n)
 span-in t i zero a b = absurd (not-suc-le-zero {n = 0} (omega arith))
 span-in t i (suc n) a b = ⊎-elim (λ e. inl (sym e)) (λ q. inr (span-in t (suc i) n q (omega arith))) (eq-or-lt-of-le a)
+
+span-different : (i n : ℕ) → Different (span i n)
+span-different i zero = tt
+span-different i (suc n) = (span-all (λ u. u ≡ i → ⊥) (suc i) n (λ u a b e. omega arith), span-different (suc i) n)
 
 pub length-span : (i n : ℕ) → length (span i n) ≡ n
 length-span i zero = refl
@@ -58,22 +63,22 @@ module _ (by : By) (tracks : List ℕ) where
   )
 
   module _ (first count : ℕ) (small : first + count ≤ mostTracks) where
-    pub is-sorted : Sorted (keyOf by tracks) (ordered by tracks first count)
-    unfolding ordered
-    is-sorted = sort-sorted (keyOf by tracks) (span first count) (apart first count (omega arith))
-
     pub how-many : length (ordered by tracks first count) ≡ count
     unfolding ordered
-    how-many = length-sort (keyOf by tracks) (span first count) ∙ length-span first count
+    how-many = length-sort (comesBefore by tracks) (span first count) ∙ length-span first count
+
+    different : Different (ordered by tracks first count)
+    unfolding ordered
+    different = sort-apart (comesBefore by tracks) (λ u. u) (span first count) (span-different first count)
 
     pub member : (t : ℕ) → first ≤ t → t < first + count → In t (ordered by tracks first count)
     unfolding ordered
-    member t a b = sort-in (keyOf by tracks) t (span first count) (span-in t first count a b)
+    member t a b = sort-in (comesBefore by tracks) t (span first count) (span-in t first count a b)
 
     -- each element is a track of the run
     pub within : All (λ t. (first ≤ t) × (t < first + count)) (ordered by tracks first count)
     unfolding ordered
-    within = sort-all (keyOf by tracks) (λ t. (first ≤ t) × (t < first + count)) (span first count) (span-all (λ t. (first ≤ t) × (t < first + count)) first count (λ u a b. (a, b)))
+    within = sort-all (comesBefore by tracks) (λ t. (first ≤ t) × (t < first + count)) (span first count) (span-all (λ t. (first ≤ t) × (t < first + count)) first count (λ u a b. (a, b)))
 
     pub in-list : (k : ℕ) → k < count → k < length (ordered by tracks first count)
     in-list k h = omega (arith, how-many)
@@ -84,11 +89,11 @@ module _ (by : By) (tracks : List ℕ) where
     -- keys below x are as many in the order as in the run
     pub as-many : (x : ℕ) → below (keyOf by tracks) x (span first count) ≡ below (keyOf by tracks) x (ordered by tracks first count)
     unfolding ordered
-    as-many x = sym (below-sort (keyOf by tracks) x (span first count))
+    as-many x = sym (below-sort (comesBefore by tracks) (keyOf by tracks) x (span first count))
 
-    -- a track's rank in the run is its place in the order
-    pub rank-is : (t : ℕ) → first ≤ t → t < first + count → below (keyOf by tracks) (keyOf by tracks t) (span first count) ≡ place t (ordered by tracks first count)
-    rank-is t a b = as-many (keyOf by tracks t) ∙ rank-place (keyOf by tracks) (ordered by tracks first count) t is-sorted (member t a b)
+    -- no track stands at two places
+    pub apart-places : (k : ℕ) → k < length (ordered by tracks first count) → place (getD (ordered by tracks first count) k 0) (ordered by tracks first count) ≡ k
+    apart-places k h = place-at (ordered by tracks first count) k different h
 
     pub at-member : (t : ℕ) → first ≤ t → t < first + count → (k : ℕ) × (k < length (ordered by tracks first count)) × (getD (ordered by tracks first count) k 0 ≡ t)
     at-member t a b = in-index t (ordered by tracks first count) (member t a b)
@@ -96,8 +101,20 @@ module _ (by : By) (tracks : List ℕ) where
     pub place-small : (t : ℕ) → first ≤ t → t < first + count → place t (ordered by tracks first count) < count
     place-small t a b =
         let i = at-member t a b in
-        let e : place t (ordered by tracks first count) ≡ i .0 = rw (i .2) at (place-at (keyOf by tracks) (ordered by tracks first count) (i .0) is-sorted (i .1)) in
+        let e : place t (ordered by tracks first count) ≡ i .0 = rw (i .2) at (apart-places (i .0) (i .1)) in
         omega (arith, how-many, i .1)
+
+    -- stamps of 32 bits
+    module _ (words : (i : ℕ) → getD tracks i 0 < 0x1_0000_0000) where
+      pub is-sorted : Sorted (keyOf by tracks) (ordered by tracks first count)
+      unfolding ordered
+      is-sorted =
+          sort-sorted (keyOf by tracks) (comesBefore by tracks) (λ t. t < 0x1_0000_0000) (key-compares by tracks (λ i. words (i * 6 + 1)))
+          (span first count) (span-all (λ t. t < 0x1_0000_0000) first count (λ u a b. omega arith)) (apart first count (omega arith))
+
+      -- a track's rank in the run is its place in the order
+      pub rank-is : (t : ℕ) → first ≤ t → t < first + count → below (keyOf by tracks) (keyOf by tracks t) (span first count) ≡ place t (ordered by tracks first count)
+      rank-is t a b = as-many (keyOf by tracks t) ∙ rank-place (keyOf by tracks) (ordered by tracks first count) t is-sorted different (member t a b)
 
 -- a turn of a loop that counts the keys below x
 module _ (f : ℕ → ℕ) (x i e n y T : ℕ) (h : i < e) (ey : y ≡ f i) (inv : n + below f x (span i (e - i)) ≡ T) where

@@ -1,3 +1,3 @@
 -- The playing orders.
 pub mod Order
-pub mod Below
+pub mod Keys

@@ -2,10 +2,11 @@
 ghost use mathlib.Core.Path.{_≡_};
 ghost use Prim.Native.Nat.{_+_, _*_, _<_, _≤_};
 ghost use lib.ListN.{length};
+ghost use Rattle.ground.specs.Limits.{trackWords};
 ghost use Rattle.ground.specs.Lists.{span};
 ghost use Rattle.player_walk.specs.Steps.{at, place, firstOf, moveIn};
-ghost use Rattle.player_orders.specs.Order.{keyOf, ordered, byOf, repeats, tracksInOrder, nearTrack, Run, InRun};
-ghost use Rattle.player_orders.specs.Below.{below};
+ghost use Rattle.player_orders.specs.Order.{ordered, byOf, repeats, tracksInOrder, nearTrack, Run, InRun};
+ghost use Rattle.player_orders.specs.Keys.{keyOf, below};
 
 // What a group's tracks are ordered by. Ties go by the lower number.
 pub enum By {
@@ -32,30 +33,37 @@ pub fn by_of(order: u8) -> By
 }
 
 // What compares as the places do. No key is 2 ^ 64 - 1, since no number is 2 ^ 32 - 1.
-fn key(tracks: &[u32], by: By, t: usize) -> u64
-    requires { ⌜ (t < 4294967295) × (t * 6 + 6 ≤ length (now tracks)) ⌝ }
-    ensures { λ r. ⌜ (r ≡ keyOf by (now (tracks .entry)) t) × (r < 18446744073709551615) ⌝ }
+fn key(tracks: &[u32], by: By, t: catalogue_tables::TrackNo) -> u64
+    requires { ⌜ (t .0 < 4294967295) × (t .0 * trackWords + trackWords ≤ length (now tracks)) ⌝ }
+    ensures { λ r. ⌜ (r ≡ keyOf by (now (tracks .entry)) (t .0)) × (r < 18446744073709551615) ⌝ }
 {
-    let stamp = tracks[t * 6 + 1];
-    let wide = stamp as u64;
-    let number = t as u64;
+    let base = (t.0 as usize) * catalogue_tables::TRACK_WORDS;
+    let stamp = ground::wide_word(tracks[base + catalogue_tables::STAMP_AT]) as u64;
+    let number = t.0 as u64;
     match by {
         By::Number => number,
-        By::Rising => wide * 4294967296 + number,
-        By::Falling => (4294967295 - wide) * 4294967296 + number,
+        By::Rising => stamp * 4294967296 + number,
+        By::Falling => (4294967295 - stamp) * 4294967296 + number,
     }
 }
 
 // How many of the run's tracks have a key below x.
-fn count_below(tracks: &[u32], by: By, first: usize, count: usize, x: u64) -> usize
-    requires { ⌜ Run (length (now tracks)) first count ⌝ }
-    ensures { λ r. ⌜ r ≡ below (keyOf by (now (tracks .entry))) x (span first count) ⌝ }
+fn count_below(
+    tracks: &[u32],
+    by: By,
+    first: catalogue_tables::TrackNo,
+    count: u32,
+    x: u64,
+) -> usize
+    requires { ⌜ Run (length (now tracks)) (first .0) count ⌝ }
+    ensures { λ r. ⌜ r ≡ below (keyOf by (now (tracks .entry))) x (span (first .0) count) ⌝ }
 {
-    let end = first + count;
-    let mut n = 0;
-    let mut i = first;
+    let end = first.0 + count;
+    let mut n: usize = 0;
+    let mut i = first.0;
     while i < end {
-        let y = key(tracks, by, i);
+        let t = catalogue_tables::TrackNo(i);
+        let y = key(tracks, by, t);
         let less = y < x;
         if less {
             n += 1;
@@ -66,26 +74,38 @@ fn count_below(tracks: &[u32], by: By, first: usize, count: usize, x: u64) -> us
 }
 
 // The place of t in the order, counted from 0: how many come before it.
-fn rank(tracks: &[u32], by: By, first: usize, count: usize, t: usize) -> usize
-    requires { ⌜ InRun (length (now tracks)) first count t ⌝ }
-    ensures { λ r. ⌜ (r ≡ place t (ordered by (now (tracks .entry)) first count)) × (r < count) ⌝ }
+fn rank(
+    tracks: &[u32],
+    by: By,
+    first: catalogue_tables::TrackNo,
+    count: u32,
+    t: catalogue_tables::TrackNo,
+) -> usize
+    requires { ⌜ InRun (length (now tracks)) (first .0) count (t .0) ⌝ }
+    ensures { λ r. ⌜ (r ≡ place (t .0) (ordered by (now (tracks .entry)) (first .0) count)) × (r < count) ⌝ }
 {
     let x = key(tracks, by, t);
     count_below(tracks, by, first, count, x)
 }
 
 // The track at place k of few: the one that k come before. A scan for each track up to it.
-fn nth_of_few(tracks: &[u32], by: By, first: usize, count: usize, k: usize) -> NearTrack
-    requires { ⌜ Run (length (now tracks)) first count ⌝ }
+fn nth_of_few(
+    tracks: &[u32],
+    by: By,
+    first: catalogue_tables::TrackNo,
+    count: u32,
+    k: usize,
+) -> NearTrack
+    requires { ⌜ Run (length (now tracks)) (first .0) count ⌝ }
     requires { ⌜ k < count ⌝ }
-    ensures { λ r. ⌜ nearTrack r ≡ at (ordered by (now (tracks .entry)) first count) k ⌝ }
+    ensures { λ r. ⌜ nearTrack r ≡ at (ordered by (now (tracks .entry)) (first .0) count) k ⌝ }
 {
-    let end = first + count;
-    let mut i = first;
+    let end = first.0 + count;
+    let mut i = first.0;
     while i < end {
-        let before = rank(tracks, by, first, count, i);
+        let t = catalogue_tables::TrackNo(i);
+        let before = rank(tracks, by, first, count, t);
         if before == k {
-            let t = catalogue_tables::TrackNo((i % 4294967296) as u32);
             return NearTrack::Found(t);
         }
         i += 1;
@@ -94,11 +114,11 @@ fn nth_of_few(tracks: &[u32], by: By, first: usize, count: usize, k: usize) -> N
 }
 
 // The track at place k of the order. Of many, its key is found by halving the range of keys, in 64 scans.
-fn nth(tracks: &[u32], by: By, first: usize, count: usize, k: usize) -> NearTrack
-    requires { ⌜ Run (length (now tracks)) first count ⌝ }
-    ensures { λ r. ⌜ nearTrack r ≡ at (ordered by (now (tracks .entry)) first count) k ⌝ }
+fn nth(tracks: &[u32], by: By, first: catalogue_tables::TrackNo, count: u32, k: usize) -> NearTrack
+    requires { ⌜ Run (length (now tracks)) (first .0) count ⌝ }
+    ensures { λ r. ⌜ nearTrack r ≡ at (ordered by (now (tracks .entry)) (first .0) count) k ⌝ }
 {
-    if count <= k {
+    if (count as usize) <= k {
         return NearTrack::None;
     }
     if count <= 64 {
@@ -115,7 +135,8 @@ fn nth(tracks: &[u32], by: By, first: usize, count: usize, k: usize) -> NearTrac
             hi = mid;
         }
     }
-    let t = catalogue_tables::TrackNo((lo % 4294967296) as u32);
+    let number = (lo % 4294967296) as u32;
+    let t = catalogue_tables::TrackNo(number);
     NearTrack::Found(t)
 }
 
@@ -124,16 +145,16 @@ fn moved(
     tracks: &[u32],
     by: By,
     repeat: bool,
-    first: usize,
-    count: usize,
-    t: usize,
+    first: catalogue_tables::TrackNo,
+    count: u32,
+    t: catalogue_tables::TrackNo,
     step: player_walk::Step,
 ) -> NearTrack
-    requires { ⌜ InRun (length (now tracks)) first count t ⌝ }
-    ensures { λ r. ⌜ nearTrack r ≡ moveIn step repeat (ordered by (now (tracks .entry)) first count) t ⌝ }
+    requires { ⌜ InRun (length (now tracks)) (first .0) count (t .0) ⌝ }
+    ensures { λ r. ⌜ nearTrack r ≡ moveIn step repeat (ordered by (now (tracks .entry)) (first .0) count) (t .0) ⌝ }
 {
     let k = rank(tracks, by, first, count, t);
-    let p = player_walk::place_after(step, repeat, count, k);
+    let p = player_walk::place_after(step, repeat, count as usize, k);
     match p {
         player_walk::Near::At(j) => nth(tracks, by, first, count, j),
         player_walk::Near::Nothing => NearTrack::None,
@@ -154,19 +175,10 @@ pub fn track_after(
 {
     let by = by_of(order);
     let repeat = order % 2 == 0;
-    let here = ground::wide_word(t.0);
     if order <= 2 {
-        return moved(tracks, by, repeat, here, 1, here, step);
+        return moved(tracks, by, repeat, t, 1, t, step);
     }
-    moved(
-        tracks,
-        by,
-        repeat,
-        ground::wide_word(first.0),
-        ground::wide_word(count),
-        here,
-        step,
-    )
+    moved(tracks, by, repeat, first, count, t, step)
 }
 
 // The track that comes first when a group is activated or moved to: in orders 1 and 2 its lowest.
@@ -183,11 +195,5 @@ pub fn entry_track(
         return NearTrack::Found(first);
     }
     let by = by_of(order);
-    nth(
-        tracks,
-        by,
-        ground::wide_word(first.0),
-        ground::wide_word(count),
-        0,
-    )
+    nth(tracks, by, first, count, 0)
 }

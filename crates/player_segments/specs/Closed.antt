@@ -6,9 +6,9 @@ use lib.Dec.{ltb}
 use lib.ListN.{length, getD}
 use Rattle.ground.specs.Cases.{pick}
 
--- m steps ahead from the first: past the last stands the duration
+-- m steps ahead from the first: past the last stands the end
 unfoldable pub startAhead : List ℕ → ℕ → ℕ → ℕ
-startAhead starts duration m = pick (ltb m (length starts)) (getD starts m 0) duration
+startAhead starts end m = pick (ltb m (length starts)) (getD starts m 0) end
 
 -- m steps back from the last: before the first stands 0
 unfoldable pub startBack : List ℕ → ℕ → ℕ

@@ -10,9 +10,11 @@ use Rattle.ground.specs.Lists.{those}
 use Rattle.player_walk.specs.Signed.{signedWord}
 use Rattle.player_walk.specs.Steps.{goto}
 use Rattle.player_walk.specs.declared.Near.{Near}
-use Rattle.player_walk.specs.declared.Near.the-variants.{At}
+use Rattle.player_walk.specs.declared.Near.the-variants.{At, Nothing}
 use Rattle.player_walk.specs.declared.Step.{Step}
 use Rattle.player_walk.specs.declared.Step.the-variants.{Previous, Next, First, Last, Goto}
+use Rattle.player_segments.specs.declared.NearPosition.{NearPosition}
+use Rattle.player_segments.specs.declared.NearPosition.the-variants.{Found, None}
 
 -- the greatest, and the least, of a list, or z where it is empty
 abbrev pub greatestOr : ℕ → List ℕ → ℕ
@@ -33,7 +35,7 @@ previousStart starts position = greatestOr 0 (those (λ x. ltb x position) start
 
 -- "Next: the least start above it, or D."
 unfoldable pub nextStart : List ℕ → ℕ → ℕ → ℕ
-nextStart starts duration position = leastOr duration (those (λ x. ltb position x) starts)
+nextStart starts end position = leastOr end (those (λ x. ltb position x) starts)
 
 abbrev pub firstStart : List ℕ → ℕ
 firstStart starts = getD starts 0 0
@@ -43,22 +45,27 @@ lastStart starts = getD starts (length starts - 1) 0
 
 -- the five moves, over starts of which there is one at least
 unfoldable pub moveAlong : Step → List ℕ → ℕ → ℕ → Near
-moveAlong Previous starts duration position = At (previousStart starts position)
-moveAlong Next starts duration position = At (nextStart starts duration position)
-moveAlong First starts duration position = At (firstStart starts)
-moveAlong Last starts duration position = At (lastStart starts)
-moveAlong (Goto n) starts duration position =
-    goto (signedWord n) position (At (firstStart starts)) (λ p. At (nextStart starts duration p)) (At (lastStart starts)) (λ p. At (previousStart starts p))
+moveAlong Previous starts end position = At (previousStart starts position)
+moveAlong Next starts end position = At (nextStart starts end position)
+moveAlong First starts end position = At (firstStart starts)
+moveAlong Last starts end position = At (lastStart starts)
+moveAlong (Goto n) starts end position =
+    goto (signedWord n) position (At (firstStart starts)) (λ p. At (nextStart starts end p)) (At (lastStart starts)) (λ p. At (previousStart starts p))
 
 -- of any track
 abbrev pub segmentMove : Step → List ℕ → ℕ → ℕ → Near
-segmentMove step starts duration position = moveAlong step (segmentStarts starts) duration position
+segmentMove step starts end position = moveAlong step (segmentStarts starts) end position
+
+-- what was found, as a number
+abbrev pub nearPosition : NearPosition → Near
+nearPosition (Found x) = At (x .0)
+nearPosition None = Nothing
 
 -- what a right catalogue tells of a track's starts
-pub record Rising (starts : List ℕ) (duration : ℕ) : Type 0 where
+pub record Rising (starts : List ℕ) (end : ℕ) : Type 0 where
   pub begin : getD starts 0 0 ≡ 0
   pub rise : (j i : ℕ) → i < j → j < length starts → getD starts i 0 < getD starts j 0
-  pub below : (i : ℕ) → i < length starts → getD starts i 0 < duration
+  pub below : (i : ℕ) → i < length starts → getD starts i 0 < end
 
 -- r parts the starts into those below x and those not
 pub record Cut (starts : List ℕ) (x r : ℕ) : Type 0 where

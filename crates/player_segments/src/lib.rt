@@ -1,20 +1,24 @@
 // Moves along the segments of a track.
 ghost use mathlib.Core.Path.{_≡_};
-ghost use Rattle.player_walk.specs.declared.Near.the-variants.{At};
 ghost use Rattle.player_walk.specs.declared.Step.the-variants.{Goto};
-ghost use Rattle.player_segments.specs.Segments.{previousStart, nextStart, segmentStarts, segmentMove, Rising, Cut};
+ghost use Rattle.player_segments.specs.Segments.{previousStart, nextStart, segmentStarts, segmentMove, nearPosition, Rising, Cut};
 ghost use Rattle.player_segments.specs.Closed.{startAhead, startBack};
 
+pub enum NearPosition {
+    Found(catalogue_tables::Position),
+    None,
+}
+
 // How many starts are below x, by halving.
-fn lower(starts: &[u32], x: u32, d: u32) -> usize
-    requires { ⌜ Rising (now starts) d ⌝ }
-    ensures { λ r. ⌜ Cut (now (starts .entry)) x r ⌝ }
+fn lower(starts: &[u32], x: catalogue_tables::Position, end: catalogue_tables::Position) -> usize
+    requires { ⌜ Rising (now starts) (end .0) ⌝ }
+    ensures { λ r. ⌜ Cut (now (starts .entry)) (x .0) r ⌝ }
 {
     let mut lo = 0;
     let mut hi = starts.len();
     while lo < hi {
         let mid = lo + (hi - lo) / 2;
-        if starts[mid] < x {
+        if starts[mid] < x.0 {
             lo = mid + 1;
         } else {
             hi = mid;
@@ -24,104 +28,129 @@ fn lower(starts: &[u32], x: u32, d: u32) -> usize
 }
 
 // The greatest start below the position, or 0.
-fn previous_start(starts: &[u32], d: u32, p: u32) -> u32
-    requires { ⌜ Rising (now starts) d ⌝ }
-    ensures { λ r. ⌜ r ≡ previousStart (segmentStarts (now (starts .entry))) p ⌝ }
+fn previous_start(
+    starts: &[u32],
+    end: catalogue_tables::Position,
+    p: catalogue_tables::Position,
+) -> catalogue_tables::Position
+    requires { ⌜ Rising (now starts) (end .0) ⌝ }
+    ensures { λ r. ⌜ r .0 ≡ previousStart (segmentStarts (now (starts .entry))) (p .0) ⌝ }
 {
-    let k = lower(starts, p, d);
+    let k = lower(starts, p, end);
     if k == 0 {
-        return 0;
+        return catalogue_tables::Position(0);
     }
-    starts[k - 1]
+    let x = starts[k - 1];
+    catalogue_tables::Position(x)
 }
 
-// The least start above the position, or the duration.
-fn next_start(starts: &[u32], d: u32, p: u32) -> u32
-    requires { ⌜ Rising (now starts) d ⌝ }
-    ensures { λ r. ⌜ r ≡ nextStart (segmentStarts (now (starts .entry))) d p ⌝ }
+// The least start above the position, or the end.
+fn next_start(
+    starts: &[u32],
+    end: catalogue_tables::Position,
+    p: catalogue_tables::Position,
+) -> catalogue_tables::Position
+    requires { ⌜ Rising (now starts) (end .0) ⌝ }
+    ensures { λ r. ⌜ r .0 ≡ nextStart (segmentStarts (now (starts .entry))) (end .0) (p .0) ⌝ }
 {
     let n = starts.len();
-    let k = lower(starts, p, d);
+    let k = lower(starts, p, end);
     if n <= k {
-        return d;
+        return end;
     }
     let x = starts[k];
-    if p < x {
-        return x;
+    if p.0 < x {
+        return catalogue_tables::Position(x);
     }
     let j = k + 1;
     if n <= j {
-        return d;
+        return end;
     }
-    starts[j]
+    let y = starts[j];
+    catalogue_tables::Position(y)
 }
 
-// The start that m steps ahead lead to from the first, or the duration.
-fn start_ahead(starts: &[u32], d: u32, m: usize) -> u32
-    ensures { λ r. ⌜ r ≡ startAhead (segmentStarts (now (starts .entry))) d m ⌝ }
+// The start that m steps ahead lead to from the first, or the end.
+fn start_ahead(
+    starts: &[u32],
+    end: catalogue_tables::Position,
+    m: usize,
+) -> catalogue_tables::Position
+    ensures { λ r. ⌜ r .0 ≡ startAhead (segmentStarts (now (starts .entry))) (end .0) m ⌝ }
 {
     if m < starts.len() {
-        return starts[m];
+        let x = starts[m];
+        return catalogue_tables::Position(x);
     }
     if m == 0 {
-        return 0;
+        return catalogue_tables::Position(0);
     }
-    d
+    end
 }
 
 // The start that m steps back lead to from the last, or 0.
-fn start_back(starts: &[u32], m: usize) -> u32
-    ensures { λ r. ⌜ r ≡ startBack (segmentStarts (now (starts .entry))) m ⌝ }
+fn start_back(starts: &[u32], m: usize) -> catalogue_tables::Position
+    ensures { λ r. ⌜ r .0 ≡ startBack (segmentStarts (now (starts .entry))) m ⌝ }
 {
     let n = starts.len();
     if m < n {
-        return starts[n - 1 - m];
+        let x = starts[n - 1 - m];
+        return catalogue_tables::Position(x);
     }
-    0
+    catalogue_tables::Position(0)
 }
 
 // Where Goto leads from a position.
-fn goto_start(starts: &[u32], d: u32, p: u32, number: u32) -> u32
-    requires { ⌜ Rising (now starts) d ⌝ }
-    ensures { λ r. ⌜ At r ≡ segmentMove (Goto number) (now (starts .entry)) d p ⌝ }
+fn goto_start(
+    starts: &[u32],
+    end: catalogue_tables::Position,
+    p: catalogue_tables::Position,
+    number: u32,
+) -> NearPosition
+    requires { ⌜ Rising (now starts) (end .0) ⌝ }
+    ensures { λ r. ⌜ nearPosition r ≡ segmentMove (Goto number) (now (starts .entry)) (end .0) (p .0) ⌝ }
 {
     let way = player_walk::way_of(number);
     match way {
-        player_walk::Way::Stay => p,
-        player_walk::Way::Ahead(m) => start_ahead(starts, d, ground::wide_word(m)),
-        player_walk::Way::Back(m) => start_back(starts, ground::wide_word(m)),
+        player_walk::Way::Stay => NearPosition::Found(p),
+        player_walk::Way::Ahead(m) => {
+            let x = start_ahead(starts, end, ground::wide_word(m));
+            NearPosition::Found(x)
+        }
+        player_walk::Way::Back(m) => {
+            let x = start_back(starts, ground::wide_word(m));
+            NearPosition::Found(x)
+        }
     }
 }
 
-// A segment move from a position, in a track of a duration.
+// A segment move from a position of a track that has an end.
 pub fn segment_after(
     starts: &[u32],
-    duration: catalogue_tables::Position,
+    end: catalogue_tables::Position,
     position: catalogue_tables::Position,
     step: player_walk::Step,
-) -> catalogue_tables::Position
-    requires { ⌜ Rising (now starts) (duration .0) ⌝ }
-    ensures { λ r. ⌜ At (r .0) ≡ segmentMove step (now (starts .entry)) (duration .0) (position .0) ⌝ }
+) -> NearPosition
+    requires { ⌜ Rising (now starts) (end .0) ⌝ }
+    ensures { λ r. ⌜ nearPosition r ≡ segmentMove step (now (starts .entry)) (end .0) (position .0) ⌝ }
 {
-    let d = duration.0;
-    let p = position.0;
     match step {
         player_walk::Step::Previous => {
-            let r = previous_start(starts, d, p);
-            catalogue_tables::Position(r)
+            let x = previous_start(starts, end, position);
+            NearPosition::Found(x)
         }
         player_walk::Step::Next => {
-            let r = next_start(starts, d, p);
-            catalogue_tables::Position(r)
+            let x = next_start(starts, end, position);
+            NearPosition::Found(x)
         }
-        player_walk::Step::First => catalogue_tables::Position(0),
+        player_walk::Step::First => {
+            let x = catalogue_tables::Position(0);
+            NearPosition::Found(x)
+        }
         player_walk::Step::Last => {
-            let r = start_back(starts, 0);
-            catalogue_tables::Position(r)
+            let x = start_back(starts, 0);
+            NearPosition::Found(x)
         }
-        player_walk::Step::Goto(n) => {
-            let r = goto_start(starts, d, p, n);
-            catalogue_tables::Position(r)
-        }
+        player_walk::Step::Goto(n) => goto_start(starts, end, position, n),
     }
 }

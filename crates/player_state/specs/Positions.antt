@@ -7,13 +7,13 @@ use Rattle.ground.specs.Cases.{pick}
 
 -- "Move Relative: the sum, held to 0..D."
 unfoldable pub heldSum : ℕ → ℕ → ℤ → ℕ
-heldSum duration position (pos k) = min (position + k) duration
-heldSum duration position (negsuc k) = min (position - suc k) duration
+heldSum end position (pos k) = min (position + k) end
+heldSum end position (negsuc k) = min (position - suc k) end
 
 -- "Position write: v ≥ 0 gives the lesser of v and D; v < 0 gives D + v, not below 0."
 unfoldable pub written : ℕ → ℤ → ℕ
-written duration (pos v) = min v duration
-written duration (negsuc k) = duration - suc k
+written end (pos v) = min v end
+written end (negsuc k) = end - suc k
 
 -- an octet in two's complement
 abbrev pub signedOctet : ℕ → ℤ
@@ -21,8 +21,8 @@ signedOctet s = pick (ltb s 0x80) (pos s) (negsuc (0xFF - s))
 
 -- "Seeking adds d times the seeking speed, held to 0..D."
 abbrev pub soughtBy : ℕ → ℕ → ℕ → ℤ → ℕ
-soughtBy duration position d (pos k) = min (position + d * k) duration
-soughtBy duration position d (negsuc k) = min (position - d * suc k) duration
+soughtBy end position d (pos k) = min (position + d * k) end
+soughtBy end position d (negsuc k) = min (position - d * suc k) end
 
 unfoldable pub sought : ℕ → ℕ → ℕ → ℕ → ℕ
-sought duration position speed d = soughtBy duration position d (signedOctet speed)
+sought end position speed d = soughtBy end position d (signedOctet speed)

@@ -1,7 +1,8 @@
 // The player's state, and what alters it without a look at the catalogue.
 ghost use mathlib.Core.Path.{_≡_};
 ghost use Prim.Native.Nat.{min, _-_, _≤_};
-ghost use lib.ListN.{length, drop};
+ghost use lib.ListN.{length};
+ghost use Rattle.ground.specs.Limits.{mostTitle};
 ghost use Rattle.ground.specs.Lists.{filled};
 ghost use Rattle.player_walk.specs.Signed.{signedWord};
 ghost use Rattle.player_state.specs.Player.{startedPlayer, renamed, inMode, atPlace, atPosition, withOrder, withSpeed};
@@ -10,7 +11,7 @@ ghost use Rattle.player_state.specs.Positions.{heldSum, written, sought}
 
 // The octets behind the length are dead.
 pub struct Name {
-    pub octets: [u8; 128],
+    pub octets: [u8; ground::MOST_TITLE],
     pub len: u8,
 }
 
@@ -19,6 +20,15 @@ pub struct Offer {
     pub mask: u32,
     pub ccid: u8,
 }
+
+// The media states.
+pub const INACTIVE: u8 = 0;
+
+pub const PLAYING: u8 = 1;
+
+pub const PAUSED: u8 = 2;
+
+pub const SEEKING: u8 = 3;
 
 // The media state, the playing order, the playback speed and the seeking speed; both speeds as octets in two's complement.
 pub struct Mode {
@@ -43,8 +53,8 @@ pub struct Player {
 }
 
 // Copies a name of at most 128 octets over the front of an array.
-pub fn fill(octets: [u8; 128], name: &[u8]) -> [u8; 128]
-    requires { ⌜ length (now name) ≤ 128 ⌝ }
+pub fn fill(octets: [u8; ground::MOST_TITLE], name: &[u8]) -> [u8; ground::MOST_TITLE]
+    requires { ⌜ length (now name) ≤ mostTitle ⌝ }
     ensures { λ r. ⌜ r ≡ filled (now (name .entry)) octets ⌝ }
 {
     let mut out = octets;
@@ -57,10 +67,10 @@ pub fn fill(octets: [u8; 128], name: &[u8]) -> [u8; 128]
 }
 
 pub fn start(name: &[u8], mask: u32, ccid: u8) -> Player
-    requires { ⌜ length (now name) ≤ 128 ⌝ }
+    requires { ⌜ length (now name) ≤ mostTitle ⌝ }
     ensures { λ r. ⌜ r ≡ startedPlayer (now (name .entry)) mask ccid ⌝ }
 {
-    let octets = fill([0u8; 128], name);
+    let octets = fill([0u8; ground::MOST_TITLE], name);
     let len = name.len() as u8;
     let name = Name {
         octets: octets,
@@ -71,7 +81,7 @@ pub fn start(name: &[u8], mask: u32, ccid: u8) -> Player
         ccid: ccid,
     };
     let mode = Mode {
-        media: 0,
+        media: INACTIVE,
         order: 3,
         speed: 0,
         seeking: 0,
@@ -93,7 +103,7 @@ pub fn start(name: &[u8], mask: u32, ccid: u8) -> Player
 }
 
 pub fn set_name(p: Player, name: &[u8]) -> Player
-    requires { ⌜ length (now name) ≤ 128 ⌝ }
+    requires { ⌜ length (now name) ≤ mostTitle ⌝ }
     ensures { λ r. ⌜ r ≡ renamed (now (name .entry)) p ⌝ }
 {
     let old = p.name.octets;
@@ -190,21 +200,21 @@ fn rung_down(s: u8) -> u8
 pub fn fast_forward(p: Player) -> Player
     ensures { λ r. ⌜ r ≡ forwarded p ⌝ }
 {
-    if p.mode.media == 3 {
+    if p.mode.media == SEEKING {
         let up = rung_up(p.mode.seeking);
-        return in_mode(p, 3, up);
+        return in_mode(p, SEEKING, up);
     }
-    in_mode(p, 3, 4)
+    in_mode(p, SEEKING, 4)
 }
 
 pub fn fast_rewind(p: Player) -> Player
     ensures { λ r. ⌜ r ≡ rewound p ⌝ }
 {
-    if p.mode.media == 3 {
+    if p.mode.media == SEEKING {
         let down = rung_down(p.mode.seeking);
-        return in_mode(p, 3, down);
+        return in_mode(p, SEEKING, down);
     }
-    in_mode(p, 3, 0xFC)
+    in_mode(p, SEEKING, 0xFC)
 }
 
 // A track of a group, at its start. Seeking becomes Playing.
@@ -216,20 +226,20 @@ pub fn move_to(
     ensures { λ r. ⌜ r ≡ movedTo (group .0) (track .0) p ⌝ }
 {
     let begin = catalogue_tables::Position(0);
-    if p.mode.media == 3 {
-        let playing = in_mode(p, 1, 0);
+    if p.mode.media == SEEKING {
+        let playing = in_mode(p, PLAYING, 0);
         return at_place(playing, group, track, begin);
     }
     at_place(p, group, track, begin)
 }
 
-fn lesser(a: u64, b: u32) -> u32
-    ensures { λ r. ⌜ r ≡ min a b ⌝ }
+fn held_to(a: u64, end: catalogue_tables::Position) -> catalogue_tables::Position
+    ensures { λ r. ⌜ r .0 ≡ min a (end .0) ⌝ }
 {
-    if a < (b as u64) {
-        return a as u32;
+    if a < (end.0 as u64) {
+        return catalogue_tables::Position(a as u32);
     }
-    b
+    end
 }
 
 fn less(a: u64, b: u64) -> u64
@@ -241,41 +251,47 @@ fn less(a: u64, b: u64) -> u64
     a - b
 }
 
-// The sum of a position and a signed number, held to 0 and the duration.
-pub fn held_sum(duration: u32, position: u32, number: u32) -> u32
-    ensures { λ r. ⌜ r ≡ heldSum duration position (signedWord number) ⌝ }
+// The sum of a position and a signed number, held to 0 and the end.
+pub fn held_sum(
+    end: catalogue_tables::Position,
+    position: catalogue_tables::Position,
+    number: u32,
+) -> catalogue_tables::Position
+    ensures { λ r. ⌜ r .0 ≡ heldSum (end .0) (position .0) (signedWord number) ⌝ }
 {
     if number < 0x8000_0000 {
-        return lesser((position as u64) + (number as u64), duration);
+        return held_to((position.0 as u64) + (number as u64), end);
     }
-    lesser(
-        less(position as u64, 0x1_0000_0000 - (number as u64)),
-        duration,
+    held_to(
+        less(position.0 as u64, 0x1_0000_0000 - (number as u64)),
+        end,
     )
 }
 
 // The position that a written number means.
-pub fn written_position(duration: u32, number: u32) -> u32
-    ensures { λ r. ⌜ r ≡ written duration (signedWord number) ⌝ }
+pub fn written_position(end: catalogue_tables::Position, number: u32) -> catalogue_tables::Position
+    ensures { λ r. ⌜ r .0 ≡ written (end .0) (signedWord number) ⌝ }
 {
     if number < 0x8000_0000 {
-        return lesser(number as u64, duration);
+        return held_to(number as u64, end);
     }
-    lesser(
-        less(duration as u64, 0x1_0000_0000 - (number as u64)),
-        duration,
-    )
+    held_to(less(end.0 as u64, 0x1_0000_0000 - (number as u64)), end)
 }
 
-// d times the seeking speed further, held to 0 and the duration.
-pub fn sought_position(duration: u32, position: u32, speed: u8, d: u32) -> u32
-    ensures { λ r. ⌜ r ≡ sought duration position speed d ⌝ }
+// d times the seeking speed further, held to 0 and the end.
+pub fn sought_position(
+    end: catalogue_tables::Position,
+    position: catalogue_tables::Position,
+    speed: u8,
+    d: u32,
+) -> catalogue_tables::Position
+    ensures { λ r. ⌜ r .0 ≡ sought (end .0) (position .0) speed d ⌝ }
 {
     if speed < 0x80 {
-        return lesser((position as u64) + (d as u64) * (speed as u64), duration);
+        return held_to((position.0 as u64) + (d as u64) * (speed as u64), end);
     }
-    lesser(
-        less(position as u64, (d as u64) * (0x100 - (speed as u64))),
-        duration,
+    held_to(
+        less(position.0 as u64, (d as u64) * (0x100 - (speed as u64))),
+        end,
     )
 }

@@ -4,6 +4,7 @@ ghost use mathlib.Core.Path.{_≡_};
 ghost use Prim.Native.Nat.{_≤_, min};
 ghost use mathlib.Core.List.{_∷_, []};
 ghost use lib.ListN.{length, take};
+ghost use Rattle.ground.specs.Limits.{mostTitle};
 ghost use Rattle.ground.specs.Lists.{filled};
 ghost use Rattle.player_state.specs.Player.{nameOf};
 ghost use Rattle.player_values.specs.Values.{wordOctets, titleValue, durationValue, positionValue, valueOf};
@@ -27,7 +28,7 @@ pub fn put(out: &mut [u8], s: &[u8]) -> usize
 }
 
 fn put_octet(out: &mut [u8], x: u8) -> usize
-    requires { ⌜ 128 ≤ length (now out) ⌝ }
+    requires { ⌜ mostTitle ≤ length (now out) ⌝ }
     ensures { λ r. ⌜ r ≡ 1 ⌝ }
     ensures { λ _. ⌜ now (out .exit) ≡ filled (x ∷ []) (now (out .entry)) ⌝ }
 {
@@ -36,7 +37,7 @@ fn put_octet(out: &mut [u8], x: u8) -> usize
 }
 
 fn put_word(out: &mut [u8], w: u32) -> usize
-    requires { ⌜ 128 ≤ length (now out) ⌝ }
+    requires { ⌜ mostTitle ≤ length (now out) ⌝ }
     ensures { λ r. ⌜ r ≡ 4 ⌝ }
     ensures { λ _. ⌜ now (out .exit) ≡ filled (wordOctets w) (now (out .entry)) ⌝ }
 {
@@ -49,8 +50,8 @@ fn put_word(out: &mut [u8], w: u32) -> usize
 }
 
 fn put_name(out: &mut [u8], p: player_state::Player) -> usize
-    requires { ⌜ 128 ≤ length (now out) ⌝ }
-    requires { ⌜ p .name .len ≤ 128 ⌝ }
+    requires { ⌜ mostTitle ≤ length (now out) ⌝ }
+    requires { ⌜ p .name .len ≤ mostTitle ⌝ }
     ensures { λ r. ⌜ r ≡ length (nameOf p) ⌝ }
     ensures { λ _. ⌜ now (out .exit) ≡ filled (nameOf p) (now (out .entry)) ⌝ }
 {
@@ -60,12 +61,12 @@ fn put_name(out: &mut [u8], p: player_state::Player) -> usize
 }
 
 fn put_title(out: &mut [u8], tracks: &[u32], text: &[u8], p: player_state::Player) -> usize
-    requires { ⌜ 128 ≤ length (now out) ⌝ }
-    requires { ⌜ length (titleValue (now tracks) (now text) p) ≤ 128 ⌝ }
+    requires { ⌜ mostTitle ≤ length (now out) ⌝ }
+    requires { ⌜ length (titleValue (now tracks) (now text) p) ≤ mostTitle ⌝ }
     ensures { λ r. ⌜ r ≡ length (titleValue (now (tracks .entry)) (now (text .entry)) p) ⌝ }
     ensures { λ _. ⌜ now (out .exit) ≡ filled (titleValue (now (tracks .entry)) (now (text .entry)) p) (now (out .entry)) ⌝ }
 {
-    if p.mode.media == 0 {
+    if p.mode.media == player_state::INACTIVE {
         return 0;
     }
     let title = catalogue_tables::title(tracks, text, p.place.track);
@@ -75,7 +76,7 @@ fn put_title(out: &mut [u8], tracks: &[u32], text: &[u8], p: player_state::Playe
 pub fn duration_word(tracks: &[u32], p: player_state::Player) -> u32
     ensures { λ r. ⌜ wordOctets r ≡ durationValue (now (tracks .entry)) p ⌝ }
 {
-    if p.mode.media == 0 {
+    if p.mode.media == player_state::INACTIVE {
         return MINUS_ONE;
     }
     let d = catalogue_tables::duration(tracks, p.place.track);
@@ -85,7 +86,7 @@ pub fn duration_word(tracks: &[u32], p: player_state::Player) -> u32
 pub fn position_word(p: player_state::Player) -> u32
     ensures { λ r. ⌜ wordOctets r ≡ positionValue p ⌝ }
 {
-    if p.mode.media == 0 {
+    if p.mode.media == player_state::INACTIVE {
         return MINUS_ONE;
     }
     p.place.position.0
@@ -93,9 +94,9 @@ pub fn position_word(p: player_state::Player) -> u32
 
 // The value of a characteristic, over the front of out; none of 4, of 18 and of what is no characteristic.
 pub fn value(out: &mut [u8], tracks: &[u32], text: &[u8], p: player_state::Player, c: u32) -> usize
-    requires { ⌜ 128 ≤ length (now out) ⌝ }
-    requires { ⌜ p .name .len ≤ 128 ⌝ }
-    requires { ⌜ length (titleValue (now tracks) (now text) p) ≤ 128 ⌝ }
+    requires { ⌜ mostTitle ≤ length (now out) ⌝ }
+    requires { ⌜ p .name .len ≤ mostTitle ⌝ }
+    requires { ⌜ length (titleValue (now tracks) (now text) p) ≤ mostTitle ⌝ }
     ensures { λ r. ⌜ r ≡ length (valueOf (now (tracks .entry)) (now (text .entry)) p c) ⌝ }
     ensures { λ _. ⌜ now (out .exit) ≡ filled (valueOf (now (tracks .entry)) (now (text .entry)) p c) (now (out .entry)) ⌝ }
 {
@@ -120,17 +121,17 @@ pub fn value(out: &mut [u8], tracks: &[u32], text: &[u8], p: player_state::Playe
 
 // A value: the first `len` of its octets.
 pub struct Held {
-    pub octets: [u8; 128],
+    pub octets: [u8; ground::MOST_TITLE],
     pub len: usize,
 }
 
 // The value of a characteristic.
 pub fn hold(tracks: &[u32], text: &[u8], p: player_state::Player, c: u32) -> Held
-    requires { ⌜ p .name .len ≤ 128 ⌝ }
-    requires { ⌜ length (titleValue (now tracks) (now text) p) ≤ 128 ⌝ }
+    requires { ⌜ p .name .len ≤ mostTitle ⌝ }
+    requires { ⌜ length (titleValue (now tracks) (now text) p) ≤ mostTitle ⌝ }
     ensures { λ r. ⌜ r ≡ heldOf (valueOf (now (tracks .entry)) (now (text .entry)) p c) ⌝ }
 {
-    let mut octets = [0u8; 128];
+    let mut octets = [0u8; ground::MOST_TITLE];
     let n = value(&mut octets, tracks, text, p, c);
     Held {
         octets: octets,
@@ -149,8 +150,8 @@ fn lesser(a: usize, b: usize) -> usize
 
 // The octets of a held value from a place on, at most so many, over the front of out; how many they are.
 pub fn hand(out: &mut [u8], h: Held, from: usize, most: usize) -> usize
-    requires { ⌜ 128 ≤ length (now out) ⌝ }
-    requires { ⌜ (from ≤ h .len) × (h .len ≤ 128) ⌝ }
+    requires { ⌜ mostTitle ≤ length (now out) ⌝ }
+    requires { ⌜ (from ≤ h .len) × (h .len ≤ mostTitle) ⌝ }
     ensures { λ r. ⌜ r ≡ length (partFrom from most (take (h .len) (h .octets))) ⌝ }
     ensures { λ _. ⌜ now (out .exit) ≡ filled (partFrom from most (take (h .len) (h .octets))) (now (out .entry)) ⌝ }
 {

@@ -6,6 +6,7 @@ use Prim.Native.Nat.{ℕ, zero, suc, _+_, _-_}
 use lib.Dec.{eqb}
 use lib.ListN.{getD}
 use Rattle.ground.specs.Cases.{pick, within}
+use Rattle.ground.specs.Refusals.{Said, granted, refusedWith}
 use Rattle.text.specs.declared.Checked.{Checked}
 use Rattle.text.specs.declared.Checked.the-variants.{Fine, BadAt}
 
@@ -40,7 +41,14 @@ textFrom at (suc rest) (a ∷ s) = textFrom (at + 1) rest s
 unfoldable pub textOf : List ℕ → Checked
 textOf s = textFrom 0 0 s
 
+-- the number and the values of each answer: 207 is the number of a text that is not UTF-8, and the offset says where
+abbrev pub saidOf : Checked → Said
+saidOf Fine = granted []
+saidOf (BadAt at) = refusedWith 207 (at ∷ [])
+
+unfoldable pub textSaid : List ℕ → Said
+textSaid s = saidOf (textOf s)
+
 -- the two answers apart
 abbrev pub isFine : Checked → Bool
-isFine Fine = Bool.true
-isFine (BadAt at) = Bool.false
+isFine checked = saidOf checked .isGranted

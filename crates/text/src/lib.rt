@@ -4,7 +4,7 @@ ghost use mathlib.Core.Bool.{_&&_};
 ghost use Prim.Native.Nat.{ℕ, _+_, _<_, _≤_};
 ghost use lib.ListN.{length, getD, drop};
 ghost use Rattle.ground.specs.Cases.{pick, within};
-ghost use Rattle.text.specs.Utf8.{isTail, charOf, charLength, textOf, isFine};
+ghost use Rattle.text.specs.Utf8.{isTail, charOf, charLength, textOf, isFine, saidOf, textSaid};
 
 pub enum Checked {
     Fine,
@@ -127,7 +127,7 @@ fn scan(s: &[u8]) -> Checked
 
 // Whether s is UTF-8, and if not, where. Plain ASCII is found out by one loop with no early exit; a short text is sooner scanned.
 pub fn check(s: &[u8]) -> Checked
-    ensures { λ r. ⌜ r ≡ textOf (now (s .entry)) ⌝ }
+    ensures { λ r. ⌜ saidOf r ≡ textSaid (now (s .entry)) ⌝ }
 {
     if s.len() < 32 {
         return scan(s);

@@ -11,10 +11,10 @@ use Rattle.catalogue_rules.proofs.all_below.Statement.{statement}
 use Rattle.catalogue_rules.proofs.all_below.Tie as tie
 
 abbrev Inv-loop : tie.InvT-loop
-Inv-loop starts duration good₀ i₀ good i = (i ≤ length starts) × (good ≡ allBelow i (λ j. ltb (getD starts j 0) duration))
+Inv-loop starts end good₀ i₀ good i = (i ≤ length starts) × (good ≡ allBelow i (λ j. ltb (getD starts j 0) end))
 
 abbrev μ-loop : tie.MeasureT-loop
-μ-loop starts duration good₀ i₀ good i = length starts - i
+μ-loop starts end good₀ i₀ good i = length starts - i
 
 loop-holds : tie.Need-loop-holds Inv-loop μ-loop
 unfolding allBelow

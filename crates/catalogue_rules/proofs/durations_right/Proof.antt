@@ -1,8 +1,6 @@
 -- `catalogue_rules::durations_right`: after i turns, the rule of the first i tracks.
-use mathlib.Core.Path.{_≡_, refl, ap, sym}
-use Prim.Native.Nat.{ℕ, _≤_, _-_, _*_}
-use native.Mathlib.Nat.{add-zero}
-use lib.ListN.{getD}
+use mathlib.Core.Path.{_≡_, refl}
+use Prim.Native.Nat.{_≤_, _-_}
 use lib.Dec.{leb}
 use Rattle.ground.specs.Lists.{allBelow}
 use Rattle.ground.proofs.Bounded.{all-turn, all-end}
@@ -23,11 +21,14 @@ loop-holds : tie.Need-loop-holds Inv-loop μ-loop
 unfolding allBelow
 loop-holds c = (search needs, refl)
 
+mul-base : tie.Need-mul-base Inv-loop μ-loop
+mul-base c = search needs
+
+add-duration : tie.Need-add-duration Inv-loop μ-loop
+add-duration c = search needs
+
 mul-duration : tie.Need-mul-duration Inv-loop μ-loop
 mul-duration c = search needs
-
-mul-duration-2 : tie.Need-mul-duration-2 Inv-loop μ-loop
-mul-duration-2 c = search needs
 
 shared-slice-read-duration : tie.Need-shared-slice-read-duration Inv-loop μ-loop
 shared-slice-read-duration c = search needs
@@ -39,10 +40,7 @@ loop-less : tie.Need-loop-less Inv-loop μ-loop
 loop-less c = search needs
 
 loop-again : tie.Need-loop-again Inv-loop μ-loop
-loop-again c =
-    let l = c .before .before .loop in
-    let s = c .before .before .before .args .tracks .now in
-    (search needs, all-turn _ _ _ _ (l .inv .1) (ap (λ (m : ℕ). leb (getD s m 0) mostDuration) (sym (add-zero (l .i * 6)))))
+loop-again c = (search needs, all-turn _ _ _ _ (c .before .before .loop .inv .1) refl)
 
 returns : tie.Need-returns Inv-loop μ-loop
 unfolding durationsRule
@@ -55,8 +53,9 @@ durations-right-spec =
     Inv-loop
     μ-loop
     loop-holds
+    mul-base
+    add-duration
     mul-duration
-    mul-duration-2
     shared-slice-read-duration
     add-i
     loop-less

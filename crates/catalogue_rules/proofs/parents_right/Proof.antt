@@ -1,8 +1,6 @@
 -- `catalogue_rules::parents_right`: after i turns, the rule of the first i groups.
-use mathlib.Core.Path.{_≡_, refl, sym, ap, _∙_}
-use Prim.Native.Nat.{ℕ, _≤_, _*_, _-_}
-use native.Mathlib.Nat.{add-zero}
-use lib.ListN.{getD}
+use mathlib.Core.Path.{_≡_, refl, ap, _∙_}
+use Prim.Native.Nat.{_≤_, _-_}
 use Rattle.ground.specs.Lists.{allBelow}
 use Rattle.ground.proofs.Bounded.{all-turn, all-end}
 use Rattle.catalogue_tables.specs.Tables.{parentOf}
@@ -21,11 +19,14 @@ loop-holds : tie.Need-loop-holds Inv-loop μ-loop
 unfolding allBelow
 loop-holds c = (search needs, refl)
 
+mul-base : tie.Need-mul-base Inv-loop μ-loop
+mul-base c = search needs
+
+add-wide-word : tie.Need-add-wide-word Inv-loop μ-loop
+add-wide-word c = search needs
+
 mul-wide-word : tie.Need-mul-wide-word Inv-loop μ-loop
 mul-wide-word c = search needs
-
-mul-wide-word-2 : tie.Need-mul-wide-word-2 Inv-loop μ-loop
-mul-wide-word-2 c = search needs
 
 shared-slice-read-wide-word : tie.Need-shared-slice-read-wide-word Inv-loop μ-loop
 shared-slice-read-wide-word c = search needs
@@ -45,9 +46,7 @@ loop-less c = search needs
 loop-again : tie.Need-loop-again Inv-loop μ-loop
 loop-again c =
     let l = c .before .before .before .before .loop in
-    let s = c .before .before .before .before .before .before .args .groups .now in
-    let parent = c .before .wide-word .ensures .0 ∙ ap (λ (m : ℕ). getD s m 0) (sym (add-zero (l .i * 3))) in
-    (search needs, all-turn _ _ _ _ (l .inv .1) (c .parent-right .ensures ∙ ap (parentRight (l .i)) parent))
+    (search needs, all-turn _ _ _ _ (l .inv .1) (c .parent-right .ensures ∙ ap (parentRight (l .i)) (c .before .wide-word .ensures .0)))
 
 returns : tie.Need-returns Inv-loop μ-loop
 unfolding parentsRule
@@ -60,8 +59,9 @@ parents-right-spec =
     Inv-loop
     μ-loop
     loop-holds
+    mul-base
+    add-wide-word
     mul-wide-word
-    mul-wide-word-2
     shared-slice-read-wide-word
     wide-word-requires
     parent-right-requires

@@ -1,12 +1,11 @@
 -- `catalogue_rules::starts_right`: after i turns, the rule of the first i tracks.
-use mathlib.Core.Path.{_≡_, refl, sym, ap, _∙_}
-use Prim.Native.Nat.{ℕ, _≤_, _*_, _-_}
-use native.Mathlib.Nat.{add-zero}
+use mathlib.Core.Path.{_≡_, refl, ap, _∙_}
+use mathlib.Core.List.{List}
+use Prim.Native.Nat.{ℕ, _≤_, _-_}
 use native.Mathlib.Omega.{arith}
-use lib.ListN.{getD}
 use Rattle.ground.specs.Lists.{allBelow}
 use Rattle.ground.proofs.Bounded.{all-turn, all-end}
-use Rattle.catalogue_tables.specs.Tables.{startsOf, durationOf}
+use Rattle.catalogue_tables.specs.Tables.{startsOf, endOf}
 use Rattle.catalogue_rules.specs.Rules.{startsRight, startsRule}
 use Rattle.catalogue_rules.proofs.Runs.{run-part}
 use borrow.Author.Needs.{needs}
@@ -14,7 +13,7 @@ use Rattle.catalogue_rules.proofs.starts_right.Statement.{statement}
 use Rattle.catalogue_rules.proofs.starts_right.Tie as tie
 
 abbrev Inv-loop : tie.InvT-loop
-Inv-loop tracks segments n good₀ i₀ good i = (i ≤ n) × (good ≡ allBelow i (λ t. startsRight (startsOf tracks segments t) (durationOf tracks t)))
+Inv-loop tracks segments n good₀ i₀ good i = (i ≤ n) × (good ≡ allBelow i (λ t. startsRight (startsOf tracks segments t) (endOf tracks t)))
 
 abbrev μ-loop : tie.MeasureT-loop
 μ-loop tracks segments n good₀ i₀ good i = n - i
@@ -53,6 +52,15 @@ wide-word-requires-2 c κs = search needs
 add-end : tie.Need-add-end Inv-loop μ-loop
 add-end c = search needs
 
+add-duration : tie.Need-add-duration Inv-loop μ-loop
+add-duration c = search needs
+
+mul-duration : tie.Need-mul-duration Inv-loop μ-loop
+mul-duration c = search needs
+
+shared-slice-read-duration : tie.Need-shared-slice-read-duration Inv-loop μ-loop
+shared-slice-read-duration c = search needs
+
 mul-starts-of-track-right : tie.Need-mul-starts-of-track-right Inv-loop μ-loop
 mul-starts-of-track-right c = search needs
 
@@ -64,15 +72,8 @@ part-starts-of-track-right-start c = search needs
 
 part-starts-of-track-right-end : tie.Need-part-starts-of-track-right-end Inv-loop μ-loop
 part-starts-of-track-right-end c =
-    let l = c .before .before .before .before .before in
+    let l = c .before .before .before .before .before .before in
     omega (arith, l .before .before .before .pre (l .loop .i) (omega arith))
-
-mul-starts-of-track-right-2 : tie.Need-mul-starts-of-track-right-2 Inv-loop μ-loop
-mul-starts-of-track-right-2 c = search needs
-
-shared-slice-read-starts-of-track-right :
-    tie.Need-shared-slice-read-starts-of-track-right Inv-loop μ-loop
-shared-slice-read-starts-of-track-right c = search needs
 
 starts-of-track-right-requires : tie.Need-starts-of-track-right-requires Inv-loop μ-loop
 starts-of-track-right-requires c κs = search needs
@@ -89,9 +90,8 @@ loop-again c =
     let w = c .before .before .before in
     let l = w .before .before .before .before .before .loop in
     let a = w .before .before .before .before .before .before .before .before .args in
-    let duration = ap (λ (m : ℕ). getD (a .tracks .now) m 0) (sym (add-zero (l .i * 6))) in
     let part = run-part (a .segments .now) (w .before .before .wide-word .result) (w .wide-word2 .result) (w .before .before .wide-word .ensures .0) (w .wide-word2 .ensures .0) in
-    (search needs, all-turn _ _ _ _ (l .inv .1) (c .starts-of-track-right .ensures ∙ (λ k. startsRight (part k) (duration k))))
+    (search needs, all-turn _ _ _ _ (l .inv .1) (c .starts-of-track-right .ensures ∙ ap (λ (starts : List ℕ). startsRight starts (endOf (a .tracks .now) (l .i))) part))
 
 returns : tie.Need-returns Inv-loop μ-loop
 unfolding startsRule
@@ -114,12 +114,13 @@ starts-right-spec =
     shared-slice-read-wide-word-2
     wide-word-requires-2
     add-end
+    add-duration
+    mul-duration
+    shared-slice-read-duration
     mul-starts-of-track-right
     sub-starts-of-track-right
     part-starts-of-track-right-start
     part-starts-of-track-right-end
-    mul-starts-of-track-right-2
-    shared-slice-read-starts-of-track-right
     starts-of-track-right-requires
     add-i
     loop-less

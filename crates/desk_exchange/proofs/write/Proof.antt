@@ -1,17 +1,17 @@
 -- `desk_exchange::write`: its rows, then what it does.
-use mathlib.Core.Path.{_≡_, refl, ap, _∙_}
+use mathlib.Core.Path.{_≡_, ap, subst, _∙_}
 use mathlib.Core.Bool.{true, false, not}
 use mathlib.Core.List.{List, [], _++_}
 use Prim.Native.Nat.{ℕ, _≤_}
 use native.Mathlib.Omega.{arith}
-use borrow.Author.Tests.{eq-eqb, eqb-true, leb-false, not-true, not-false}
+use borrow.Author.Tests.{eqb-true, leb-false, not-true, not-false}
 use lib.ListN.{length}
 use Rattle.ground.specs.Refusals.{granted, leaves, keeping, Row}
-use Rattle.ground.proofs.Cases.{here}
 use Rattle.catalogue_tables.specs.Tables.{Tables, tables}
 use Rattle.ground.proofs.Rows.{NoneApplies, through}
 use Rattle.desk_replies.specs.Replies.{fronted, caller}
 use Rattle.desk_replies.proofs.Gates.{refuses, none, right, player}
+use Rattle.desk_slots.specs.Table.{sizeOf}
 use Rattle.desk_exchange.specs.Write.{lengthRight, writeRows, writeCall}
 use borrow.Author.Needs.{needs}
 use Rattle.desk_exchange.proofs.write.Statement.{statement}
@@ -36,9 +36,8 @@ passed g e = none (rows (begin g)) (g .write-gate .result) (g .write-gate .ensur
 
 -- a write of the position has its four octets
 four : (value : List ℕ) (characteristic : ℕ) → lengthRight characteristic value ≡ true → characteristic ≡ 7 → 4 ≤ length value
-unfolding lengthRight
-four value characteristic e q =
-    omega (arith, eqb-true (length value) 4 (here _ (eq-eqb characteristic 7 q) refl ∙ e))
+unfolding lengthRight sizeOf
+four value characteristic e q = omega (arith, eqb-true (length value) 4 (subst (λ (n : ℕ). lengthRight n value ≡ true) q e))
 
 write-gate-requires : tie.Need-write-gate-requires
 write-gate-requires c κs = search needs

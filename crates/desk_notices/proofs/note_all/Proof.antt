@@ -6,13 +6,13 @@ use lib.ListN.{length}
 use Rattle.ground.proofs.Sweep.{upTo, turn, swept}
 use Rattle.desk_client.specs.Duties.{noted}
 use Rattle.desk_state.specs.Desk.{noClient, clientAt}
-use Rattle.desk_notices.specs.Owed.{told}
+use Rattle.desk_notices.specs.Owed.{noticed}
 use borrow.Author.Needs.{needs}
 use Rattle.desk_notices.proofs.note_all.Statement.{statement}
 use Rattle.desk_notices.proofs.note_all.Tie as tie
 
 abbrev Inv-loop : tie.InvT-loop
-Inv-loop altered track cause out₀ i₀ out i = (i ≤ 4) × (length out₀ ≡ 4) × (out ≡ upTo (told altered track cause) 0 i out₀)
+Inv-loop altered track cause out₀ i₀ out i = (i ≤ 4) × (length out₀ ≡ 4) × (out ≡ upTo (noticed altered track cause) 0 i out₀)
 
 abbrev μ-loop : tie.MeasureT-loop
 μ-loop altered track cause out₀ i₀ out i = 4 - i
@@ -52,7 +52,7 @@ loop-again c =
     let d = c .before .before in
     let l = d .before .before .loop in
     let a = d .before .before .before .args in
-    (omega arith, l .inv .1, turn (told (a .altered) (a .track) (a .cause)) (l .i) _ (l .out) noClient _ (omega arith) (l .inv .2) (c .note .ensures ∙ ap (λ (due : ℕ). noted due (a .altered) (clientAt (l .out) (l .i))) (d .due-to .ensures)))
+    (omega arith, l .inv .1, turn (noticed (a .altered) (a .track) (a .cause)) (l .i) _ (l .out) noClient _ (omega arith) (l .inv .2) (c .note .ensures ∙ ap (λ (due : ℕ). noted due (a .altered) (clientAt (l .out) (l .i))) (d .due-to .ensures)))
 
 returns : tie.Need-returns Inv-loop μ-loop
 returns c =

@@ -2,7 +2,7 @@
 use mathlib.Core.Path.{_≡_, _∙_}
 use Rattle.ground.specs.Lists.{mapFrom}
 use Rattle.desk_client.specs.Duties.{noted}
-use Rattle.desk_notices.specs.Owed.{told, dueTo, alteredOf, settled}
+use Rattle.desk_notices.specs.Owed.{noticed, dueTo, alteredOf, settled}
 use Rattle.desk_notices.proofs.Laws.{due-is}
 use borrow.Author.Needs.{needs}
 use Rattle.desk_notices.proofs.settle.Statement.{statement}
@@ -28,7 +28,7 @@ returns c =
     let p = a .d .player in
     let records : c .note-all .result ≡ mapFrom (λ who r. noted (dueTo (a .tracks .now) (a .text .now) p (a .q) (a .cause) who) (alteredOf (a .tracks .now) (a .text .now) p (a .q)) r) 0 (a .d .clients) =
     c .note-all .ensures
-    ∙ (λ k. mapFrom (told (altered k) (track k) (a .cause)) 0 (a .d .clients))
+    ∙ (λ k. mapFrom (noticed (altered k) (track k) (a .cause)) 0 (a .d .clients))
     ∙ (λ k. mapFrom (λ who r. noted (due-is (a .tracks .now) (a .text .now) p (a .q) (a .cause) who k) (alteredOf (a .tracks .now) (a .text .now) p (a .q)) r) 0 (a .d .clients)) in
     λ k. record { player = a .q; clients = records k; turn = a .d .turn }
 

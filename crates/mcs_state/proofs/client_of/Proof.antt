@@ -61,6 +61,9 @@ shared-slice-read-t11-9 c = search needs
 shared-slice-read-t13-9 : tie.Need-shared-slice-read-t13-9
 shared-slice-read-t13-9 c = search needs
 
+mtu-of-requires : tie.Need-mtu-of-requires
+mtu-of-requires c κs = search needs
+
 word-at-requires : tie.Need-word-at-requires
 word-at-requires c κs = search needs
 
@@ -73,9 +76,6 @@ word-at-requires-3 c κs = search needs
 word-at-requires-4 : tie.Need-word-at-requires-4
 word-at-requires-4 c κs = search needs
 
-word-at-requires-5 : tie.Need-word-at-requires-5
-word-at-requires-5 c κs = search needs
-
 wide-at-requires : tie.Need-wide-at-requires
 wide-at-requires c κs = search needs
 
@@ -87,11 +87,11 @@ returns c =
     record {
       connected = flag (getD s 0 0);
       encrypted = flag (getD s 1 0);
-      mtu = c .before .before .before .before .before .word-at .ensures i;
-      subscribed = c .before .before .before .before .word-at2 .ensures i;
-      owed = c .before .before .before .word-at3 .ensures i;
-      fresh = c .before .before .word-at4 .ensures i;
-      mark = c .before .word-at5 .ensures i;
+      mtu = c .before .before .before .before .before .mtu-of .ensures i;
+      subscribed = c .before .before .before .before .word-at .ensures i;
+      owed = c .before .before .before .word-at2 .ensures i;
+      fresh = c .before .before .word-at3 .ensures i;
+      mark = c .before .word-at4 .ensures i;
       waiting = c .wide-at .ensures i;
       results = entriesAt s 30 8;
     }
@@ -118,10 +118,10 @@ client-of-spec =
     shared-slice-read-t13-8
     shared-slice-read-t11-9
     shared-slice-read-t13-9
+    mtu-of-requires
     word-at-requires
     word-at-requires-2
     word-at-requires-3
     word-at-requires-4
-    word-at-requires-5
     wide-at-requires
     returns)

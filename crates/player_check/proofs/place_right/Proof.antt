@@ -9,15 +9,15 @@ use Rattle.player_check.proofs.place_right.Tie as tie
 in-group-requires : tie.Need-in-group-requires
 in-group-requires c κs = search needs
 
-duration-requires : tie.Need-duration-requires
-duration-requires c κs = search needs
+end-requires : tie.Need-end-requires
+end-requires c κs = search needs
 
 returns : tie.Need-returns
 unfolding placeRule
 returns c =
     let d = c .before .before in
     let l = d .before .before .before .before .before .args .l in
-    rw (d .before .before .if1 .taken) (λ k. d .before .in-group .ensures k && leb (l .position .0) (d .duration .ensures k))
+    rw (d .before .before .if1 .taken) (λ k. d .before .in-group .ensures k && leb (l .position .0) (d .end .ensures k))
 
 returns-2 : tie.Need-returns-2
 unfolding placeRule
@@ -28,6 +28,6 @@ place-right-spec =
     tie.close
     (tie.spec
     in-group-requires
-    duration-requires
+    end-requires
     returns
     returns-2)

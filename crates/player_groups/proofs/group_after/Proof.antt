@@ -24,8 +24,8 @@ returns-2 c = lone-move _ _ _ (c .before .before .before .if1 .taken) Nothing (s
 group-count-requires : tie.Need-group-count-requires
 group-count-requires c κs = search needs
 
-cast-bound : tie.Need-cast-bound
-cast-bound c = search needs
+cast-count : tie.Need-cast-count
+cast-count c = search needs
 
 siblings-below-requires : tie.Need-siblings-below-requires
 siblings-below-requires c κs = search needs
@@ -77,7 +77,7 @@ group-after-spec =
     enum-told-2
     returns-2
     group-count-requires
-    cast-bound
+    cast-count
     siblings-below-requires
     siblings-below-requires-2
     place-after-requires-2

@@ -11,10 +11,10 @@ use Rattle.player_groups.proofs.nth_sibling.Statement.{statement}
 use Rattle.player_groups.proofs.nth_sibling.Tie as tie
 
 abbrev Inv-loop : tie.InvT-loop
-Inv-loop groups g bound k left₀ i₀ left i = (i ≤ bound) × (at (those (isSibling groups (g .0)) (span i (bound - i))) left ≡ at (those (isSibling groups (g .0)) (span 0 bound)) k)
+Inv-loop groups g k end left₀ i₀ left i = (i ≤ end) × (at (those (isSibling groups (g .0)) (span i (end - i))) left ≡ at (those (isSibling groups (g .0)) (span 0 end)) k)
 
 abbrev μ-loop : tie.MeasureT-loop
-μ-loop groups g bound k left₀ i₀ left i = bound - i
+μ-loop groups g k end left₀ i₀ left i = end - i
 
 loop-holds : tie.Need-loop-holds Inv-loop μ-loop
 loop-holds c = (search needs, rw all-left)

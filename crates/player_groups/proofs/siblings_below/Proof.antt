@@ -13,10 +13,10 @@ use Rattle.player_groups.proofs.siblings_below.Statement.{statement}
 use Rattle.player_groups.proofs.siblings_below.Tie as tie
 
 abbrev Inv-loop : tie.InvT-loop
-Inv-loop groups g bound n₀ i₀ n i = (i ≤ bound) × (n ≤ i) × (n + length (those (isSibling groups (g .0)) (span i (bound - i))) ≡ length (those (isSibling groups (g .0)) (span 0 bound)))
+Inv-loop groups g end n₀ i₀ n i = (i ≤ end) × (n ≤ i) × (n + length (those (isSibling groups (g .0)) (span i (end - i))) ≡ length (those (isSibling groups (g .0)) (span 0 end)))
 
 abbrev μ-loop : tie.MeasureT-loop
-μ-loop groups g bound n₀ i₀ n i = bound - i
+μ-loop groups g end n₀ i₀ n i = end - i
 
 loop-holds : tie.Need-loop-holds Inv-loop μ-loop
 loop-holds c = (search needs, search needs, rw (zero-add, all-left))

@@ -1,22 +1,25 @@
--- `player_moves::move_segment`: a segment move always finds a position.
-use mathlib.Core.Path.{ap, _∙_}
+-- `player_moves::move_segment`: to the position that was found, or result 4.
+use mathlib.Core.Path.{_≡_, sym, ap, _∙_}
 use Rattle.player_walk.specs.declared.Near.{Near}
 use Rattle.player_state.specs.Player.{atPosition}
-use Rattle.player_segments.specs.Segments.{segmentMove}
+use Rattle.player_segments.specs.Segments.{segmentMove, nearPosition}
 use Rattle.player_moves.specs.Moves.{segmentAfter}
 use Rattle.player_moves.specs.Control.{success, onward}
 use borrow.Author.Needs.{needs}
 use Rattle.player_moves.proofs.move_segment.Statement.{statement}
 use Rattle.player_moves.proofs.move_segment.Tie as tie
 
-duration-requires : tie.Need-duration-requires
-duration-requires c κs = search needs
+end-requires : tie.Need-end-requires
+end-requires c κs = search needs
 
 starts-requires : tie.Need-starts-requires
 starts-requires c κs = search needs
 
 segment-after-requires : tie.Need-segment-after-requires
-segment-after-requires c κs = rw (c .starts .ensures, c .before .duration .ensures) (c .before .before .before .before .before .before .pre)
+segment-after-requires c κs = rw (c .starts .ensures, c .before .end .ensures) (c .before .before .before .before .before .before .pre)
+
+enum-known-near : tie.Need-enum-known-near
+enum-known-near c = search needs
 
 at-position-requires : tie.Need-at-position-requires
 at-position-requires c κs = search needs
@@ -24,21 +27,43 @@ at-position-requires c κs = search needs
 done-requires : tie.Need-done-requires
 done-requires c κs = search needs
 
-returns : tie.Need-returns
+enum-told : tie.Need-enum-told
+enum-told c = search needs
+
+undone-requires : tie.Need-undone-requires
+undone-requires c κs = search needs
+
+-- what was found is where the move leads
+found : (s : tie.After-segment-after) → let a = s .before .before .before .before .before .before .before .args in nearPosition (s .segment-after .result) ≡ segmentAfter (a .tracks .now) (a .segments .now) (a .step) (a .p)
 unfolding segmentAfter
-returns c =
-    let s = c .before .before in
+found s =
     let a = s .before .before .before .before .before .before .before .args in
-    let found = s .segment-after .ensures ∙ (λ k. segmentMove (a .step) (s .before .starts .ensures k) (s .before .before .duration .ensures k) (a .p .place .position .0)) in
-    c .done .ensures ∙ ap success (c .before .at-position .ensures) ∙ ap (λ (n : Near). onward n (λ x. success (atPosition x (a .p))) (a .p)) found
+    s .segment-after .ensures ∙ (λ k. segmentMove (a .step) (s .before .starts .ensures k) (s .before .before .end .ensures k) (a .p .place .position .0))
+
+returns : tie.Need-returns
+returns c =
+    let m = c .before .before .before in
+    let s = m .before .before in
+    let a = s .before .before .before .before .before .before .before .args in
+    c .done .ensures ∙ ap success (c .before .at-position .ensures) ∙ ap (λ (n : Near). onward n (λ x. success (atPosition x (a .p))) (a .p)) (sym (ap nearPosition (m .near .given .1)) ∙ found s)
+
+returns-2 : tie.Need-returns-2
+returns-2 c =
+    let s = c .before .before .before in
+    let a = s .before .before .before .before .before .before .before .args in
+    c .undone .ensures ∙ ap (λ (n : Near). onward n (λ x. success (atPosition x (a .p))) (a .p)) (sym (ap nearPosition (c .before .enum-told .given .1)) ∙ found s)
 
 pub move-segment-spec : {M : Type 1} → statement M
 move-segment-spec =
     tie.close
     (tie.spec
-    duration-requires
+    end-requires
     starts-requires
     segment-after-requires
+    enum-known-near
     at-position-requires
     done-requires
-    returns)
+    enum-told
+    undone-requires
+    returns
+    returns-2)

@@ -16,8 +16,8 @@ returns : tie.Need-returns
 unfolding positioned
 returns c = past _ (ap not (eq-eqb _ _ (c .if1 .taken))) refl
 
-duration-requires : tie.Need-duration-requires
-duration-requires c κs = search needs
+end-requires : tie.Need-end-requires
+end-requires c κs = search needs
 
 written-position-requires : tie.Need-written-position-requires
 written-position-requires c κs = search needs
@@ -29,7 +29,7 @@ returns-2 : tie.Need-returns-2
 unfolding positioned
 returns-2 c =
     let a = c .before .before .before .before .before .before .args in
-    let d = c .before .before .duration .ensures in
+    let d = c .before .before .end .ensures in
     here _ (ap not (ne-eqb _ _ (c .before .before .before .if1 .left)))
     (c .at-position .ensures
     ∙ ap (λ (x : ℕ). atPosition x (a .p)) (c .before .written-position .ensures ∙ ap (λ (n : ℕ). written n (signedWord (a .number))) d))
@@ -37,4 +37,4 @@ returns-2 c =
 pub write-position-spec : {M : Type 1} → statement M
 write-position-spec =
     tie.close
-    (tie.spec returns duration-requires written-position-requires at-position-requires returns-2)
+    (tie.spec returns end-requires written-position-requires at-position-requires returns-2)

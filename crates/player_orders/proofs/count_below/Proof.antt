@@ -4,26 +4,25 @@ use mathlib.Core.Logic.{⊎-elim}
 use Prim.Native.Nat.{_≤_, _+_, _-_}
 use borrow.Author.Needs.{needs}
 use Rattle.ground.specs.Lists.{span}
-use Rattle.player_orders.specs.Order.{keyOf}
-use Rattle.player_orders.specs.Below.{below}
+use Rattle.player_orders.specs.Keys.{keyOf, below}
 use Rattle.player_orders.proofs.Span.{counts, passes, whole, counted}
 use Rattle.player_orders.proofs.count_below.Statement.{statement}
 use Rattle.player_orders.proofs.count_below.Tie as tie
 
 abbrev Inv-loop : tie.InvT-loop
-Inv-loop tracks by first count x end n₀ i₀ n i =
-    (first ≤ i) × (i ≤ end) × (n ≤ i) × (n + below (keyOf by tracks) x (span i (end - i)) ≡ below (keyOf by tracks) x (span first count))
+Inv-loop tracks by count x end n₀ i₀ n i =
+    (i₀ ≤ i) × (i ≤ end) × (n ≤ i) × (n + below (keyOf by tracks) x (span i (end - i)) ≡ below (keyOf by tracks) x (span i₀ count))
 
 abbrev μ-loop : tie.MeasureT-loop
-μ-loop tracks by first count x end n₀ i₀ n i = end - i
+μ-loop tracks by count x end n₀ i₀ n i = end - i
 
 add-end : tie.Need-add-end Inv-loop μ-loop
 add-end c = search needs
 
 loop-holds : tie.Need-loop-holds Inv-loop μ-loop
 loop-holds c =
-    let a = c .before .args in
-    (search needs, search needs, search needs, whole (keyOf (a .by) (a .tracks .now)) (a .x) (a .first) (a .count))
+    let a = c .before .before .args in
+    (search needs, search needs, search needs, whole (keyOf (a .by) (a .tracks .now)) (a .x) (a .first .0) (a .count))
 
 key-requires : tie.Need-key-requires Inv-loop μ-loop
 key-requires c κs = search needs

@@ -6,7 +6,7 @@ use Rattle.player_orders.proofs.nth.Statement.{statement}
 use Rattle.player_orders.proofs.nth.Tie as tie
 
 abbrev Inv-loop : tie.InvT-loop
-Inv-loop tracks by first count k lo₀ hi₀ lo hi = (lo < hi) × (hi ≤ 0xFFFF_FFFF_FFFF_FFFF) × (lo ≤ goal by tracks first count k) × (goal by tracks first count k < hi)
+Inv-loop tracks by first count k lo₀ hi₀ lo hi = (lo < hi) × (hi ≤ 0xFFFF_FFFF_FFFF_FFFF) × (lo ≤ goal by tracks (first .0) count k) × (goal by tracks (first .0) count k < hi)
 
 abbrev μ-loop : tie.MeasureT-loop
 μ-loop tracks by first count k lo₀ hi₀ lo hi = hi - lo
@@ -23,7 +23,7 @@ returns-2 c = c .nth-of-few .ensures
 loop-holds : tie.Need-loop-holds Inv-loop μ-loop
 loop-holds c =
     let e = c .before in
-    (search needs, search needs, search needs, starts _ _ _ _ (e .before .before .pre .small) _ (e .if1 .left) (λ i. e .before .shared-slice-known .given i .fits))
+    (search needs, search needs, search needs, starts _ _ _ _ (e .before .before .pre .small) _ (λ i. e .before .shared-slice-known .given i .fits) (e .if1 .left))
 
 sub-loop : tie.Need-sub-loop Inv-loop μ-loop
 sub-loop c = search needs
@@ -43,7 +43,7 @@ loop-less c = search needs
 loop-again : tie.Need-loop-again Inv-loop μ-loop
 loop-again c =
     let l = c .before .before .before in
-    (search needs, search needs, up _ _ _ _ (l .before .before .before .before .pre .small) _ (l .before .before .if1 .left) _ _ (c .before .count-below .ensures) (c .if3 .taken), search needs)
+    (search needs, search needs, up _ _ _ _ (l .before .before .before .before .pre .small) _ (λ i. l .before .before .before .shared-slice-known .given i .fits) (l .before .before .if1 .left) _ _ (c .before .count-below .ensures) (c .if3 .taken), search needs)
 
 loop-less-2 : tie.Need-loop-less-2 Inv-loop μ-loop
 loop-less-2 c = search needs
@@ -51,15 +51,15 @@ loop-less-2 c = search needs
 loop-again-2 : tie.Need-loop-again-2 Inv-loop μ-loop
 loop-again-2 c =
     let l = c .before .before .before in
-    (search needs, search needs, search needs, down _ _ _ _ (l .before .before .before .before .pre .small) _ (l .before .before .if1 .left) _ _ (c .before .count-below .ensures) (c .if3 .left))
+    (search needs, search needs, search needs, down _ _ _ _ (l .before .before .before .before .pre .small) _ (λ i. l .before .before .before .shared-slice-known .given i .fits) (l .before .before .if1 .left) _ _ (c .before .count-below .ensures) (c .if3 .left))
 
-cast-t16 : tie.Need-cast-t16 Inv-loop μ-loop
-cast-t16 c = search needs
+cast-number : tie.Need-cast-number Inv-loop μ-loop
+cast-number c = search needs
 
 returns-3 : tie.Need-returns-3 Inv-loop μ-loop
 returns-3 c =
     let l = c .before in
-    met _ _ _ _ (l .before .before .before .before .pre .small) _ (l .before .before .if1 .left) _ _ (l .loop .inv .2) (l .loop .inv .3) (c .loop-test .left)
+    met _ _ _ _ (l .before .before .before .before .pre .small) _ (λ i. l .before .before .before .shared-slice-known .given i .fits) (l .before .before .if1 .left) _ _ (l .loop .inv .2) (l .loop .inv .3) (c .loop-test .left)
 
 pub nth-spec : {M : Type 1} → statement M
 nth-spec =
@@ -79,5 +79,5 @@ nth-spec =
     loop-again
     loop-less-2
     loop-again-2
-    cast-t16
+    cast-number
     returns-3)

@@ -17,8 +17,8 @@ returns : tie.Need-returns
 returns c =
     let s = c .before .before .before in
     let a = s .args in
-    let e : c .count-below .result ≡ place (a .t) (ordered (a .by) (a .tracks .now) (a .first) (a .count)) =
-    c .count-below .ensures ∙ rw (c .before .key .ensures .0) (rank-is _ _ _ _ (s .pre .small) _ (s .pre .low) (s .pre .high)) in
+    let e : c .count-below .result ≡ place (a .t .0) (ordered (a .by) (a .tracks .now) (a .first .0) (a .count)) =
+    c .count-below .ensures ∙ rw (c .before .key .ensures .0) (rank-is _ _ _ _ (s .pre .small) (λ i. c .before .before .shared-slice-known .given i .fits) _ (s .pre .low) (s .pre .high)) in
     (e, rw e (place-small _ _ _ _ (s .pre .small) _ (s .pre .low) (s .pre .high)))
 
 pub rank-spec : {M : Type 1} → statement M

@@ -36,7 +36,7 @@ returns-2 : tie.Need-returns-2
 returns-2 c =
     let w = c .before .before .before in
     let start = w .before .before .before .before in
-    goes-ahead _ (start .args .d) (start .args .p) _ (start .pre) _ _ _ (sym (w .way .given .1) ∙ w .before .before .way-of .ensures) (c .before .wide-word .ensures .0) (c .start-ahead .ensures)
+    goes-ahead _ (start .args .end .0) (start .args .p .0) _ (start .pre) _ _ _ (sym (w .way .given .1) ∙ w .before .before .way-of .ensures) (c .before .wide-word .ensures .0) (c .start-ahead .ensures)
 
 returns-3 : tie.Need-returns-3
 returns-3 c =

@@ -7,10 +7,10 @@ use Rattle.player_segments.proofs.lower.Statement.{statement}
 use Rattle.player_segments.proofs.lower.Tie as tie
 
 abbrev Inv-loop : tie.InvT-loop
-Inv-loop starts x d lo₀ hi₀ lo hi = Bracket starts x lo hi
+Inv-loop starts x lo₀ hi₀ lo hi = Bracket starts (x .0) lo hi
 
 abbrev μ-loop : tie.MeasureT-loop
-μ-loop starts x d lo₀ hi₀ lo hi = hi - lo
+μ-loop starts x lo₀ hi₀ lo hi = hi - lo
 
 loop-holds : tie.Need-loop-holds Inv-loop μ-loop
 loop-holds c = bracket _ _
@@ -35,16 +35,16 @@ loop-less c = search needs
 
 loop-again : tie.Need-loop-again Inv-loop μ-loop
 loop-again c =
-    let l = c .before .before .before .loop in
-    up _ _ (l .lo) (l .hi) (l .lo + (l .hi - l .lo) / 2) (c .before .before .before .before .pre .rise) (l .inv) (omega arith) (omega arith) (c .if1 .taken)
+    let l = c .before .before .before .before .loop in
+    up _ _ (l .lo) (l .hi) (l .lo + (l .hi - l .lo) / 2) (c .before .before .before .before .before .pre .rise) (l .inv) (omega arith) (omega arith) (c .if1 .taken)
 
 loop-less-2 : tie.Need-loop-less-2 Inv-loop μ-loop
 loop-less-2 c = search needs
 
 loop-again-2 : tie.Need-loop-again-2 Inv-loop μ-loop
 loop-again-2 c =
-    let l = c .before .before .before .loop in
-    down _ _ (l .lo) (l .hi) (l .lo + (l .hi - l .lo) / 2) (c .before .before .before .before .pre .rise) (l .inv) (omega arith) (omega arith) (c .if1 .left)
+    let l = c .before .before .before .before .loop in
+    down _ _ (l .lo) (l .hi) (l .lo + (l .hi - l .lo) / 2) (c .before .before .before .before .before .pre .rise) (l .inv) (omega arith) (omega arith) (c .if1 .left)
 
 returns : tie.Need-returns Inv-loop μ-loop
 returns c = closed _ _ _ _ (c .before .loop .inv) (c .loop-test .left)

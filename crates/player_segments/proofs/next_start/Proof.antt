@@ -21,27 +21,29 @@ shared-slice-read-x c = search needs
 
 returns-2 : tie.Need-returns-2
 returns-2 c =
-    let start = c .before .before .before .before .before in
-    next-here _ (start .pre .rise) _ _ (c .before .before .before .lower .ensures) _ (λ i h. le-of-lt (start .pre .below i h)) (c .before .before .if1 .left) (c .if2 .taken) ∙ next-same _ _ _
+    let l = c .before .before .before .before in
+    let start = l .before .before in
+    next-here _ (start .pre .rise) _ _ (l .lower .ensures) _ (λ i h. le-of-lt (start .pre .below i h)) (c .before .before .before .if1 .left) (c .if2 .taken) ∙ next-same _ _ _
 
 add-j : tie.Need-add-j
 add-j c = search needs
 
 returns-3 : tie.Need-returns-3
 returns-3 c =
-    let l = c .before .before .before .before in
+    let l = c .before .before .before .before .before in
     next-last _ (l .before .before .pre .rise) _ _ (l .lower .ensures) _ (c .before .if2 .left) (c .if3 .taken) ∙ next-same _ _ _
 
-mul-result : tie.Need-mul-result
-mul-result c = search needs
+mul-y : tie.Need-mul-y
+mul-y c = search needs
 
-shared-slice-read-result : tie.Need-shared-slice-read-result
-shared-slice-read-result c = search needs
+shared-slice-read-y : tie.Need-shared-slice-read-y
+shared-slice-read-y c = search needs
 
 returns-4 : tie.Need-returns-4
 returns-4 c =
-    let start = c .before .before .before .before .before .before .before in
-    next-after _ (start .pre .rise) _ _ (c .before .before .before .before .before .lower .ensures) _ (λ i h. le-of-lt (start .pre .below i h)) (c .before .before .if2 .left) (c .before .if3 .left) ∙ next-same _ _ _
+    let l = c .before .before .before .before .before .before in
+    let start = l .before .before in
+    next-after _ (start .pre .rise) _ _ (l .lower .ensures) _ (λ i h. le-of-lt (start .pre .below i h)) (c .before .before .if2 .left) (c .before .if3 .left) ∙ next-same _ _ _
 
 pub next-start-spec : {M : Type 1} → statement M
 next-start-spec =
@@ -54,6 +56,6 @@ next-start-spec =
     returns-2
     add-j
     returns-3
-    mul-result
-    shared-slice-read-result
+    mul-y
+    shared-slice-read-y
     returns-4)

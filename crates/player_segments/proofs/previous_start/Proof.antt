@@ -12,14 +12,14 @@ lower-requires c κs = search needs
 returns : tie.Need-returns
 returns c = prev-zero _ (c .before .before .before .pre .rise) _ _ (c .before .lower .ensures) (c .if1 .taken) ∙ previous-same _ _
 
-sub-result : tie.Need-sub-result
-sub-result c = search needs
+sub-x : tie.Need-sub-x
+sub-x c = search needs
 
-mul-result : tie.Need-mul-result
-mul-result c = search needs
+mul-x : tie.Need-mul-x
+mul-x c = search needs
 
-shared-slice-read-result : tie.Need-shared-slice-read-result
-shared-slice-read-result c = search needs
+shared-slice-read-x : tie.Need-shared-slice-read-x
+shared-slice-read-x c = search needs
 
 returns-2 : tie.Need-returns-2
 returns-2 c = prev-some _ (c .before .before .before .before .pre .rise) _ _ (c .before .before .lower .ensures) (c .before .if1 .left) ∙ previous-same _ _
@@ -27,4 +27,4 @@ returns-2 c = prev-some _ (c .before .before .before .before .pre .rise) _ _ (c 
 pub previous-start-spec : {M : Type 1} → statement M
 previous-start-spec =
     tie.close
-    (tie.spec lower-requires returns sub-result mul-result shared-slice-read-result returns-2)
+    (tie.spec lower-requires returns sub-x mul-x shared-slice-read-x returns-2)

@@ -4,11 +4,11 @@ use borrow.Author.Needs.{needs}
 use Rattle.player_segments.proofs.start_ahead.Statement.{statement}
 use Rattle.player_segments.proofs.start_ahead.Tie as tie
 
-mul-result : tie.Need-mul-result
-mul-result c = search needs
+mul-x : tie.Need-mul-x
+mul-x c = search needs
 
-shared-slice-read-result : tie.Need-shared-slice-read-result
-shared-slice-read-result c = search needs
+shared-slice-read-x : tie.Need-shared-slice-read-x
+shared-slice-read-x c = search needs
 
 returns : tie.Need-returns
 returns c = ahead-in _ _ _ (c .before .if1 .taken)
@@ -21,4 +21,4 @@ returns-3 c = ahead-past _ _ _ (c .before .if1 .left) (c .if2 .left)
 
 pub start-ahead-spec : {M : Type 1} → statement M
 start-ahead-spec =
-    tie.close (tie.spec mul-result shared-slice-read-result returns returns-2 returns-3)
+    tie.close (tie.spec mul-x shared-slice-read-x returns returns-2 returns-3)

@@ -7,11 +7,14 @@ use borrow.Author.Needs.{needs}
 use Rattle.player_state.proofs.written_position.Statement.{statement}
 use Rattle.player_state.proofs.written_position.Tie as tie
 
-lesser-requires : tie.Need-lesser-requires
-lesser-requires c κs = search needs
+held-to-requires : tie.Need-held-to-requires
+held-to-requires c κs = search needs
 
 returns : tie.Need-returns
-returns c = c .lesser .ensures ∙ written-up _ 0 _ (c .before .if1 .taken)
+returns c = c .held-to .ensures ∙ written-up _ 0 _ (c .before .if1 .taken)
+
+cast-less : tie.Need-cast-less
+cast-less c = search needs
 
 sub-less : tie.Need-sub-less
 sub-less c = search needs
@@ -19,14 +22,14 @@ sub-less c = search needs
 less-requires : tie.Need-less-requires
 less-requires c κs = search needs
 
-lesser-requires-2 : tie.Need-lesser-requires-2
-lesser-requires-2 c κs = search needs
+held-to-requires-2 : tie.Need-held-to-requires-2
+held-to-requires-2 c κs = search needs
 
 returns-2 : tie.Need-returns-2
 returns-2 c =
-    let a = c .before .before .before .args in
-    c .lesser2 .ensures ∙ ap (λ (m : ℕ). min m (a .duration)) (c .before .less .ensures) ∙ written-down (a .duration) 0 (a .number) (omega arith) (omega arith)
+    let a = c .before .before .before .before .args in
+    c .held-to2 .ensures ∙ ap (λ (m : ℕ). min m (a .end .0)) (c .before .less .ensures) ∙ written-down (a .end .0) 0 (a .number) (omega arith) (omega arith)
 
 pub written-position-spec : {M : Type 1} → statement M
 written-position-spec =
-    tie.close (tie.spec lesser-requires returns sub-less less-requires lesser-requires-2 returns-2)
+    tie.close (tie.spec held-to-requires returns cast-less sub-less less-requires held-to-requires-2 returns-2)
