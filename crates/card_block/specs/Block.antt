@@ -10,6 +10,16 @@ use Rattle.ground.specs.Lists.{part}
 use Rattle.ground.specs.Words.{halfAt}
 use Rattle.card_block.specs.Sums.{sumsOf}
 
+-- "blocks of 512 bytes": a head of 5 bytes, then records and zeros "up to byte 509", then two check octets
+abbrev pub blockSize : ℕ
+blockSize = 512
+
+abbrev pub headSize : ℕ
+headSize = 5
+
+abbrev pub summed : ℕ
+summed = 510
+
 -- "Bytes 0–1 block number", "2 kind", "3–4 record count"
 abbrev pub numberOf : List ℕ → ℕ
 numberOf b = halfAt b 0
@@ -33,12 +43,12 @@ recordSize kind = byKind kind 12 24 4 1
 unfoldable pub mostRecords : ℕ → ℕ
 mostRecords kind = byKind kind 42 21 126 505
 
--- "then the records", from byte 5 on
+-- "then the records", behind the head
 abbrev pub recordsEnd : List ℕ → ℕ
-recordsEnd b = 5 + countOf b * recordSize (kindOf b)
+recordsEnd b = headSize + countOf b * recordSize (kindOf b)
 
 abbrev pub recordsOf : List ℕ → List ℕ
-recordsOf b = part b 5 (recordsEnd b)
+recordsOf b = part b headSize (recordsEnd b)
 
 unfoldable pub allZero : List ℕ → Bool
 allZero [] = true
@@ -47,7 +57,7 @@ allZero (x ∷ s) = eqb x 0 && allZero s
 -- the rules: `number` is the block's place on the card, `least` the kind of the block before it, 1 for the first
 unfoldable pub checkRule : List ℕ → Bool
 checkRule b =
-    eqb (getD b 510 0) (sumsOf (take 510 b) .plain) && eqb (getD b 511 0) (sumsOf (take 510 b) .running)
+    eqb (getD b summed 0) (sumsOf (take summed b) .plain) && eqb (getD b (summed + 1) 0) (sumsOf (take summed b) .running)
 
 unfoldable pub numberRule : ℕ → List ℕ → Bool
 numberRule number b = eqb (numberOf b) number
@@ -60,7 +70,7 @@ countRule b = leb 1 (countOf b) && leb (countOf b) (mostRecords (kindOf b))
 
 -- "zeros up to byte 509"
 unfoldable pub paddingRule : List ℕ → Bool
-paddingRule b = allZero (part b (recordsEnd b) 510)
+paddingRule b = allZero (part b (recordsEnd b) summed)
 
 unfoldable pub blockRule : ℕ → ℕ → List ℕ → Bool
 blockRule number least b =

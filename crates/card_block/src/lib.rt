@@ -3,7 +3,18 @@ ghost use mathlib.Core.Path.{_≡_};
 ghost use Prim.Native.Nat.{_+_, _<_, _≤_};
 ghost use lib.ListN.{length};
 ghost use Rattle.card_block.specs.Sums.{sumsOf};
-ghost use Rattle.card_block.specs.Block.{kindOf, countOf, recordSize, mostRecords, recordsEnd, allZero, checkRule, numberRule, kindRule, countRule, paddingRule, blockRule};
+ghost use Rattle.card_block.specs.Block.{blockSize, headSize, summed, kindOf, countOf, recordSize, mostRecords, recordsEnd, allZero, checkRule, numberRule, kindRule, countRule, paddingRule, blockRule};
+
+// The octets in a block, in its head, and in head and records; behind those stand the two check octets.
+pub const BLOCK: usize = 512;
+
+pub const HEAD: usize = 5;
+
+const SUMMED: usize = 510;
+
+const RUNNING_SUM: usize = 511;
+
+const LAST_KIND: u8 = 4;
 
 pub struct CheckSums {
     pub plain: u32,
@@ -66,17 +77,17 @@ pub fn all_zero(s: &[u8]) -> bool
 }
 
 fn check_right(b: &[u8]) -> bool
-    requires { ⌜ length (now b) ≡ 512 ⌝ }
+    requires { ⌜ length (now b) ≡ blockSize ⌝ }
     ensures { λ r. ⌜ r ≡ checkRule (now (b .entry)) ⌝ }
 {
-    let s = sums(&b[0..510]);
-    let plain = ground::wide_octet(b[510]);
-    let running = ground::wide_octet(b[511]);
+    let s = sums(&b[0..SUMMED]);
+    let plain = ground::wide_octet(b[SUMMED]);
+    let running = ground::wide_octet(b[RUNNING_SUM]);
     (plain == s.plain) & (running == s.running)
 }
 
 fn number_right(b: &[u8], number: usize) -> bool
-    requires { ⌜ length (now b) ≡ 512 ⌝ }
+    requires { ⌜ length (now b) ≡ blockSize ⌝ }
     ensures { λ r. ⌜ r ≡ numberRule number (now (b .entry)) ⌝ }
 {
     let written = ground::half_at(b, 0);
@@ -84,15 +95,15 @@ fn number_right(b: &[u8], number: usize) -> bool
 }
 
 fn kind_right(b: &[u8], least: u8) -> bool
-    requires { ⌜ length (now b) ≡ 512 ⌝ }
+    requires { ⌜ length (now b) ≡ blockSize ⌝ }
     ensures { λ r. ⌜ r ≡ kindRule least (now (b .entry)) ⌝ }
 {
     let kind = b[2];
-    (least <= kind) & (kind <= 4)
+    (least <= kind) & (kind <= LAST_KIND)
 }
 
 fn count_right(b: &[u8]) -> bool
-    requires { ⌜ length (now b) ≡ 512 ⌝ }
+    requires { ⌜ length (now b) ≡ blockSize ⌝ }
     ensures { λ r. ⌜ r ≡ countRule (now (b .entry)) ⌝ }
 {
     let count = ground::half_at(b, 3);
@@ -102,27 +113,27 @@ fn count_right(b: &[u8]) -> bool
 
 // Where the records of a block end.
 pub fn records_end(b: &[u8]) -> usize
-    requires { ⌜ length (now b) ≡ 512 ⌝ }
+    requires { ⌜ length (now b) ≡ blockSize ⌝ }
     requires { ⌜ countOf (now b) ≤ mostRecords (kindOf (now b)) ⌝ }
-    ensures { λ r. ⌜ (r ≡ recordsEnd (now (b .entry))) × (5 ≤ r) × (r ≤ 510) ⌝ }
+    ensures { λ r. ⌜ (r ≡ recordsEnd (now (b .entry))) × (headSize ≤ r) × (r ≤ summed) ⌝ }
 {
     let count = ground::half_at(b, 3);
     let size = record_size(b[2]);
-    5 + count * size
+    HEAD + count * size
 }
 
 fn padding_right(b: &[u8]) -> bool
-    requires { ⌜ length (now b) ≡ 512 ⌝ }
+    requires { ⌜ length (now b) ≡ blockSize ⌝ }
     requires { ⌜ countOf (now b) ≤ mostRecords (kindOf (now b)) ⌝ }
     ensures { λ r. ⌜ r ≡ paddingRule (now (b .entry)) ⌝ }
 {
     let end = records_end(b);
-    all_zero(&b[end..510])
+    all_zero(&b[end..SUMMED])
 }
 
 // Whether all rules of a block hold.
 pub fn block_right(b: &[u8], number: usize, least: u8) -> bool
-    requires { ⌜ length (now b) ≡ 512 ⌝ }
+    requires { ⌜ length (now b) ≡ blockSize ⌝ }
     ensures { λ r. ⌜ r ≡ blockRule number least (now (b .entry)) ⌝ }
 {
     if !check_right(b) {

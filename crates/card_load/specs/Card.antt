@@ -7,19 +7,22 @@ use lib.Dec.{eqb, leb}
 use lib.ListN.{length, take, drop}
 use Rattle.ground.specs.Cases.{pick}
 use Rattle.ground.specs.Lists.{part}
-use Rattle.card_block.specs.Block.{kindOf, countOf, mostRecords, recordsOf, blockRule}
+use Rattle.card_block.specs.Block.{blockSize, kindOf, countOf, mostRecords, recordsOf, blockRule}
 
 -- "A card is 0 to 128 blocks of 512 bytes."
+abbrev pub mostBlocks : ℕ
+mostBlocks = 128
+
 unfoldable pub lengthRule : List ℕ → Bool
-lengthRule card = eqb (length card % 512) 0 && leb (length card) 65536
+lengthRule card = eqb (length card % blockSize) 0 && leb (length card) (mostBlocks * blockSize)
 
 -- the first n blocks
 unfoldable pub blocks : ℕ → List ℕ → List (List ℕ)
 blocks zero card = []
-blocks (suc n) card = take 512 card ∷ blocks n (drop 512 card)
+blocks (suc n) card = take blockSize card ∷ blocks n (drop blockSize card)
 
 abbrev pub blocksOf : List ℕ → List (List ℕ)
-blocksOf card = blocks (length card / 512) card
+blocksOf card = blocks (length card / blockSize) card
 
 -- all rules of all blocks: the numbers count on from `number`, and the kind never falls below `least`
 unfoldable pub blocksRule : ℕ → ℕ → List (List ℕ) → Bool
@@ -42,7 +45,7 @@ octets s = s
 
 -- block i of a card, and that the count of each of the first n blocks has room in its block
 abbrev pub blockAt : List ℕ → ℕ → List ℕ
-blockAt card i = part card (i * 512) (i * 512 + 512)
+blockAt card i = part card (i * blockSize) (i * blockSize + blockSize)
 
 abbrev pub CountsFit : ℕ → List ℕ → Type 0
 CountsFit n card = (i : ℕ) → i < n → countOf (blockAt card i) ≤ mostRecords (kindOf (blockAt card i))

@@ -7,8 +7,12 @@ ghost use lib.Seq.{paste};
 ghost use Rattle.ground.specs.Refusals.{refusedWith};
 ghost use Rattle.ground.specs.Lists.{filled, tableAfter};
 ghost use Rattle.ground.specs.Words.{words};
-ghost use Rattle.card_load.specs.Card.{blocks, blocksOf, blocksRule, recordCount, gather, octets, CountsFit};
+ghost use Rattle.card_block.specs.Block.{blockSize};
+ghost use Rattle.card_load.specs.Card.{mostBlocks, blocks, blocksOf, blocksRule, recordCount, gather, octets, CountsFit};
 ghost use Rattle.card_load.specs.Load.{fits, saidOf, loadSaid};
+
+// The octets in the longest card.
+const MOST_CARD: usize = 65536;
 
 // How many records of each kind were loaded.
 pub struct Counts {
@@ -32,14 +36,14 @@ fn refused(number: u32) -> Loaded
 
 // Whether all rules of the first n blocks hold.
 fn blocks_right(card: &[u8], n: usize) -> bool
-    requires { ⌜ n * 512 ≤ length (now card) ⌝ }
+    requires { ⌜ n * blockSize ≤ length (now card) ⌝ }
     ensures { λ r. ⌜ r ≡ blocksRule 0 1 (blocks n (now (card .entry))) ⌝ }
 {
     let mut i: usize = 0;
     let mut least: u8 = 1;
     while i < n {
-        let a = i * 512;
-        let e = a + 512;
+        let a = i * card_block::BLOCK;
+        let e = a + card_block::BLOCK;
         let b = &card[a..e];
         if !card_block::block_right(b, i, least) {
             return false;
@@ -52,15 +56,15 @@ fn blocks_right(card: &[u8], n: usize) -> bool
 
 // How many records of a kind the first n blocks have.
 fn record_count(card: &[u8], n: usize, kind: u8) -> usize
-    requires { ⌜ n * 512 ≤ length (now card) ⌝ }
-    requires { ⌜ n ≤ 128 ⌝ }
+    requires { ⌜ n * blockSize ≤ length (now card) ⌝ }
+    requires { ⌜ n ≤ mostBlocks ⌝ }
     ensures { λ r. ⌜ (r ≡ recordCount kind (blocks n (now (card .entry)))) × (r ≤ 8388608) ⌝ }
 {
     let mut i: usize = 0;
     let mut sum: usize = 0;
     while i < n {
-        let a = i * 512;
-        let e = a + 512;
+        let a = i * card_block::BLOCK;
+        let e = a + card_block::BLOCK;
         let b = &card[a..e];
         if b[2] == kind {
             sum += ground::half_at(b, 3);
@@ -98,7 +102,7 @@ fn copy_octets(dst: &mut [u8], at: usize, src: &[u8], from: usize, n: usize)
 
 // Fills the front of dst with the words of the records of a kind in the first n blocks.
 fn fill_words(dst: &mut [u32], card: &[u8], n: usize, kind: u8)
-    requires { ⌜ n * 512 ≤ length (now card) ⌝ }
+    requires { ⌜ n * blockSize ≤ length (now card) ⌝ }
     requires { ⌜ CountsFit n (now card) ⌝ }
     requires { ⌜ length (gather words kind (blocks n (now card))) ≤ length (now dst) ⌝ }
     ensures { λ _. ⌜ now (dst .exit) ≡ filled (gather words kind (blocks n (now (card .entry)))) (now (dst .entry)) ⌝ }
@@ -106,12 +110,12 @@ fn fill_words(dst: &mut [u32], card: &[u8], n: usize, kind: u8)
     let mut i: usize = 0;
     let mut at: usize = 0;
     while i < n {
-        let a = i * 512;
-        let e = a + 512;
+        let a = i * card_block::BLOCK;
+        let e = a + card_block::BLOCK;
         let b = &card[a..e];
         if b[2] == kind {
-            let m = (card_block::records_end(b) - 5) / 4;
-            copy_words(dst, at, b, 5, m);
+            let m = (card_block::records_end(b) - card_block::HEAD) / 4;
+            copy_words(dst, at, b, card_block::HEAD, m);
             at += m;
         }
         i += 1;
@@ -120,7 +124,7 @@ fn fill_words(dst: &mut [u32], card: &[u8], n: usize, kind: u8)
 
 // Fills the front of dst with the octets of the records of a kind in the first n blocks.
 fn fill_octets(dst: &mut [u8], card: &[u8], n: usize, kind: u8)
-    requires { ⌜ n * 512 ≤ length (now card) ⌝ }
+    requires { ⌜ n * blockSize ≤ length (now card) ⌝ }
     requires { ⌜ CountsFit n (now card) ⌝ }
     requires { ⌜ length (gather octets kind (blocks n (now card))) ≤ length (now dst) ⌝ }
     ensures { λ _. ⌜ now (dst .exit) ≡ filled (gather octets kind (blocks n (now (card .entry)))) (now (dst .entry)) ⌝ }
@@ -128,12 +132,12 @@ fn fill_octets(dst: &mut [u8], card: &[u8], n: usize, kind: u8)
     let mut i: usize = 0;
     let mut at: usize = 0;
     while i < n {
-        let a = i * 512;
-        let e = a + 512;
+        let a = i * card_block::BLOCK;
+        let e = a + card_block::BLOCK;
         let b = &card[a..e];
         if b[2] == kind {
-            let m = card_block::records_end(b) - 5;
-            copy_octets(dst, at, b, 5, m);
+            let m = card_block::records_end(b) - card_block::HEAD;
+            copy_octets(dst, at, b, card_block::HEAD, m);
             at += m;
         }
         i += 1;
@@ -152,13 +156,13 @@ fn survey(card: &[u8], groups: usize, tracks: usize, segments: usize, text: usiz
     ensures { λ r. ⌜ saidOf r ≡ loadSaid (now (card .entry)) groups tracks segments text ⌝ }
 {
     let len = card.len();
-    if len % 512 != 0 {
+    if len % card_block::BLOCK != 0 {
         return refused(ground::BAD_CARD_LENGTH);
     }
-    if 65536 < len {
+    if MOST_CARD < len {
         return refused(ground::BAD_CARD_LENGTH);
     }
-    let n = len / 512;
+    let n = len / card_block::BLOCK;
     if !blocks_right(card, n) {
         return refused(ground::BAD_BLOCK);
     }
@@ -200,7 +204,7 @@ pub fn load(
     match v {
         Loaded::Refused(r) => Loaded::Refused(r),
         Loaded::Done(c) => {
-            let n = card.len() / 512;
+            let n = card.len() / card_block::BLOCK;
             fill_words(groups, card, n, 1);
             fill_words(tracks, card, n, 2);
             fill_words(segments, card, n, 3);

@@ -13,6 +13,7 @@ use Rattle.player_moves.specs.Clock.{staysBelow, advanced, activated}
 use Rattle.desk_state.specs.declared.Desk.{Desk}
 use Rattle.desk_state.specs.Desk.{startedDesk}
 use Rattle.desk_replies.specs.Replies.{lentRows, asked}
+use Rattle.player_values.specs.Values.{sourceOf}
 use Rattle.desk_notices.specs.Owed.{settled, noWriter}
 
 -- 200, 207: start takes no state; where it is refused, what start with no name would leave
@@ -25,7 +26,7 @@ startCall k name mask ccid =
 
 -- the player becomes q by a call of no client, and every client is told
 abbrev pub becoming : Tables → Desk → Bool → Player → Left Desk
-becoming k d quiet q = leaves (granted []) (settled (k .tracks) (k .text) (noWriter quiet) q d)
+becoming k d quiet q = leaves (granted []) (settled (sourceOf k) (noWriter quiet) q d)
 
 -- 207
 abbrev pub nameRows : List ℕ → List Row

@@ -5,6 +5,7 @@ ghost use Rattle.ground.specs.Refusals.{granted, leaves};
 ghost use Rattle.catalogue_tables.specs.Tables.{tables};
 ghost use Rattle.desk_notices.specs.Owed.{settled, noWriter};
 ghost use Rattle.desk_replies.specs.Replies.{leftBy};
+ghost use Rattle.player_values.specs.Values.{source};
 ghost use Rattle.desk_console.specs.Console.{startCall, nameCall, activateCall, deactivateCall, quietAdvance, advanceCall};
 
 // Start: a fresh player, and nobody connected.
@@ -42,7 +43,7 @@ fn becoming(
     q: player_state::Player,
     quiet: bool,
 ) -> desk_replies::Outcome
-    ensures { λ r. ⌜ leftBy r ≡ leaves (granted []) (settled (now (tracks .entry)) (now (text .entry)) (noWriter quiet) q d) ⌝ }
+    ensures { λ r. ⌜ leftBy r ≡ leaves (granted []) (settled (source (now (tracks .entry)) (now (text .entry))) (noWriter quiet) q d) ⌝ }
 {
     let cause = desk_notices::no_writer(quiet);
     let e = desk_notices::settle(tracks, text, d, q, cause);

@@ -10,7 +10,7 @@ use Rattle.ground.specs.Limits.{leastOutput}
 use Rattle.ground.specs.Refusals.{granted, Left, leaves, Row, row}
 use Rattle.catalogue_tables.specs.Tables.{Tables}
 use Rattle.desk_slots.specs.Characteristics.{readables, isIn}
-use Rattle.player_values.specs.Values.{valueOf}
+use Rattle.player_values.specs.Values.{sourceOf, valueOf}
 use Rattle.player_values.specs.Handing.{partFrom}
 use Rattle.desk_client.specs.declared.Client.{Client}
 use Rattle.desk_client.specs.Duties.{wasRead}
@@ -20,7 +20,7 @@ use Rattle.desk_replies.specs.Replies.{ofClient, ofCharacteristic, asked, calle
 
 -- the value that is read
 abbrev pub valueNow : Tables → Desk → ℕ → List ℕ
-valueNow k d characteristic = valueOf (k .tracks) (k .text) (d .player) characteristic
+valueNow k d characteristic = valueOf (sourceOf k) (d .player) characteristic
 
 -- 202, 203, 0x01, 0x02, 0x0F; 0x80, "read at offset above 0, and some call changed the value .. since the client's last accepted read of it at 0, or no
 -- such read since connecting"; 0x07, "offset above the length"

@@ -22,6 +22,7 @@ use Rattle.desk_client.specs.Duties.{resulted}
 use Rattle.desk_state.specs.declared.Desk.{Desk}
 use Rattle.desk_state.specs.Desk.{withClient}
 use Rattle.desk_notices.specs.Owed.{settled, byWriter}
+use Rattle.player_values.specs.Values.{sourceOf}
 use Rattle.desk_replies.specs.Replies.{ofClient, ofCharacteristic, asked, caller}
 
 -- the first octet: of 18 the opcode
@@ -54,7 +55,7 @@ numberOf value = pick (eqb (length value) 5) (wordAt value 1) 0
 
 -- the player becomes q by a client's write, and every client is told
 abbrev pub becomingBy : Tables → Desk → ℕ → ℕ → Player → Desk
-becomingBy k d who characteristic q = settled (k .tracks) (k .text) (byWriter who characteristic) q d
+becomingBy k d who characteristic q = settled (sourceOf k) (byWriter who characteristic) q d
 
 -- a control write: what the opcode comes to, and its result for the writer
 abbrev pub withResult : ℕ → ℕ → ℕ → Desk → Desk

@@ -34,6 +34,7 @@ use Rattle.desk_state.specs.declared.Desk.{Desk}
 use Rattle.desk_state.specs.Desk.{noClient, clientAt, clientsRule, deskRule, startedDesk, withClient}
 use Rattle.desk_state.proofs.Laws.{client-stands, turn-there, kept-client}
 use Rattle.desk_history.specs.Ledger.{Side, Ledger, nobody, opening, changing, noticing, becoming}
+use Rattle.player_values.specs.Values.{sourceOf}
 use Rattle.desk_history.proofs.Likeness.{Like, like-start, like-noted}
 
 pub record Agrees (L : Ledger) (d : Desk) : Type 0 where
@@ -93,9 +94,9 @@ map-length f j (c ∷ cs) = ap suc (map-length f (suc j) cs)
 
 module _ (k : Tables) (L : Ledger) (d : Desk) (agrees : Agrees L d) (cause : Player → Cause) (f : Player → Player) where
   abbrev tells : Player → ℕ → Client → Client
-  tells p who c = noted (dueTo (k .tracks) (k .text) p (f p) (cause p) who) (alteredOf (k .tracks) (k .text) p (f p)) c
+  tells p who c = noted (dueTo (sourceOf k) p (f p) (cause p) who) (alteredOf (sourceOf k) p (f p)) c
 
-  pub agree-becoming : Agrees (becoming k (cause (L .player)) (f (L .player)) L) (settled (k .tracks) (k .text) (cause (d .player)) (f (d .player)) d)
+  pub agree-becoming : Agrees (becoming k (cause (L .player)) (f (L .player)) L) (settled (sourceOf k) (cause (d .player)) (f (d .player)) d)
   unfolding settled
   agree-becoming =
       record {
@@ -110,11 +111,11 @@ module _ (k : Tables) (L : Ledger) (d : Desk) (agrees : Agrees L d) (cause : Pla
       }
 
 -- 18 never falls due by a change of values
-quiet-control : (k : Tables) (p q : Player) (cause : Cause) (who : ℕ) → has (dueTo (k .tracks) (k .text) p q cause who) controlSlot ≡ false
+quiet-control : (k : Tables) (p q : Player) (cause : Cause) (who : ℕ) → has (dueTo (sourceOf k) p q cause who) controlSlot ≡ false
 unfolding dueTo characteristicOf isIn
 quiet-control k p q cause who =
-    set-has (λ s. fallsDue (changed (k .tracks) (k .text) p q (characteristicOf s)) (trackChanged p q) (characteristicOf s) && not (spared cause who (characteristicOf s))) slotCount controlSlot (omega arith)
-    ∙ none (changed (k .tracks) (k .text) p q 18) (trackChanged p q) (not (spared cause who 18)) (changed-unread (k .tracks) (k .text) p q 18 refl)
+    set-has (λ s. fallsDue (changed (sourceOf k) p q (characteristicOf s)) (trackChanged p q) (characteristicOf s) && not (spared cause who (characteristicOf s))) slotCount controlSlot (omega arith)
+    ∙ none (changed (sourceOf k) p q 18) (trackChanged p q) (not (spared cause who 18)) (changed-unread (k .tracks) (k .text) p q 18 refl)
   where
     none : (a t s : Bool) → a ≡ false → ((a || (t && false)) && s) ≡ false
     none true t s e = ap (λ (b : Bool). b && s) e
@@ -132,13 +133,13 @@ told-stands c due altered quiet rule =
 
 module _ (k : Tables) (d : Desk) (stands : deskRule (k .groups) (k .tracks) d ≡ true) (long : length (d .clients) ≡ clientCount) where
   pub settled-stands : (cause : Cause) (q : Player) → playerRule (k .groups) (k .tracks) q ≡ true
-      → deskRule (k .groups) (k .tracks) (settled (k .tracks) (k .text) cause q d) ≡ true
+      → deskRule (k .groups) (k .tracks) (settled (sourceOf k) cause q d) ≡ true
   unfolding deskRule settled clientsRule
   settled-stands cause q right =
       and-both (and-both right (all-intro (λ i. clientRule (clientAt (mapFrom tells 0 (d .clients)) i)) clientCount each)) (lt-ltb _ _ (turn-there (k .groups) (k .tracks) d stands))
     where
       tells : ℕ → Client → Client
-      tells who c = noted (dueTo (k .tracks) (k .text) (d .player) q cause who) (alteredOf (k .tracks) (k .text) (d .player) q) c
+      tells who c = noted (dueTo (sourceOf k) (d .player) q cause who) (alteredOf (sourceOf k) (d .player) q) c
 
       each : (i : ℕ) → i < clientCount → clientRule (clientAt (mapFrom tells 0 (d .clients)) i) ≡ true
       each i h =

@@ -25,6 +25,7 @@ use Rattle.desk_client.specs.Setters.{withSlots}
 use Rattle.desk_client.specs.Queue.{queueOf, withoutOldest}
 use Rattle.desk_client.specs.Duties.{joined, dropped, noted, wasRead, resulted, served}
 use Rattle.desk_client.proofs.SlotBySlot.{dropped-queue, noted-owed, resulted-none, resulted-is, resulted-queue, served-value, served-result, served-queue}
+use Rattle.player_values.specs.Values.{sourceOf}
 use Rattle.desk_history.specs.Ledger.{Side, linked, nobody, noticing, joining, leaving, resulting, behind, serving}
 
 pub record Like (x : Side) (c : Client) : Type 0 where
@@ -100,7 +101,7 @@ module _ (x : Side) (c : Client) (like : Like x c) where
 
   -- what falls due by the players p and q
   pub like-noted : (k : Tables) (p q : Player) (cause : Cause) (who : ℕ)
-      → Like (noticing k p q cause who x) (noted (dueTo (k .tracks) (k .text) p q cause who) (alteredOf (k .tracks) (k .text) p q) c)
+      → Like (noticing k p q cause who x) (noted (dueTo (sourceOf k) p q cause who) (alteredOf (sourceOf k) p q) c)
   unfolding noted dueTo
   like-noted k p q cause who =
       record {
@@ -109,7 +110,7 @@ module _ (x : Side) (c : Client) (like : Like x c) where
         mtu = like .mtu;
         wants = like .wants;
         due = λ t h n.
-            noted-owed c (dueTo (k .tracks) (k .text) p q cause who) (alteredOf (k .tracks) (k .text) p q) t
+            noted-owed c (dueTo (sourceOf k) p q cause who) (alteredOf (sourceOf k) p q) t
             ∙ (λ i. like .due t h n i || (like .wants t h i && set-has (falls k p q cause who) slotCount t h i));
         waiting = like .waiting;
         last = like .last;
@@ -118,7 +119,7 @@ module _ (x : Side) (c : Client) (like : Like x c) where
     where
       falls : Tables → Player → Player → Cause → ℕ → ℕ → Bool
       falls k p q cause who s =
-          fallsDue (changed (k .tracks) (k .text) p q (characteristicOf s)) (trackChanged p q) (characteristicOf s) && not (spared cause who (characteristicOf s))
+          fallsDue (changed (sourceOf k) p q (characteristicOf s)) (trackChanged p q) (characteristicOf s) && not (spared cause who (characteristicOf s))
 
   pub like-read : (y : ℕ) → Like x (wasRead y c)
   unfolding wasRead

@@ -22,7 +22,7 @@ use Rattle.player_state.specs.Player.{renamed, deactivated, withOrder, withSpee
 use Rattle.player_moves.specs.Clock.{advanced, positioned, activated}
 use Rattle.desk_slots.specs.Slots.{clientCount, slotOf, characteristicOf}
 use Rattle.desk_slots.specs.Characteristics.{writables, isIn}
-use Rattle.player_values.specs.Values.{valueOf}
+use Rattle.player_values.specs.Values.{sourceOf, valueOf}
 use Rattle.desk_client.specs.declared.Entry.{Entry}
 use Rattle.desk_client.specs.Client.{controlSlot}
 use Rattle.desk_notices.specs.declared.Cause.{Cause}
@@ -166,7 +166,7 @@ module _ (k : Tables) (c : ℕ) where
       at : Dec (s ≡ controlSlot) → shown W ≡ pick (eqb controlSlot s) (octetsIn k (L .player) (L .side c) s ∷ []) [] ++ shown (pick (eqb s controlSlot) (behind W) W)
       at (yes e) =
           oldest-shown W (L .side c .mtu - 3) (omega arith) (f e)
-          ∙ (λ i. pick (sym (eq-eqb controlSlot s (sym e)) i) (firsts (L .side c .mtu - 3) (pick (sym (eq-eqb s controlSlot e) i) (oldest W) (valueOf (k .tracks) (k .text) (L .player) (characteristicOf s))) ∷ []) [] ++ shown (pick (sym (eq-eqb s controlSlot e) i) (behind W) W))
+          ∙ (λ i. pick (sym (eq-eqb controlSlot s (sym e)) i) (firsts (L .side c .mtu - 3) (pick (sym (eq-eqb s controlSlot e) i) (oldest W) (valueOf (sourceOf k) (L .player) (characteristicOf s))) ∷ []) [] ++ shown (pick (sym (eq-eqb s controlSlot e) i) (behind W) W))
       at (no n) =
           λ i. pick (sym (ne-eqb controlSlot s (λ e. n (sym e))) i) (octetsIn k (L .player) (L .side c) s ∷ []) [] ++ shown (pick (sym (ne-eqb s controlSlot n) i) (behind W) W)
 

@@ -37,6 +37,7 @@ use Rattle.desk_links.specs.Links.{connectRows, connectCall, disconnectCall, sl
 use Rattle.desk_console.specs.Console.{nameRows, nameCall, activateRows, activateCall, deactivateCall, quietAdvance, advanceCall}
 use Rattle.desk_history.specs.Ledger.{Side, Ledger, linked, nobody, changing, becoming, joining, leaving, mayConnect, asks, mayJoin}
 use Rattle.desk_history.proofs.Likeness.{Like, like-start, like-connected, like-joined, like-dropped}
+use Rattle.player_values.specs.Values.{sourceOf}
 use Rattle.desk_history.proofs.Agreement.{Agrees, agree-changing, agree-becoming, settled-stands, client-kept}
 
 -- ---- alike and standing
@@ -70,7 +71,7 @@ module _ (k : Tables) (right : catalogueRule k ≡ true) (L : Ledger) (d : Desk)
 
   -- the player is another, and every client is told
   pub ok-becoming : (cause : Player → Cause) (f : Player → Player) → playerRule (k .groups) (k .tracks) (f (d .player)) ≡ true
-      → Ok k (becoming k (cause (L .player)) (f (L .player)) L) (settled (k .tracks) (k .text) (cause (d .player)) (f (d .player)) d)
+      → Ok k (becoming k (cause (L .player)) (f (L .player)) L) (settled (sourceOf k) (cause (d .player)) (f (d .player)) d)
   ok-becoming cause f h =
       (agree-becoming k L d (ok .0) cause f, settled-stands k d (ok .1) (ok .0 .long) (cause (d .player)) (f (d .player)) h)
 

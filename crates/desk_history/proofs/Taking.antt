@@ -22,7 +22,7 @@ use Rattle.ground.proofs.Cases.{past, here, clash, le-or, true-or, and-both}
 use Rattle.catalogue_tables.specs.Tables.{Tables}
 use Rattle.catalogue_check.specs.Catalogue.{catalogueRule}
 use Rattle.player_state.specs.declared.Player.{Player}
-use Rattle.player_values.specs.Values.{valueOf}
+use Rattle.player_values.specs.Values.{sourceOf, valueOf}
 use Rattle.desk_slots.specs.Slots.{slotCount, clientCount, owing, slotOf, characteristicOf}
 use Rattle.desk_slots.specs.Round.{next}
 use Rattle.desk_slots.proofs.Bits.{has-zero, no-slot}
@@ -173,13 +173,13 @@ module _ (k : Tables) (right : catalogueRule k ≡ true) (L : Ledger) (d : Desk)
     first-result (suc n) (e ∷ rs) h m = refl
 
     present : presentOctets k (d .player) own (nextSlot own)
-        ≡ pick (eqb (slotIn x) controlSlot) (oldest (x .waiting)) (valueOf (k .tracks) (k .text) (L .player) (characteristicOf (slotIn x)))
+        ≡ pick (eqb (slotIn x) controlSlot) (oldest (x .waiting)) (valueOf (sourceOf k) (L .player) (characteristicOf (slotIn x)))
     present = ap (presentOctets k (d .player) own) (slot-same x own l r) ∙ at (ℕ-discrete (slotIn x) controlSlot)
       where
-        value : valueOf (k .tracks) (k .text) (d .player) (characteristicOf (slotIn x)) ≡ valueOf (k .tracks) (k .text) (L .player) (characteristicOf (slotIn x))
-        value = ap (λ (p : Player). valueOf (k .tracks) (k .text) p (characteristicOf (slotIn x))) (ok .0 .player)
+        value : valueOf (sourceOf k) (d .player) (characteristicOf (slotIn x)) ≡ valueOf (sourceOf k) (L .player) (characteristicOf (slotIn x))
+        value = ap (λ (p : Player). valueOf (sourceOf k) p (characteristicOf (slotIn x))) (ok .0 .player)
 
-        at : Dec (slotIn x ≡ controlSlot) → presentOctets k (d .player) own (slotIn x) ≡ pick (eqb (slotIn x) controlSlot) (oldest (x .waiting)) (valueOf (k .tracks) (k .text) (L .player) (characteristicOf (slotIn x)))
+        at : Dec (slotIn x ≡ controlSlot) → presentOctets k (d .player) own (slotIn x) ≡ pick (eqb (slotIn x) controlSlot) (oldest (x .waiting)) (valueOf (sourceOf k) (L .player) (characteristicOf (slotIn x)))
         at (yes e) =
             sym (here _ (eq-eqb (slotIn x) controlSlot e) refl)
             ∙ first-result (own .waiting) (own .results) (waits e) (omega (arith, l .long)) ∙ ap oldest (l .waiting)

@@ -12,7 +12,7 @@ use Rattle.ground.specs.Cases.{pick}
 use Rattle.catalogue_tables.specs.Tables.{Tables}
 use Rattle.player_state.specs.declared.Player.{Player}
 use Rattle.player_state.specs.Player.{startedPlayer}
-use Rattle.player_values.specs.Values.{valueOf}
+use Rattle.player_values.specs.Values.{sourceOf, valueOf}
 use Rattle.desk_slots.specs.Slots.{clientCount, slotOf, characteristicOf}
 use Rattle.desk_client.specs.declared.Entry.{Entry}
 use Rattle.desk_client.specs.Client.{controlSlot}
@@ -30,7 +30,7 @@ oldest [] = []
 oldest (e ∷ l) = resultOctets e
 
 abbrev pub octetsIn : Tables → Player → Side → ℕ → List ℕ
-octetsIn k p x s = firsts (x .mtu - 3) (pick (eqb s controlSlot) (oldest (x .waiting)) (valueOf (k .tracks) (k .text) p (characteristicOf s)))
+octetsIn k p x s = firsts (x .mtu - 3) (pick (eqb s controlSlot) (oldest (x .waiting)) (valueOf (sourceOf k) p (characteristicOf s)))
 
 abbrev pub answerIn : Tables → Ledger → ℕ → Handout
 answerIn k L who =

@@ -27,6 +27,7 @@ use Rattle.desk_replies.specs.Replies.{ofClient}
 use Rattle.desk_links.specs.Links.{connectRows, slotRows}
 use Rattle.desk_console.specs.Console.{nameRows, activateRows, quietAdvance}
 use Rattle.desk_exchange.specs.Write.{firstOctet, writeRows, numberOf}
+use Rattle.player_values.specs.Values.{sourceOf}
 use Rattle.desk_history.specs.Calls.{Call, setName, activate, deactivate, advance, connect, disconnect, subscribe, unsubscribe, read, write, take}
 
 -- of a client: whether it is connected, encrypted, its ATT_MTU, the slots that it is subscribed to, the values that are owed, the results that wait,
@@ -74,7 +75,7 @@ noticing k p q cause who x =
       due = λ s.
           x .due s
           || (x .wants s
-          && (fallsDue (changed (k .tracks) (k .text) p q (characteristicOf s)) (trackChanged p q) (characteristicOf s)
+          && (fallsDue (changed (sourceOf k) p q (characteristicOf s)) (trackChanged p q) (characteristicOf s)
           && not (spared cause who (characteristicOf s))));
       waiting = x .waiting;
       last = x .last;

@@ -13,7 +13,7 @@ use lib.Seq.{take-all}
 use Rattle.ground.specs.Cases.{pick, has}
 use Rattle.ground.proofs.Cases.{clash, and-left, and-right, and-both, le-or, true-or}
 use Rattle.player_state.specs.declared.Player.{Player}
-use Rattle.player_values.specs.Values.{wordOctets, valueOf}
+use Rattle.player_values.specs.Values.{source, wordOctets, valueOf}
 use Rattle.player_values.proofs.Laws.{word-apart, value-none}
 use Rattle.desk_slots.specs.Slots.{insert}
 use Rattle.desk_slots.proofs.Bits.{has-zero}
@@ -64,17 +64,17 @@ take-held s n m l e =
 
 module _ (tracks text : List ℕ) (p q : Player) (c : ℕ) where
   -- nothing is changed exactly where the two values are equal
-  pub changed-not : (changed tracks text p q c ≡ false) ↔ (valueOf tracks text p c ≡ valueOf tracks text q c)
+  pub changed-not : (changed (source tracks text) p q c ≡ false) ↔ (valueOf (source tracks text) p c ≡ valueOf (source tracks text) q c)
   unfolding changed
   changed-not = (
-    (λ e. same-eq (valueOf tracks text p c) (valueOf tracks text q c) (not-false (sameOctets (valueOf tracks text p c) (valueOf tracks text q c)) e)),
-    (λ e. ap not (eq-same (valueOf tracks text p c) (valueOf tracks text q c) e)),
+    (λ e. same-eq (valueOf (source tracks text) p c) (valueOf (source tracks text) q c) (not-false (sameOctets (valueOf (source tracks text) p c) (valueOf (source tracks text) q c)) e)),
+    (λ e. ap not (eq-same (valueOf (source tracks text) p c) (valueOf (source tracks text) q c) e)),
   )
 
 -- of a state with itself
-pub unchanged-self : (tracks text : List ℕ) (p : Player) (c : ℕ) → (changed tracks text p p c ≡ false) × (trackChanged p p ≡ false)
+pub unchanged-self : (tracks text : List ℕ) (p : Player) (c : ℕ) → (changed (source tracks text) p p c ≡ false) × (trackChanged p p ≡ false)
 unfolding changed trackChanged
-unchanged-self tracks text p c = (ap not (same-self (valueOf tracks text p c)), ap not (eq-eqb (trackNumber p) (trackNumber p) refl))
+unchanged-self tracks text p c = (ap not (same-self (valueOf (source tracks text) p c)), ap not (eq-eqb (trackNumber p) (trackNumber p) refl))
 
 -- what is in a list is none that is not
 out : (s : List ℕ) (c : ℕ) → isIn s c ≡ false → (k : ℕ) → isIn s k ≡ true → c ≡ k → ⊥
@@ -82,23 +82,23 @@ out s c e k h q = false≢true (sym e ∙ ap (isIn s) q ∙ h)
 
 -- what is not readable never changes, so that the word of changes tells every change
 module _ (tracks text : List ℕ) (p q : Player) (c : ℕ) where
-  pub changed-unread : isIn readables c ≡ false → changed tracks text p q c ≡ false
+  pub changed-unread : isIn readables c ≡ false → changed (source tracks text) p q c ≡ false
   unfolding isIn
   changed-unread e = changed-not tracks text p q c .1 (none p ∙ sym (none q))
     where
       no : (k : ℕ) → isIn readables k ≡ true → c ≡ k → ⊥
       no = out readables c e
 
-      none : (r : Player) → valueOf tracks text r c ≡ []
+      none : (r : Player) → valueOf (source tracks text) r c ≡ []
       none r =
           value-none tracks text r c (no 1 refl) (no 5 refl) (no 6 refl) (no 7 refl) (no 8 refl) (no 9 refl) (no 15 refl) (no 16 refl) (no 17 refl)
           (no 19 refl) (no 22 refl)
 
-  pub changed-readable : (isIn readables c && changed tracks text p q c) ≡ changed tracks text p q c
+  pub changed-readable : (isIn readables c && changed (source tracks text) p q c) ≡ changed (source tracks text) p q c
   changed-readable =
       ⊎-elim
-      (λ e. ap (λ (b : Bool). b && changed tracks text p q c) e)
-      (λ e. ap (λ (b : Bool). b && changed tracks text p q c) e ∙ sym (changed-unread e))
+      (λ e. ap (λ (b : Bool). b && changed (source tracks text) p q c) e)
+      (λ e. ap (λ (b : Bool). b && changed (source tracks text) p q c) e ∙ sym (changed-unread e))
       (true-or (isIn readables c))
 
 -- a word that has the bits of those numbers of s of which f holds
@@ -140,5 +140,5 @@ module _ (f : ℕ → Bool) where
       at c (no q) = rw (g .bits c, ne-eqb k c q)
 
 -- the word that gathers the readable characteristics that changed is the set of all that did
-pub gathered : (tracks text : List ℕ) (p q : Player) (w : ℕ) → w < 2 ^ 32 → Gathers (changed tracks text p q) readables w → w ≡ setOf 32 (changed tracks text p q)
-gathered tracks text p q w h g = set-is (changed tracks text p q) 32 w h (λ c l. g .bits c ∙ changed-readable tracks text p q c)
+pub gathered : (tracks text : List ℕ) (p q : Player) (w : ℕ) → w < 2 ^ 32 → Gathers (changed (source tracks text) p q) readables w → w ≡ setOf 32 (changed (source tracks text) p q)
+gathered tracks text p q w h g = set-is (changed (source tracks text) p q) 32 w h (λ c l. g .bits c ∙ changed-readable tracks text p q c)

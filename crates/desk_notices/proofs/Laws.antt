@@ -13,6 +13,7 @@ use Rattle.desk_slots.specs.Characteristics.{setOf}
 use Rattle.desk_slots.proofs.SetLaws.{set-has, set-same}
 use Rattle.desk_notices.specs.Changes.{changed, trackChanged}
 use Rattle.desk_notices.specs.declared.Cause.{Cause}
+use Rattle.player_values.specs.Values.{source}
 use Rattle.desk_notices.specs.Owed.{fallsDue, spared, falls, dueTo, alteredOf}
 
 -- each slot's characteristic has a bit in a word
@@ -21,8 +22,8 @@ unfolding characteristicOf allBelow
 slot-bit s h = ltb-true (characteristicOf s) 32 (all-at (λ (k : ℕ). ltb (characteristicOf k) 32) slotCount refl s h)
 
 pub due-is : (tracks text : List ℕ) (p q : Player) (cause : Cause) (who : ℕ)
-    → setOf slotCount (falls (alteredOf tracks text p q) (trackChanged p q) cause who) ≡ dueTo tracks text p q cause who
+    → setOf slotCount (falls (alteredOf (source tracks text) p q) (trackChanged p q) cause who) ≡ dueTo (source tracks text) p q cause who
 unfolding dueTo alteredOf
 due-is tracks text p q cause who =
     set-same slotCount _ _ (λ s h. ap (λ (b : Bool). fallsDue b (trackChanged p q) (characteristicOf s) && not (spared cause who (characteristicOf s)))
-    (set-has (changed tracks text p q) 32 (characteristicOf s) (slot-bit s h)))
+    (set-has (changed (source tracks text) p q) 32 (characteristicOf s) (slot-bit s h)))

@@ -7,7 +7,7 @@ use lib.Dec.{eqb}
 use Rattle.ground.specs.Cases.{pick}
 use Rattle.player_state.specs.declared.Player.{Player}
 use Rattle.player_state.specs.Player.{isActive}
-use Rattle.player_values.specs.Values.{valueOf}
+use Rattle.player_values.specs.Values.{Source, valueOf}
 
 -- two values, octet by octet
 unfoldable pub sameOctets : List ℕ → List ℕ → Bool
@@ -17,8 +17,8 @@ sameOctets (x ∷ s) [] = false
 sameOctets (x ∷ s) (y ∷ t) = eqb x y && sameOctets s t
 
 -- the value of a characteristic differs between the players p and q
-unfoldable pub changed : List ℕ → List ℕ → Player → Player → ℕ → Bool
-changed tracks text p q c = not (sameOctets (valueOf tracks text p c) (valueOf tracks text q c))
+unfoldable pub changed : Source → Player → Player → ℕ → Bool
+changed from p q c = not (sameOctets (valueOf from p c) (valueOf from q c))
 
 -- 0 where no track is current, else its number and one
 unfoldable pub trackNumber : Player → ℕ

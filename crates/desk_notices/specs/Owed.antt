@@ -7,6 +7,7 @@ use lib.Dec.{eqb}
 use Rattle.ground.specs.Cases.{has}
 use Rattle.ground.specs.Lists.{mapFrom}
 use Rattle.player_state.specs.declared.Player.{Player}
+use Rattle.player_values.specs.Values.{Source}
 use Rattle.desk_slots.specs.Slots.{slotCount, clientCount, characteristicOf}
 use Rattle.desk_slots.specs.Characteristics.{writerKnows, isIn, setOf}
 use Rattle.desk_client.specs.declared.Client.{Client}
@@ -26,10 +27,10 @@ spared cause who characteristic =
     || (eqb who (cause .writer) && eqb characteristic (cause .wrote) && isIn writerKnows characteristic)
 
 -- the slots that fall due to a client, when the call found the player p and left q
-unfoldable pub dueTo : List ℕ → List ℕ → Player → Player → Cause → ℕ → ℕ
-dueTo tracks text p q cause who =
+unfoldable pub dueTo : Source → Player → Player → Cause → ℕ → ℕ
+dueTo from p q cause who =
     setOf slotCount (λ s.
-    fallsDue (changed tracks text p q (characteristicOf s)) (trackChanged p q) (characteristicOf s) && not (spared cause who (characteristicOf s)))
+    fallsDue (changed from p q (characteristicOf s)) (trackChanged p q) (characteristicOf s) && not (spared cause who (characteristicOf s)))
 
 -- the same, by the word of the characteristics that changed
 abbrev pub falls : ℕ → Bool → Cause → ℕ → ℕ → Bool
@@ -41,15 +42,15 @@ abbrev pub noticed : ℕ → Bool → Cause → ℕ → Client → Client
 noticed altered track cause who c = noted (setOf slotCount (falls altered track cause who)) altered c
 
 -- "some call changed the value": for the changed marks, whoever is spared
-unfoldable pub alteredOf : List ℕ → List ℕ → Player → Player → ℕ
-alteredOf tracks text p q = setOf 32 (changed tracks text p q)
+unfoldable pub alteredOf : Source → Player → Player → ℕ
+alteredOf from p q = setOf 32 (changed from p q)
 
 -- the state after a call that leaves the player q: each client record is noted, the round stays
-unfoldable pub settled : List ℕ → List ℕ → Cause → Player → Desk → Desk
-settled tracks text cause q d =
+unfoldable pub settled : Source → Cause → Player → Desk → Desk
+settled from cause q d =
     record {
       player = q;
-      clients = mapFrom (λ who c. noted (dueTo tracks text (d .player) q cause who) (alteredOf tracks text (d .player) q) c) 0 (d .clients);
+      clients = mapFrom (λ who c. noted (dueTo from (d .player) q cause who) (alteredOf from (d .player) q) c) 0 (d .clients);
       turn = d .turn;
     }
 

@@ -5,7 +5,7 @@ ghost use mathlib.Core.Bool.{not};
 ghost use mathlib.Core.List.{_∷_, []};
 ghost use Prim.Native.Nat.{min, _<_};
 ghost use Rattle.player_state.specs.Player.{nameOf};
-ghost use Rattle.player_values.specs.Values.{wordOctets, titleValue, durationValue, positionValue};
+ghost use Rattle.player_values.specs.Values.{source, wordOctets, durationValue, positionValue};
 ghost use Rattle.desk_notices.specs.Changes.{sameOctets, changed, trackNumber, trackChanged};
 ghost use Rattle.desk_slots.specs.Characteristics.{setOf};
 ghost use Rattle.ground.specs.Lists.{mapFrom};
@@ -60,26 +60,16 @@ pub fn name_changed(p: player_state::Player, q: player_state::Player) -> bool
     !same(&a[0..m], &b[0..n])
 }
 
-// The title; empty while there is no current track.
-fn title_of<'a>(tracks: &[u32], text: &'a [u8], p: player_state::Player) -> &'a [u8]
-    ensures { λ r. ⌜ now r ≡ titleValue (now (tracks .entry)) (now (text .entry)) p ⌝ }
-{
-    if p.mode.media == 0 {
-        return &text[0..0];
-    }
-    catalogue_tables::title(tracks, text, p.place.track)
-}
-
 pub fn title_changed(
     tracks: &[u32],
     text: &[u8],
     p: player_state::Player,
     q: player_state::Player,
 ) -> bool
-    ensures { λ r. ⌜ r ≡ changed (now (tracks .entry)) (now (text .entry)) p q 5 ⌝ }
+    ensures { λ r. ⌜ r ≡ changed (source (now (tracks .entry)) (now (text .entry))) p q 5 ⌝ }
 {
-    let a = title_of(tracks, text, p);
-    let b = title_of(tracks, text, q);
+    let a = player_values::title_of(tracks, text, p);
+    let b = player_values::title_of(tracks, text, q);
     !same(a, b)
 }
 
@@ -106,7 +96,7 @@ pub fn changed_word(
     p: player_state::Player,
     q: player_state::Player,
 ) -> u32
-    ensures { λ r. ⌜ r ≡ setOf 32 (changed (now (tracks .entry)) (now (text .entry)) p q) ⌝ }
+    ensures { λ r. ⌜ r ≡ setOf 32 (changed (source (now (tracks .entry)) (now (text .entry))) p q) ⌝ }
 {
     let title = title_changed(tracks, text, p, q);
     let duration = duration_changed(tracks, p, q);
@@ -134,7 +124,7 @@ pub fn changed_word(
 fn track_number(p: player_state::Player) -> u64
     ensures { λ r. ⌜ r ≡ trackNumber p ⌝ }
 {
-    if p.mode.media == 0 {
+    if p.mode.media == player_state::INACTIVE {
         return 0;
     }
     (p.place.track.0 as u64) + 1
@@ -209,7 +199,7 @@ pub fn settle(
     q: player_state::Player,
     cause: Cause,
 ) -> desk_state::Desk
-    ensures { λ r. ⌜ r ≡ settled (now (tracks .entry)) (now (text .entry)) cause q d ⌝ }
+    ensures { λ r. ⌜ r ≡ settled (source (now (tracks .entry)) (now (text .entry))) cause q d ⌝ }
 {
     let p = d.player;
     let altered = changed_word(tracks, text, p, q);

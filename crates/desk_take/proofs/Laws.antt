@@ -12,7 +12,7 @@ use Rattle.desk_slots.specs.Slots.{clientCount, characteristicOf, owing}
 use Rattle.desk_slots.proofs.SlotLaws.{owing-pos}
 use Rattle.desk_slots.proofs.NextLaws.{next-hit}
 use Rattle.player_state.specs.declared.Player.{Player}
-use Rattle.player_values.specs.Values.{valueOf}
+use Rattle.player_values.specs.Values.{sourceOf, valueOf}
 use Rattle.desk_client.specs.declared.Client.{Client}
 use Rattle.desk_client.specs.Client.{controlSlot, blankEntry}
 use Rattle.desk_state.specs.declared.Desk.{Desk}
@@ -36,7 +36,7 @@ module _ (k : Tables) (p : Player) (c : Client) where
   result-handed e h =
       sym (take-all (c .mtu - 3) (resultOctets (getD (c .results) 0 blankEntry)) (omega arith)) ∙ ap (take (c .mtu - 3)) (here _ (eq-eqb (nextSlot c) controlSlot e) refl)
 
-  pub value-handed : (nextSlot c ≡ controlSlot → ⊥) → take (c .mtu - 3) (valueOf (k .tracks) (k .text) p (characteristicOf (nextSlot c))) ≡ handedOctets k p c
+  pub value-handed : (nextSlot c ≡ controlSlot → ⊥) → take (c .mtu - 3) (valueOf (sourceOf k) p (characteristicOf (nextSlot c))) ≡ handedOctets k p c
   unfolding handedOctets
   value-handed n = ap (take (c .mtu - 3)) (past _ (ne-eqb (nextSlot c) controlSlot n) refl)
 

@@ -15,7 +15,7 @@ use Rattle.desk_slots.specs.Slots.{slotCount, characteristicOf}
 use Rattle.desk_slots.specs.Round.{next}
 use Rattle.player_state.specs.declared.Player.{Player}
 use Rattle.player_check.specs.Standing.{playerRule}
-use Rattle.player_values.specs.Values.{valueOf}
+use Rattle.player_values.specs.Values.{sourceOf, valueOf}
 use Rattle.desk_client.specs.declared.Entry.{Entry}
 use Rattle.desk_client.specs.declared.Client.{Client}
 use Rattle.desk_client.specs.Client.{controlSlot, blankEntry, clientRule}
@@ -34,7 +34,7 @@ resultOctets e = e .opcode ∷ e .code ∷ []
 -- "the present value"; of 18 the oldest result
 abbrev pub presentOctets : Tables → Player → Client → ℕ → List ℕ
 presentOctets k p c s =
-    pick (eqb s controlSlot) (resultOctets (getD (c .results) 0 blankEntry)) (valueOf (k .tracks) (k .text) p (characteristicOf s))
+    pick (eqb s controlSlot) (resultOctets (getD (c .results) 0 blankEntry)) (valueOf (sourceOf k) p (characteristicOf s))
 
 -- "its first ATT_MTU − 3"
 unfoldable pub handedOctets : Tables → Player → Client → List ℕ

@@ -17,7 +17,7 @@ use Rattle.card_load.specs.Load.{fits, roomRule, loadRows, loadSaid}
 use Rattle.catalogue_cue.specs.Sheet.{cueSaid}
 use Rattle.catalogue_cue.proofs.Small.{cue-small}
 use Rattle.desk_slots.specs.Slots.{clientCount, slotTable, characteristicOf}
-use Rattle.player_values.specs.Values.{valueOf}
+use Rattle.player_values.specs.Values.{sourceOf, valueOf}
 use Rattle.player_values.proofs.Fits.{value-fits}
 use Rattle.ground.proofs.Rows.{NoneApplies}
 use Rattle.desk_client.specs.declared.Client.{Client}
@@ -121,9 +121,9 @@ module _ (k : Tables) (d : Desk) where
   unfolding characteristicOf
   few s = at-word slotTable s (lit≤ tt, (lit≤ tt, (lit≤ tt, (lit≤ tt, (lit≤ tt, (lit≤ tt, (lit≤ tt, (lit≤ tt, (lit≤ tt, (lit≤ tt, tt))))))))))
 
-  handed-short : (c : Client) → ((x : ℕ) → length (valueOf (k .tracks) (k .text) (d .player) x) ≤ 128) → length (handedOctets k (d .player) c) < 4294967296
+  handed-short : (c : Client) → ((x : ℕ) → length (valueOf (sourceOf k) (d .player) x) ≤ 128) → length (handedOctets k (d .player) c) < 4294967296
   unfolding handedOctets
-  handed-short c h = simp length-take (omega (arith, either (eqb (nextSlot c) controlSlot) (valueOf (k .tracks) (k .text) (d .player) (characteristicOf (nextSlot c))) (h (characteristicOf (nextSlot c)))))
+  handed-short c h = simp length-take (omega (arith, either (eqb (nextSlot c) controlSlot) (valueOf (sourceOf k) (d .player) (characteristicOf (nextSlot c))) (h (characteristicOf (nextSlot c)))))
     where
       either : (t : Bool) (value : List ℕ) → length value ≤ 128 → length (pick t (resultOctets (getD (c .results) 0 blankEntry)) value) ≤ 128
       either true value e = lit≤ tt
@@ -140,7 +140,7 @@ module _ (k : Tables) (d : Desk) where
       own : Client
       own = caller d (nextClient d)
 
-      served : (t : Bool) → leb clientCount (nextClient d) ≡ t → ((x : ℕ) → length (valueOf (k .tracks) (k .text) (d .player) x) ≤ 128)
+      served : (t : Bool) → leb clientCount (nextClient d) ≡ t → ((x : ℕ) → length (valueOf (sourceOf k) (d .player) x) ≤ 128)
           → AllWords (pick t (leaves (granted []) d) (leaves (granted (nextClient d ∷ handedValues k (d .player) own)) (withServed (nextClient d) (afterServing own) d)) .said .values)
       served true e h = tt
       served false e h = let there = leb-false clientCount (nextClient d) e in (omega (arith, there), (few (nextSlot own), (handed-short own h, tt)))

@@ -16,7 +16,7 @@ use Rattle.player_state.specs.declared.Player.{Player}
 use Rattle.player_state.specs.Player.{isActive}
 use Rattle.player_check.specs.Standing.{nameRule, playerRule}
 use Rattle.player_check.proofs.Laws.{name-kept}
-use Rattle.player_values.specs.Values.{titleValue, valueOf}
+use Rattle.player_values.specs.Values.{sourceOf, titleValue, valueOf}
 use Rattle.player_values.proofs.Laws.{value-short}
 use Rattle.player_moves.proofs.Choices.{active-above}
 use Rattle.player_moves.proofs.Ready.{shaped, track-there}
@@ -26,7 +26,7 @@ module _ (k : Tables) (right : Right k) (p : Player) (stands : playerRule (k .gr
   unfolding nameRule
   name-short = leb-true _ _ (and-left (leb (p .name .len) mostTitle) _ (name-kept (k .groups) (k .tracks) p stands))
 
-  pub title-fits : length (titleValue (k .tracks) (k .text) p) ≤ mostTitle
+  pub title-fits : length (titleValue (sourceOf k) p) ≤ mostTitle
   unfolding titleValue
   title-fits =
       ⊎-elim
@@ -34,5 +34,5 @@ module _ (k : Tables) (right : Right k) (p : Player) (stands : playerRule (k .gr
       (λ e. rw e (omega arith))
       (true-or (isActive p))
 
-  pub value-fits : (c : ℕ) → length (valueOf (k .tracks) (k .text) p c) ≤ mostTitle
+  pub value-fits : (c : ℕ) → length (valueOf (sourceOf k) p c) ≤ mostTitle
   value-fits c = value-short (k .tracks) (k .text) p name-short title-fits c

@@ -9,7 +9,7 @@ use lib.Dec.{eqb}
 use lib.ListN.{length, getD, length-take}
 use Rattle.ground.specs.Cases.{pick}
 use Rattle.player_state.specs.declared.Player.{Player}
-use Rattle.player_values.specs.Values.{wordOctets, titleValue, durationValue, positionValue, opcodesValue, valueOf}
+use Rattle.player_values.specs.Values.{source, wordOctets, titleValue, durationValue, positionValue, opcodesValue, valueOf}
 
 pub word-long : (w : ℕ) → length (wordOctets w) ≡ 4
 unfolding wordOctets
@@ -38,59 +38,59 @@ word-apart a b h k e =
     wider x = omega arith
 
 module _ (tracks text : List ℕ) (p : Player) where
-  pub long-4 : length (valueOf tracks text p 4) ≡ 0
+  pub long-4 : length (valueOf (source tracks text) p 4) ≡ 0
   unfolding valueOf
   long-4 = refl
 
-  pub long-6 : length (valueOf tracks text p 6) ≡ 4
+  pub long-6 : length (valueOf (source tracks text) p 6) ≡ 4
   unfolding valueOf durationValue
   long-6 = word-long _
 
-  pub long-7 : length (valueOf tracks text p 7) ≡ 4
+  pub long-7 : length (valueOf (source tracks text) p 7) ≡ 4
   unfolding valueOf positionValue
   long-7 = word-long _
 
-  pub long-8 : length (valueOf tracks text p 8) ≡ 1
+  pub long-8 : length (valueOf (source tracks text) p 8) ≡ 1
   unfolding valueOf
   long-8 = refl
 
-  pub long-9 : length (valueOf tracks text p 9) ≡ 1
+  pub long-9 : length (valueOf (source tracks text) p 9) ≡ 1
   unfolding valueOf
   long-9 = refl
 
-  pub long-15 : length (valueOf tracks text p 15) ≡ 1
+  pub long-15 : length (valueOf (source tracks text) p 15) ≡ 1
   unfolding valueOf
   long-15 = refl
 
-  pub long-16 : length (valueOf tracks text p 16) ≡ 2
+  pub long-16 : length (valueOf (source tracks text) p 16) ≡ 2
   unfolding valueOf
   long-16 = refl
 
-  pub long-17 : length (valueOf tracks text p 17) ≡ 1
+  pub long-17 : length (valueOf (source tracks text) p 17) ≡ 1
   unfolding valueOf
   long-17 = refl
 
-  pub long-18 : length (valueOf tracks text p 18) ≡ 0
+  pub long-18 : length (valueOf (source tracks text) p 18) ≡ 0
   unfolding valueOf
   long-18 = refl
 
-  pub long-19 : length (valueOf tracks text p 19) ≡ 4
+  pub long-19 : length (valueOf (source tracks text) p 19) ≡ 4
   unfolding valueOf opcodesValue
   long-19 = word-long _
 
-  pub long-22 : length (valueOf tracks text p 22) ≡ 1
+  pub long-22 : length (valueOf (source tracks text) p 22) ≡ 1
   unfolding valueOf
   long-22 = refl
 
   -- a number that is none of those with a value has none
   pub value-none : (c : ℕ) → (c ≡ 1 → ⊥) → (c ≡ 5 → ⊥) → (c ≡ 6 → ⊥) → (c ≡ 7 → ⊥) → (c ≡ 8 → ⊥) → (c ≡ 9 → ⊥) → (c ≡ 15 → ⊥) → (c ≡ 16 → ⊥) → (c ≡ 17 → ⊥)
-      → (c ≡ 19 → ⊥) → (c ≡ 22 → ⊥) → valueOf tracks text p c ≡ []
+      → (c ≡ 19 → ⊥) → (c ≡ 22 → ⊥) → valueOf (source tracks text) p c ≡ []
   unfolding valueOf
   value-none c a b d e f g h i j k l =
       rw (ne-eqb c 1 a, ne-eqb c 5 b, ne-eqb c 6 d, ne-eqb c 7 e, ne-eqb c 8 f, ne-eqb c 9 g, ne-eqb c 15 h, ne-eqb c 16 i, ne-eqb c 17 j, ne-eqb c 19 k, ne-eqb c 22 l)
 
   -- none has more than 128 octets, where the name and the title have not
-  pub value-short : p .name .len ≤ 128 → length (titleValue tracks text p) ≤ 128 → (c : ℕ) → length (valueOf tracks text p c) ≤ 128
+  pub value-short : p .name .len ≤ 128 → length (titleValue (source tracks text) p) ≤ 128 → (c : ℕ) → length (valueOf (source tracks text) p c) ≤ 128
   unfolding valueOf durationValue positionValue opcodesValue
   value-short n t c =
       short (eqb c 1) _ _ (simp length-take (omega arith))
@@ -114,34 +114,34 @@ module _ (tracks text : List ℕ) (p : Player) where
 
 -- what depends on the player alone
 module _ (tracks text tracks′ text′ : List ℕ) (p : Player) where
-  pub alone-1 : valueOf tracks text p 1 ≡ valueOf tracks′ text′ p 1
+  pub alone-1 : valueOf (source tracks text) p 1 ≡ valueOf (source tracks′ text′) p 1
   unfolding valueOf
   alone-1 = refl
 
-  pub alone-8 : valueOf tracks text p 8 ≡ valueOf tracks′ text′ p 8
+  pub alone-8 : valueOf (source tracks text) p 8 ≡ valueOf (source tracks′ text′) p 8
   unfolding valueOf
   alone-8 = refl
 
-  pub alone-9 : valueOf tracks text p 9 ≡ valueOf tracks′ text′ p 9
+  pub alone-9 : valueOf (source tracks text) p 9 ≡ valueOf (source tracks′ text′) p 9
   unfolding valueOf
   alone-9 = refl
 
-  pub alone-15 : valueOf tracks text p 15 ≡ valueOf tracks′ text′ p 15
+  pub alone-15 : valueOf (source tracks text) p 15 ≡ valueOf (source tracks′ text′) p 15
   unfolding valueOf
   alone-15 = refl
 
-  pub alone-16 : valueOf tracks text p 16 ≡ valueOf tracks′ text′ p 16
+  pub alone-16 : valueOf (source tracks text) p 16 ≡ valueOf (source tracks′ text′) p 16
   unfolding valueOf
   alone-16 = refl
 
-  pub alone-17 : valueOf tracks text p 17 ≡ valueOf tracks′ text′ p 17
+  pub alone-17 : valueOf (source tracks text) p 17 ≡ valueOf (source tracks′ text′) p 17
   unfolding valueOf
   alone-17 = refl
 
-  pub alone-19 : valueOf tracks text p 19 ≡ valueOf tracks′ text′ p 19
+  pub alone-19 : valueOf (source tracks text) p 19 ≡ valueOf (source tracks′ text′) p 19
   unfolding valueOf
   alone-19 = refl
 
-  pub alone-22 : valueOf tracks text p 22 ≡ valueOf tracks′ text′ p 22
+  pub alone-22 : valueOf (source tracks text) p 22 ≡ valueOf (source tracks′ text′) p 22
   unfolding valueOf
   alone-22 = refl

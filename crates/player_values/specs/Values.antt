@@ -5,17 +5,28 @@ use mathlib.Core.List.{List, [], _∷_}
 use Prim.Native.Nat.{ℕ, _/_, _%_, _^_}
 use lib.Dec.{eqb}
 use Rattle.ground.specs.Cases.{pick}
-use Rattle.catalogue_tables.specs.Tables.{durationOf, titleOf}
+use Rattle.catalogue_tables.specs.Tables.{Tables, durationOf, titleOf}
 use Rattle.player_state.specs.declared.Player.{Player}
 use Rattle.player_state.specs.Player.{isActive, nameOf}
+
+-- what the values are taken from besides the player: the tracks of a catalogue, and the text of their titles
+pub record Source : Type 0 where
+  pub tracks : List ℕ
+  pub text : List ℕ
+
+abbrev pub source : List ℕ → List ℕ → Source
+source tracks text = record { tracks = tracks; text = text }
+
+abbrev pub sourceOf : Tables → Source
+sourceOf k = source (k .tracks) (k .text)
 
 -- "Numbers are little endian."
 unfoldable pub wordOctets : ℕ → List ℕ
 wordOctets w = w % 256 ∷ w / 256 % 256 ∷ w / 65536 % 256 ∷ w / 16777216 % 256 ∷ []
 
 -- "title is then empty, duration and position read −1"
-unfoldable pub titleValue : List ℕ → List ℕ → Player → List ℕ
-titleValue tracks text p = pick (isActive p) (titleOf tracks text (p .place .track .0)) []
+unfoldable pub titleValue : Source → Player → List ℕ
+titleValue from p = pick (isActive p) (titleOf (from .tracks) (from .text) (p .place .track .0)) []
 
 abbrev pub orMinusOne : Player → ℕ → ℕ
 orMinusOne p x = pick (isActive p) x 0xFFFF_FFFF
@@ -31,11 +42,11 @@ unfoldable pub opcodesValue : Player → List ℕ
 opcodesValue p = wordOctets (p .offer .mask % 2 ^ 21)
 
 -- "Values: 1 and 5 text; 4 empty; 6, 7, 19 four octets; 16 two; the rest one." 18 has results and no value, and no other number has one.
-unfoldable pub valueOf : List ℕ → List ℕ → Player → ℕ → List ℕ
-valueOf tracks text p c =
+unfoldable pub valueOf : Source → Player → ℕ → List ℕ
+valueOf from p c =
     pick (eqb c 1) (nameOf p)
-    (pick (eqb c 5) (titleValue tracks text p)
-    (pick (eqb c 6) (durationValue tracks p)
+    (pick (eqb c 5) (titleValue from p)
+    (pick (eqb c 6) (durationValue (from .tracks) p)
     (pick (eqb c 7) (positionValue p)
     (pick (eqb c 8) (p .mode .speed ∷ [])
     (pick (eqb c 9) (p .mode .seeking ∷ [])

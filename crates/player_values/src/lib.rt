@@ -7,7 +7,7 @@ ghost use lib.ListN.{length, take};
 ghost use Rattle.ground.specs.Limits.{mostTitle};
 ghost use Rattle.ground.specs.Lists.{filled};
 ghost use Rattle.player_state.specs.Player.{nameOf};
-ghost use Rattle.player_values.specs.Values.{wordOctets, titleValue, durationValue, positionValue, valueOf};
+ghost use Rattle.player_values.specs.Values.{source, wordOctets, titleValue, durationValue, positionValue, valueOf};
 ghost use Rattle.player_values.specs.Handing.{heldOf, partFrom};
 
 // What the duration and the position read while there is no current track.
@@ -60,16 +60,23 @@ fn put_name(out: &mut [u8], p: player_state::Player) -> usize
     put(out, &octets[0..n])
 }
 
-fn put_title(out: &mut [u8], tracks: &[u32], text: &[u8], p: player_state::Player) -> usize
-    requires { ⌜ mostTitle ≤ length (now out) ⌝ }
-    requires { ⌜ length (titleValue (now tracks) (now text) p) ≤ mostTitle ⌝ }
-    ensures { λ r. ⌜ r ≡ length (titleValue (now (tracks .entry)) (now (text .entry)) p) ⌝ }
-    ensures { λ _. ⌜ now (out .exit) ≡ filled (titleValue (now (tracks .entry)) (now (text .entry)) p) (now (out .entry)) ⌝ }
+// The title; empty while there is no current track.
+pub fn title_of<'a>(tracks: &[u32], text: &'a [u8], p: player_state::Player) -> &'a [u8]
+    ensures { λ r. ⌜ now r ≡ titleValue (source (now (tracks .entry)) (now (text .entry))) p ⌝ }
 {
     if p.mode.media == player_state::INACTIVE {
-        return 0;
+        return &text[0..0];
     }
-    let title = catalogue_tables::title(tracks, text, p.place.track);
+    catalogue_tables::title(tracks, text, p.place.track)
+}
+
+fn put_title(out: &mut [u8], tracks: &[u32], text: &[u8], p: player_state::Player) -> usize
+    requires { ⌜ mostTitle ≤ length (now out) ⌝ }
+    requires { ⌜ length (titleValue (source (now tracks) (now text)) p) ≤ mostTitle ⌝ }
+    ensures { λ r. ⌜ r ≡ length (titleValue (source (now (tracks .entry)) (now (text .entry))) p) ⌝ }
+    ensures { λ _. ⌜ now (out .exit) ≡ filled (titleValue (source (now (tracks .entry)) (now (text .entry))) p) (now (out .entry)) ⌝ }
+{
+    let title = title_of(tracks, text, p);
     put(out, title)
 }
 
@@ -96,9 +103,9 @@ pub fn position_word(p: player_state::Player) -> u32
 pub fn value(out: &mut [u8], tracks: &[u32], text: &[u8], p: player_state::Player, c: u32) -> usize
     requires { ⌜ mostTitle ≤ length (now out) ⌝ }
     requires { ⌜ p .name .len ≤ mostTitle ⌝ }
-    requires { ⌜ length (titleValue (now tracks) (now text) p) ≤ mostTitle ⌝ }
-    ensures { λ r. ⌜ r ≡ length (valueOf (now (tracks .entry)) (now (text .entry)) p c) ⌝ }
-    ensures { λ _. ⌜ now (out .exit) ≡ filled (valueOf (now (tracks .entry)) (now (text .entry)) p c) (now (out .entry)) ⌝ }
+    requires { ⌜ length (titleValue (source (now tracks) (now text)) p) ≤ mostTitle ⌝ }
+    ensures { λ r. ⌜ r ≡ length (valueOf (source (now (tracks .entry)) (now (text .entry))) p c) ⌝ }
+    ensures { λ _. ⌜ now (out .exit) ≡ filled (valueOf (source (now (tracks .entry)) (now (text .entry))) p c) (now (out .entry)) ⌝ }
 {
     match c {
         1 => put_name(out, p),
@@ -128,8 +135,8 @@ pub struct Held {
 // The value of a characteristic.
 pub fn hold(tracks: &[u32], text: &[u8], p: player_state::Player, c: u32) -> Held
     requires { ⌜ p .name .len ≤ mostTitle ⌝ }
-    requires { ⌜ length (titleValue (now tracks) (now text) p) ≤ mostTitle ⌝ }
-    ensures { λ r. ⌜ r ≡ heldOf (valueOf (now (tracks .entry)) (now (text .entry)) p c) ⌝ }
+    requires { ⌜ length (titleValue (source (now tracks) (now text)) p) ≤ mostTitle ⌝ }
+    ensures { λ r. ⌜ r ≡ heldOf (valueOf (source (now (tracks .entry)) (now (text .entry))) p c) ⌝ }
 {
     let mut octets = [0u8; ground::MOST_TITLE];
     let n = value(&mut octets, tracks, text, p, c);

@@ -17,6 +17,7 @@ use Rattle.desk_replies.proofs.Gates.{refuses, none, right}
 use Rattle.desk_console.specs.Console.{activateCall}
 use borrow.Author.Needs.{needs}
 use Rattle.desk_console.proofs.activate.Statement.{statement}
+use Rattle.player_values.specs.Values.{source}
 use Rattle.desk_console.proofs.activate.Tie as tie
 
 abbrev lent : tie.Start → Tables
@@ -76,7 +77,7 @@ returns-3 c =
     let s = begun (t .before) in
     through (keeping (s .args .d)) (front s) (passed (t .before))
     (past _ (sym (ap not (t .group-right .ensures)) ∙ e .if2 .left)
-    (c .becoming .ensures ∙ ap (λ (q : Player). leaves (granted []) (settled (s .args .tracks .now) (s .args .text .now) (noWriter false) q (s .args .d))) (c .before .activate .ensures)))
+    (c .becoming .ensures ∙ ap (λ (q : Player). leaves (granted []) (settled (source (s .args .tracks .now) (s .args .text .now)) (noWriter false) q (s .args .d))) (c .before .activate .ensures)))
 
 pub activate-spec : {M : Type 1} → statement M
 activate-spec =

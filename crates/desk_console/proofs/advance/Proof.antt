@@ -13,6 +13,7 @@ use Rattle.desk_replies.proofs.Gates.{refuses, none, right, player}
 use Rattle.desk_console.specs.Console.{advanceCall}
 use borrow.Author.Needs.{needs}
 use Rattle.desk_console.proofs.advance.Statement.{statement}
+use Rattle.player_values.specs.Values.{source}
 use Rattle.desk_console.proofs.advance.Tie as tie
 
 abbrev lent : tie.Start → Tables
@@ -59,7 +60,7 @@ returns-2 c =
     let s = begun e in
     through (keeping (s .args .d)) (front s) (passed e)
     (c .becoming .ensures
-    ∙ (λ k. leaves (granted []) (settled (s .args .tracks .now) (s .args .text .now) (noWriter (c .before .is-quiet .ensures k)) (c .before .before .advance .ensures k) (s .args .d))))
+    ∙ (λ k. leaves (granted []) (settled (source (s .args .tracks .now) (s .args .text .now)) (noWriter (c .before .is-quiet .ensures k)) (c .before .before .advance .ensures k) (s .args .d))))
 
 pub advance-spec : {M : Type 1} → statement M
 advance-spec =

@@ -13,6 +13,7 @@ use Rattle.desk_replies.proofs.Gates.{refuses, none}
 use Rattle.desk_console.specs.Console.{deactivateCall}
 use borrow.Author.Needs.{needs}
 use Rattle.desk_console.proofs.deactivate.Statement.{statement}
+use Rattle.player_values.specs.Values.{source}
 use Rattle.desk_console.proofs.deactivate.Tie as tie
 
 abbrev lent : tie.Start → Tables
@@ -52,7 +53,7 @@ returns-2 c =
     let e = c .before .before .before in
     let s = begun e in
     through (keeping (s .args .d)) (front s) (passed e)
-    (c .becoming .ensures ∙ ap (λ (q : Player). leaves (granted []) (settled (s .args .tracks .now) (s .args .text .now) (noWriter false) q (s .args .d))) (c .before .deactivate .ensures))
+    (c .becoming .ensures ∙ ap (λ (q : Player). leaves (granted []) (settled (source (s .args .tracks .now) (s .args .text .now)) (noWriter false) q (s .args .d))) (c .before .deactivate .ensures))
 
 pub deactivate-spec : {M : Type 1} → statement M
 deactivate-spec =

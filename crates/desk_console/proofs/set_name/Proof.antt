@@ -16,6 +16,7 @@ use Rattle.desk_replies.proofs.Gates.{refuses, none}
 use Rattle.desk_console.specs.Console.{nameCall}
 use borrow.Author.Needs.{needs}
 use Rattle.desk_console.proofs.set_name.Statement.{statement}
+use Rattle.player_values.specs.Values.{source}
 use Rattle.desk_console.proofs.set_name.Tie as tie
 
 abbrev lent : tie.Start → Tables
@@ -71,7 +72,7 @@ returns-3 c =
     let s = begun (t .before) in
     through (keeping (s .args .d)) (front s) (passed (t .before))
     (past _ (sym (ap not (t .text-right .ensures)) ∙ e .if2 .left)
-    (c .becoming .ensures ∙ ap (λ (q : Player). leaves (granted []) (settled (s .args .tracks .now) (s .args .text .now) (noWriter false) q (s .args .d))) (c .before .set-name .ensures)))
+    (c .becoming .ensures ∙ ap (λ (q : Player). leaves (granted []) (settled (source (s .args .tracks .now) (s .args .text .now)) (noWriter false) q (s .args .d))) (c .before .set-name .ensures)))
 
 pub set-name-spec : {M : Type 1} → statement M
 set-name-spec =

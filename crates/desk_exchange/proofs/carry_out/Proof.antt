@@ -9,6 +9,7 @@ use Rattle.desk_notices.specs.Owed.{settled}
 use Rattle.desk_exchange.specs.Write.{written}
 use borrow.Author.Needs.{needs}
 use Rattle.desk_exchange.proofs.carry_out.Statement.{statement}
+use Rattle.player_values.specs.Values.{source}
 use Rattle.desk_exchange.proofs.carry_out.Tie as tie
 
 octet-or-zero-requires : tie.Need-octet-or-zero-requires
@@ -30,7 +31,7 @@ returns : tie.Need-returns
 unfolding written
 returns c =
     let s = c .before .before .before .before .before .before .before .before .before .before .before .before in
-    here _ (eq-eqb _ _ (c .before .before .before .before .if1 .taken)) (c .settle .ensures ∙ (λ k. settled (s .args .tracks .now) (s .args .text .now) (c .before .by-writer .ensures k) ((c .before .before .write-position .ensures ∙ ap (λ (n : ℕ). positioned (s .args .tracks .now) n (s .args .d .player)) (c .before .before .before .word-at .ensures)) k) (s .args .d)))
+    here _ (eq-eqb _ _ (c .before .before .before .before .if1 .taken)) (c .settle .ensures ∙ (λ k. settled (source (s .args .tracks .now) (s .args .text .now)) (c .before .by-writer .ensures k) ((c .before .before .write-position .ensures ∙ ap (λ (n : ℕ). positioned (s .args .tracks .now) n (s .args .d .player)) (c .before .before .before .word-at .ensures)) k) (s .args .d)))
 
 with-speed-requires : tie.Need-with-speed-requires
 with-speed-requires c κs = search needs
@@ -46,7 +47,7 @@ unfolding written
 returns-2 c =
     let s = c .before .before .before .before .before .before .before .before .before .before .before .before in
     let first = c .before .before .before .before .before .octet-or-zero .ensures in
-    past _ (ne-eqb _ _ (c .before .before .before .before .if1 .left)) (here _ (eq-eqb _ _ (c .before .before .before .if2 .taken)) (c .settle2 .ensures ∙ (λ k. settled (s .args .tracks .now) (s .args .text .now) (c .before .by-writer2 .ensures k) ((c .before .before .with-speed .ensures ∙ ap (λ (x : ℕ). withSpeed x (s .args .d .player)) first) k) (s .args .d))))
+    past _ (ne-eqb _ _ (c .before .before .before .before .if1 .left)) (here _ (eq-eqb _ _ (c .before .before .before .if2 .taken)) (c .settle2 .ensures ∙ (λ k. settled (source (s .args .tracks .now) (s .args .text .now)) (c .before .by-writer2 .ensures k) ((c .before .before .with-speed .ensures ∙ ap (λ (x : ℕ). withSpeed x (s .args .d .player)) first) k) (s .args .d))))
 
 with-order-requires : tie.Need-with-order-requires
 with-order-requires c κs = search needs
@@ -62,7 +63,7 @@ unfolding written
 returns-3 c =
     let s = c .before .before .before .before .before .before .before .before .before .before .before .before .before in
     let first = c .before .before .before .before .before .before .octet-or-zero .ensures in
-    past _ (ne-eqb _ _ (c .before .before .before .before .before .if1 .left)) (past _ (ne-eqb _ _ (c .before .before .before .before .if2 .left)) (here _ (eq-eqb _ _ (c .before .before .before .if3 .taken)) (c .settle3 .ensures ∙ (λ k. settled (s .args .tracks .now) (s .args .text .now) (c .before .by-writer3 .ensures k) ((c .before .before .with-order .ensures ∙ ap (λ (x : ℕ). withOrder x (s .args .d .player)) first) k) (s .args .d)))))
+    past _ (ne-eqb _ _ (c .before .before .before .before .before .if1 .left)) (past _ (ne-eqb _ _ (c .before .before .before .before .if2 .left)) (here _ (eq-eqb _ _ (c .before .before .before .if3 .taken)) (c .settle3 .ensures ∙ (λ k. settled (source (s .args .tracks .now) (s .args .text .now)) (c .before .by-writer3 .ensures k) ((c .before .before .with-order .ensures ∙ ap (λ (x : ℕ). withOrder x (s .args .d .player)) first) k) (s .args .d)))))
 
 control-requires : tie.Need-control-requires
 control-requires c κs = (let s = c .before .before .before .before .before .before .before .before .before .before in (s .pre .0, (s .pre .1 .0, s .pre .1 .1 .0)))

@@ -11,6 +11,7 @@ use Rattle.desk_notices.specs.Owed.{settled}
 use Rattle.desk_exchange.specs.Write.{controlWritten}
 use borrow.Author.Needs.{needs}
 use Rattle.desk_exchange.proofs.control.Statement.{statement}
+use Rattle.player_values.specs.Values.{source}
 use Rattle.desk_exchange.proofs.control.Tie as tie
 
 abbrev lent : tie.Start → Tables
@@ -48,7 +49,7 @@ returns c =
     let s = c .before .before .before .before .before .before .before .before .before .before .before .before .before .before .before in
     let opcode = c .before .before .before .before .before .before .before .before .octet-or-zero .ensures in
     let done = c .before .before .before .before .before .before .control .ensures ∙ (λ k. controlled (s .args .groups .now) (s .args .tracks .now) (s .args .segments .now) (opcode k) (c .before .before .before .before .before .before .before .number-of .ensures k) (s .args .d .player)) in
-    let told = c .before .before .before .settle .ensures ∙ (λ k. settled (s .args .tracks .now) (s .args .text .now) (c .before .before .before .before .by-writer .ensures k) (done k .player) (s .args .d)) in
+    let told = c .before .before .before .settle .ensures ∙ (λ k. settled (source (s .args .tracks .now) (s .args .text .now)) (c .before .before .before .before .by-writer .ensures k) (done k .player) (s .args .d)) in
     let note = c .before .note-result .ensures ∙ (λ k. resulted (opcode k) (done k .result) ((c .before .before .client-at .ensures ∙ ap (λ (e : Desk). clientAt (e .clients) (s .args .who)) told) k)) in
     c .with-client .ensures ∙ (λ k. withClient (s .args .who) (note k) (told k))
 

@@ -1,6 +1,6 @@
 -- `desk_notices::changed_word`: each bit is put for the characteristic whose value differs, from the last to the first.
 use mathlib.Core.Path.{refl}
-use Rattle.player_values.specs.Values.{valueOf, opcodesValue}
+use Rattle.player_values.specs.Values.{source, valueOf, opcodesValue}
 use Rattle.desk_notices.specs.Changes.{sameOctets, changed}
 use Rattle.desk_notices.proofs.Differing.{gathered, gathers-none, gathers-bit, gathers-past}
 use borrow.Author.Needs.{needs}
@@ -90,7 +90,7 @@ returns c =
     let duration = name .before in
     let title = duration .before in
     let a = title .before .before .before .args in
-    let f = changed (a .tracks .now) (a .text .now) (a .p) (a .q) in
+    let f = changed (source (a .tracks .now) (a .text .now)) (a .p) (a .q) in
     let g22 = gathers-bit f 22 (gathers-none f) (ccid .octets-differ5 .ensures) (w22 .with-if .ensures) in
     let g19 = gathers-bit f 19 g22 (opcodes .words-differ .ensures) (w19 .with-if2 .ensures) in
     let g17 = gathers-bit f 17 g19 (media .octets-differ4 .ensures) (w17 .with-if3 .ensures) in

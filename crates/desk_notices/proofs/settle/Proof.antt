@@ -6,6 +6,7 @@ use Rattle.desk_notices.specs.Owed.{noticed, dueTo, alteredOf, settled}
 use Rattle.desk_notices.proofs.Laws.{due-is}
 use borrow.Author.Needs.{needs}
 use Rattle.desk_notices.proofs.settle.Statement.{statement}
+use Rattle.player_values.specs.Values.{source}
 use Rattle.desk_notices.proofs.settle.Tie as tie
 
 changed-word-requires : tie.Need-changed-word-requires
@@ -26,10 +27,10 @@ returns c =
     let altered = w .changed-word .ensures in
     let track = t .track-changed .ensures in
     let p = a .d .player in
-    let records : c .note-all .result ≡ mapFrom (λ who r. noted (dueTo (a .tracks .now) (a .text .now) p (a .q) (a .cause) who) (alteredOf (a .tracks .now) (a .text .now) p (a .q)) r) 0 (a .d .clients) =
+    let records : c .note-all .result ≡ mapFrom (λ who r. noted (dueTo (source (a .tracks .now) (a .text .now)) p (a .q) (a .cause) who) (alteredOf (source (a .tracks .now) (a .text .now)) p (a .q)) r) 0 (a .d .clients) =
     c .note-all .ensures
     ∙ (λ k. mapFrom (noticed (altered k) (track k) (a .cause)) 0 (a .d .clients))
-    ∙ (λ k. mapFrom (λ who r. noted (due-is (a .tracks .now) (a .text .now) p (a .q) (a .cause) who k) (alteredOf (a .tracks .now) (a .text .now) p (a .q)) r) 0 (a .d .clients)) in
+    ∙ (λ k. mapFrom (λ who r. noted (due-is (a .tracks .now) (a .text .now) p (a .q) (a .cause) who k) (alteredOf (source (a .tracks .now) (a .text .now)) p (a .q)) r) 0 (a .d .clients)) in
     λ k. record { player = a .q; clients = records k; turn = a .d .turn }
 
 pub settle-spec : {M : Type 1} → statement M

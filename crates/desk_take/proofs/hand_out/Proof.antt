@@ -9,7 +9,7 @@ use Rattle.ground.specs.Limits.{mostTitle}
 use Rattle.ground.specs.Lists.{filled}
 use Rattle.catalogue_tables.specs.Tables.{Tables, tables}
 use Rattle.desk_slots.specs.Slots.{characteristicOf}
-use Rattle.player_values.specs.Values.{valueOf}
+use Rattle.player_values.specs.Values.{source, valueOf}
 use Rattle.player_values.specs.declared.Held.{Held}
 use Rattle.player_values.specs.Handing.{partFrom}
 use Rattle.player_values.proofs.Fits.{name-short, title-fits, value-fits}
@@ -105,10 +105,10 @@ returns-2 c =
     let s = v .before .before .before .before .before .before .before .before in
     let hold = c .before .before .before .before .before .before .hold .ensures in
     let most = c .before .before .before .before .wide-word .ensures .0 in
-    let value = valueOf (s .args .tracks .now) (s .args .text .now) (s .args .p) (v .before .characteristic-of .result) in
+    let value = valueOf (source (s .args .tracks .now) (s .args .text .now)) (s .args .p) (v .before .characteristic-of .result) in
     let octets : partFrom 0 (c .before .before .before .before .wide-word .result) (take (c .before .before .before .before .before .before .hold .result .len) (c .before .before .before .before .before .before .hold .result .octets)) ≡ handedOctets (lent s) (s .args .p) (s .args .c) =
     (λ k. partFrom 0 (most k) (take (hold k .len) (hold k .octets)))
-    ∙ ap (take (s .args .c .mtu - 3)) (take-append-seam value (drop (length value) (replicate mostTitle 0)) ∙ ap (valueOf (s .args .tracks .now) (s .args .text .now) (s .args .p)) (number v))
+    ∙ ap (take (s .args .c .mtu - 3)) (take-append-seam value (drop (length value) (replicate mostTitle 0)) ∙ ap (valueOf (source (s .args .tracks .now) (s .args .text .now)) (s .args .p)) (number v))
     ∙ value-handed (lent s) (s .args .p) (s .args .c) (λ e. c .before .before .before .before .before .before .before .if1 .left (slot v ∙ e)) in
     let hand = c .before .before .hand in (
       said v (hand .result) (hand .ensures .0 ∙ ap length octets),

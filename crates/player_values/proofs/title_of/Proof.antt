@@ -1,10 +1,10 @@
--- `desk_notices::title_of`: nothing while Inactive, else the current track's title.
+-- `player_values::title_of`: nothing while Inactive, else the current track's title.
 use mathlib.Core.Path.{refl}
 use borrow.Author.Tests.{eq-eqb, ne-eqb}
 use Rattle.player_values.specs.Values.{titleValue}
 use borrow.Author.Needs.{needs}
-use Rattle.desk_notices.proofs.title_of.Statement.{statement}
-use Rattle.desk_notices.proofs.title_of.Tie as tie
+use Rattle.player_values.proofs.title_of.Statement.{statement}
+use Rattle.player_values.proofs.title_of.Tie as tie
 
 sub-result : tie.Need-sub-result
 sub-result c = search needs
