@@ -1,4 +1,4 @@
--- What becomes of a record keeps the clients' part of 201. Assumes nothing.
+-- What becomes of an account keeps the clients' part of 201. Assumes nothing.
 use mathlib.Core.Path.{_≡_, refl, sym, ap, _∙_, subst}
 use mathlib.Core.Bool.{Bool, true, false, not, _&&_, _||_, or-false, and-false}
 use mathlib.Core.Logic.{_⊎_, inl, inr, ⊎-elim}
@@ -21,9 +21,10 @@ use Rattle.desk_slots.proofs.Bits.{has-and, ext}
 use Rattle.desk_slots.proofs.SetLaws.{below, set-lt, set-has, in-below}
 use Rattle.desk_slots.proofs.SlotLaws.{has-insert, has-remove, has-minus, insert-lt, remove-lt, union-lt, inter-lt, minus-lt, insert-same, remove-same, remove-other}
 use Rattle.desk_client.specs.declared.Entry.{Entry}
+use Rattle.desk_client.specs.declared.Account.{Account}
 use Rattle.desk_client.specs.declared.Client.{Client}
 use Rattle.desk_client.specs.Client.{controlSlot, mostResults, onlyReadable, blankEntry, codesRight}
-use Rattle.desk_client.specs.Setters.{withSlots}
+use Rattle.desk_client.specs.Setters.{withSlots, withAccount}
 use Rattle.desk_client.specs.Queue.{withoutOldest}
 use Rattle.desk_client.specs.Duties.{joined, dropped, noted, wasRead, resulted, served}
 use Rattle.desk_client.proofs.Rule.{Sound, Blank}
@@ -93,215 +94,187 @@ readable-more w x e h =
     either true b k = inl refl
     either false b k = inr k
 
-module _ (c : Client) (sound : Sound c) where
-  pub kept-joined : (s : ℕ) → s < slotCount → c .encrypted ≡ true → Sound (joined s c)
+module _ (a : Account) (sound : Sound a) where
+  pub kept-joined : (s : ℕ) → s < slotCount → Sound (joined s a)
   unfolding joined
-  kept-joined s h safe =
+  kept-joined s h =
       record {
-        mtu-from = sound .mtu-from;
-        mtu-to = sound .mtu-to;
-        subscribed-slots = insert-lt slotCount (c .subscribed) s (sound .subscribed-slots) h;
+        subscribed-slots = insert-lt slotCount (a .subscribed) s (sound .subscribed-slots) h;
         owed-slots = sound .owed-slots;
         readable = sound .readable;
-        covered = λ t e. has-insert (c .subscribed) s t ∙ or-left (has (c .subscribed) t) (eqb s t) (sound .covered t e);
+        covered = λ t e. has-insert (a .subscribed) s t ∙ or-left (has (a .subscribed) t) (eqb s t) (sound .covered t e);
         waits = sound .waits;
         few = sound .few;
         codes = sound .codes;
-        marked = sound .marked;
-        safe = ap (λ (b : Bool). b || eqb (insert (c .subscribed) s) 0) safe;
       }
 
   -- unsubscribing from 18 leaves no result, from another slot as many as there were
-  pub kept-dropped : (s : ℕ) → s < slotCount → c .encrypted ≡ true → Sound (dropped s c)
+  pub kept-dropped : (s : ℕ) → Sound (dropped s a)
   unfolding dropped codesRight allBelow
-  kept-dropped s h safe =
+  kept-dropped s =
       record {
-        mtu-from = sound .mtu-from;
-        mtu-to = sound .mtu-to;
-        subscribed-slots = remove-lt slotCount (c .subscribed) s (sound .subscribed-slots);
-        owed-slots = remove-lt slotCount (c .owed) s (sound .owed-slots);
+        subscribed-slots = remove-lt slotCount (a .subscribed) s (sound .subscribed-slots);
+        owed-slots = remove-lt slotCount (a .owed) s (sound .owed-slots);
         readable = sound .readable;
         covered = λ t e.
-            let k = cut (has (c .owed) t) (eqb s t) (sym (has-remove (c .owed) s t) ∙ e) in
-            has-remove (c .subscribed) s t ∙ keep (has (c .subscribed) t) (eqb s t) (sound .covered t (k .0)) (k .1);
+            let k = cut (has (a .owed) t) (eqb s t) (sym (has-remove (a .owed) s t) ∙ e) in
+            has-remove (a .subscribed) s t ∙ keep (has (a .subscribed) t) (eqb s t) (sound .covered t (k .0)) (k .1);
         waits = waits (ℕ-discrete s controlSlot);
         few = few (eqb s controlSlot);
         codes = codes (eqb s controlSlot);
-        marked = sound .marked;
-        safe = ap (λ (b : Bool). b || eqb (remove (c .subscribed) s) 0) safe;
       }
     where
-      waits : Dec (s ≡ controlSlot) → has (remove (c .owed) s) controlSlot ≡ ltb 0 (pick (eqb s controlSlot) 0 (c .waiting))
-      waits (yes e) = ap (λ (x : ℕ). has (remove (c .owed) x) controlSlot) e ∙ remove-same (c .owed) controlSlot ∙ sym (ap (λ (b : Bool). ltb 0 (pick b 0 (c .waiting))) (eq-eqb s controlSlot e))
-      waits (no n) = remove-other (c .owed) s controlSlot n ∙ sound .waits ∙ sym (ap (λ (b : Bool). ltb 0 (pick b 0 (c .waiting))) (ne-eqb s controlSlot n))
+      waits : Dec (s ≡ controlSlot) → has (remove (a .owed) s) controlSlot ≡ ltb 0 (pick (eqb s controlSlot) 0 (a .waiting))
+      waits (yes e) = ap (λ (x : ℕ). has (remove (a .owed) x) controlSlot) e ∙ remove-same (a .owed) controlSlot ∙ sym (ap (λ (b : Bool). ltb 0 (pick b 0 (a .waiting))) (eq-eqb s controlSlot e))
+      waits (no n) = remove-other (a .owed) s controlSlot n ∙ sound .waits ∙ sym (ap (λ (b : Bool). ltb 0 (pick b 0 (a .waiting))) (ne-eqb s controlSlot n))
 
-      few : (t : Bool) → pick t 0 (c .waiting) ≤ mostResults
+      few : (t : Bool) → pick t 0 (a .waiting) ≤ mostResults
       few true = omega arith
       few false = sound .few
 
-      codes : (t : Bool) → codesRight (pick t 0 (c .waiting)) (c .results) ≡ true
+      codes : (t : Bool) → codesRight (pick t 0 (a .waiting)) (a .results) ≡ true
       codes true = refl
       codes false = sound .codes
 
   -- what fell due has nothing of 18
-  pub kept-noted : (due altered : ℕ) → has due controlSlot ≡ false → Sound (noted due altered c)
+  pub kept-noted : (due altered : ℕ) → has due controlSlot ≡ false → Sound (noted due altered a)
   unfolding noted
   kept-noted due altered none =
       record {
-        mtu-from = sound .mtu-from;
-        mtu-to = sound .mtu-to;
         subscribed-slots = sound .subscribed-slots;
-        owed-slots = union-lt slotCount (c .owed) (inter (c .subscribed) due) (sound .owed-slots) (inter-lt slotCount (c .subscribed) due (sound .subscribed-slots));
+        owed-slots = union-lt slotCount (a .owed) (inter (a .subscribed) due) (sound .owed-slots) (inter-lt slotCount (a .subscribed) due (sound .subscribed-slots));
         readable = fewer (sound .readable);
-        covered = λ t e. noted-covered (has (c .owed) t) (has (c .subscribed) t) (has due t) (sound .covered t) (sym (noted-owed c due altered t) ∙ e);
-        waits = noted-owed c due altered controlSlot ∙ ap (λ (b : Bool). has (c .owed) controlSlot || (has (c .subscribed) controlSlot && b)) none ∙ same ∙ sound .waits;
+        covered = λ t e. noted-covered (has (a .owed) t) (has (a .subscribed) t) (has due t) (sound .covered t) (sym (noted-owed a due altered t) ∙ e);
+        waits = noted-owed a due altered controlSlot ∙ ap (λ (b : Bool). has (a .owed) controlSlot || (has (a .subscribed) controlSlot && b)) none ∙ same ∙ sound .waits;
         few = sound .few;
         codes = sound .codes;
-        marked = sound .marked;
-        safe = sound .safe;
       }
     where
-      same : (has (c .owed) controlSlot || (has (c .subscribed) controlSlot && false)) ≡ has (c .owed) controlSlot
-      same = ap (λ (b : Bool). has (c .owed) controlSlot || b) (and-false (has (c .subscribed) controlSlot)) ∙ or-false (has (c .owed) controlSlot)
+      same : (has (a .owed) controlSlot || (has (a .subscribed) controlSlot && false)) ≡ has (a .owed) controlSlot
+      same = ap (λ (b : Bool). has (a .owed) controlSlot || b) (and-false (has (a .subscribed) controlSlot)) ∙ or-false (has (a .owed) controlSlot)
 
-      fewer : onlyReadable (c .fresh) ≡ true → onlyReadable (minus (c .fresh) altered) ≡ true
-      fewer = readable-less (c .fresh) altered
+      fewer : onlyReadable (a .fresh) ≡ true → onlyReadable (minus (a .fresh) altered) ≡ true
+      fewer = readable-less (a .fresh) altered
 
-  pub kept-read : (x : ℕ) → isIn readables x ≡ true → Sound (wasRead x c)
+  pub kept-read : (x : ℕ) → isIn readables x ≡ true → Sound (wasRead x a)
   unfolding wasRead
   kept-read x h =
       record {
-        mtu-from = sound .mtu-from;
-        mtu-to = sound .mtu-to;
         subscribed-slots = sound .subscribed-slots;
         owed-slots = sound .owed-slots;
-        readable = readable-more (c .fresh) x (sound .readable) h;
+        readable = readable-more (a .fresh) x (sound .readable) h;
         covered = sound .covered;
         waits = sound .waits;
         few = sound .few;
         codes = sound .codes;
-        marked = sound .marked;
-        safe = sound .safe;
       }
 
   -- a result of 1 to 4 behind those that wait
-  pub kept-resulted : (opcode code : ℕ) → length (c .results) ≡ mostResults → c .waiting < mostResults → within 1 4 code ≡ true → Sound (resulted opcode code c)
+  pub kept-resulted : (opcode code : ℕ) → length (a .results) ≡ mostResults → a .waiting < mostResults → within 1 4 code ≡ true → Sound (resulted opcode code a)
   kept-resulted opcode code long room right =
       ⊎-elim
-      (λ e. subst Sound (sym (resulted-is c opcode code e room)) (with-one e))
-      (λ e. subst Sound (sym (resulted-none c opcode code e)) sound)
-      (true-or (has (c .subscribed) controlSlot))
+      (λ e. subst Sound (sym (resulted-is a opcode code e room)) (with-one e))
+      (λ e. subst Sound (sym (resulted-none a opcode code e)) sound)
+      (true-or (has (a .subscribed) controlSlot))
     where
       entry : Entry
       entry = record { opcode = opcode; code = code }
 
-      each : (i : ℕ) → i < c .waiting + 1 → within 1 4 (getD (set (c .results) (c .waiting) entry) i blankEntry .code) ≡ true
+      each : (i : ℕ) → i < a .waiting + 1 → within 1 4 (getD (set (a .results) (a .waiting) entry) i blankEntry .code) ≡ true
       each i h =
-          elim (ℕ-discrete i (c .waiting)) [
+          elim (ℕ-discrete i (a .waiting)) [
             | yes e ↦
-                ap (λ (n : ℕ). within 1 4 (getD (set (c .results) (c .waiting) entry) n blankEntry .code)) e
-                ∙ ap (λ (x : Entry). within 1 4 (x .code)) (getD-set-same (c .results) (c .waiting) entry blankEntry (omega arith)) ∙ right
+                ap (λ (n : ℕ). within 1 4 (getD (set (a .results) (a .waiting) entry) n blankEntry .code)) e
+                ∙ ap (λ (x : Entry). within 1 4 (x .code)) (getD-set-same (a .results) (a .waiting) entry blankEntry (omega arith)) ∙ right
             | no n ↦
-                ap (λ (x : Entry). within 1 4 (x .code)) (getD-set-other (c .results) (c .waiting) i entry blankEntry n)
-                ∙ all-at (λ (j : ℕ). within 1 4 (getD (c .results) j blankEntry .code)) (c .waiting) (sound .codes) i (omega arith)
+                ap (λ (x : Entry). within 1 4 (x .code)) (getD-set-other (a .results) (a .waiting) i entry blankEntry n)
+                ∙ all-at (λ (j : ℕ). within 1 4 (getD (a .results) j blankEntry .code)) (a .waiting) (sound .codes) i (omega arith)
           ]
 
-      with-one : has (c .subscribed) controlSlot ≡ true
-          → Sound (withSlots (c .subscribed) (insert (c .owed) controlSlot) (c .mark) (c .waiting + 1) (set (c .results) (c .waiting) entry) c)
+      with-one : has (a .subscribed) controlSlot ≡ true
+          → Sound (withSlots (a .subscribed) (insert (a .owed) controlSlot) (a .waiting + 1) (set (a .results) (a .waiting) entry) a)
       with-one wants =
           record {
-            mtu-from = sound .mtu-from;
-            mtu-to = sound .mtu-to;
             subscribed-slots = sound .subscribed-slots;
-            owed-slots = insert-lt slotCount (c .owed) controlSlot (sound .owed-slots) (omega arith);
+            owed-slots = insert-lt slotCount (a .owed) controlSlot (sound .owed-slots) (omega arith);
             readable = sound .readable;
             covered = λ t e. ⊎-elim
-                (λ (a : has (c .owed) t ≡ true). sound .covered t a)
-                (λ (a : has (c .owed) t ≡ false). ap (has (c .subscribed)) (sym (eqb-true controlSlot t (sym (ap (λ (b : Bool). b || eqb controlSlot t) a) ∙ sym (has-insert (c .owed) controlSlot t) ∙ e))) ∙ wants)
-                (true-or (has (c .owed) t));
-            waits = insert-same (c .owed) controlSlot ∙ sym (lt-ltb 0 (c .waiting + 1) (omega arith));
+                (λ (q : has (a .owed) t ≡ true). sound .covered t q)
+                (λ (q : has (a .owed) t ≡ false). ap (has (a .subscribed)) (sym (eqb-true controlSlot t (sym (ap (λ (b : Bool). b || eqb controlSlot t) q) ∙ sym (has-insert (a .owed) controlSlot t) ∙ e))) ∙ wants)
+                (true-or (has (a .owed) t));
+            waits = insert-same (a .owed) controlSlot ∙ sym (lt-ltb 0 (a .waiting + 1) (omega arith));
             few = omega arith;
-            codes = all-intro (λ (j : ℕ). within 1 4 (getD (set (c .results) (c .waiting) entry) j blankEntry .code)) (c .waiting + 1) each;
-            marked = sound .marked;
-            safe = sound .safe;
+            codes = all-intro (λ (j : ℕ). within 1 4 (getD (set (a .results) (a .waiting) entry) j blankEntry .code)) (a .waiting + 1) each;
           }
 
   -- a slot that is owed was served
-  pub kept-served : (s : ℕ) → length (c .results) ≡ mostResults → s < slotCount → has (c .owed) s ≡ true → Sound (served s c)
-  kept-served s long h owes = at (ℕ-discrete s controlSlot)
+  pub kept-served : (s : ℕ) → length (a .results) ≡ mostResults → has (a .owed) s ≡ true → Sound (served s a)
+  kept-served s long owes = at (ℕ-discrete s controlSlot)
     where
-      value : (s ≡ controlSlot → ⊥) → Sound (withSlots (c .subscribed) (remove (c .owed) s) s (c .waiting) (c .results) c)
+      value : (s ≡ controlSlot → ⊥) → Sound (withSlots (a .subscribed) (remove (a .owed) s) (a .waiting) (a .results) a)
       value n =
           record {
-            mtu-from = sound .mtu-from;
-            mtu-to = sound .mtu-to;
             subscribed-slots = sound .subscribed-slots;
-            owed-slots = remove-lt slotCount (c .owed) s (sound .owed-slots);
+            owed-slots = remove-lt slotCount (a .owed) s (sound .owed-slots);
             readable = sound .readable;
-            covered = λ t e. sound .covered t (cut (has (c .owed) t) (eqb s t) (sym (has-remove (c .owed) s t) ∙ e) .0);
-            waits = remove-other (c .owed) s controlSlot n ∙ sound .waits;
+            covered = λ t e. sound .covered t (cut (has (a .owed) t) (eqb s t) (sym (has-remove (a .owed) s t) ∙ e) .0);
+            waits = remove-other (a .owed) s controlSlot n ∙ sound .waits;
             few = sound .few;
             codes = sound .codes;
-            marked = h;
-            safe = sound .safe;
           }
 
-      some : has (c .owed) controlSlot ≡ true → 0 < c .waiting
-      some e = ltb-true 0 (c .waiting) (sym (sound .waits) ∙ e)
+      some : has (a .owed) controlSlot ≡ true → 0 < a .waiting
+      some e = ltb-true 0 (a .waiting) (sym (sound .waits) ∙ e)
 
-      behind : (i : ℕ) → i < c .waiting - 1 → within 1 4 (getD (withoutOldest (c .results)) i blankEntry .code) ≡ true
+      behind : (i : ℕ) → i < a .waiting - 1 → within 1 4 (getD (withoutOldest (a .results)) i blankEntry .code) ≡ true
       behind i l =
-          ap (λ (x : Entry). within 1 4 (x .code)) (List·getD-append (drop 1 (c .results)) (blankEntry ∷ []) blankEntry i (shorter l) ∙ getD-drop 1 (c .results) i blankEntry)
-          ∙ all-at (λ (j : ℕ). within 1 4 (getD (c .results) j blankEntry .code)) (c .waiting) (sound .codes) (1 + i) (omega arith)
+          ap (λ (x : Entry). within 1 4 (x .code)) (List·getD-append (drop 1 (a .results)) (blankEntry ∷ []) blankEntry i (shorter l) ∙ getD-drop 1 (a .results) i blankEntry)
+          ∙ all-at (λ (j : ℕ). within 1 4 (getD (a .results) j blankEntry .code)) (a .waiting) (sound .codes) (1 + i) (omega arith)
         where
-          shorter : i < c .waiting - 1 → i < length (drop 1 (c .results))
+          shorter : i < a .waiting - 1 → i < length (drop 1 (a .results))
           shorter q = simp length-drop (omega (arith, sound .few))
 
-      left : (t : Bool) → ltb 1 (c .waiting) ≡ t → has (c .owed) controlSlot ≡ true
-          → (pick t (c .owed) (remove (c .owed) controlSlot) < 2 ^ slotCount)
-          × ((u : ℕ) → has (pick t (c .owed) (remove (c .owed) controlSlot)) u ≡ true → has (c .subscribed) u ≡ true)
-          × (has (pick t (c .owed) (remove (c .owed) controlSlot)) controlSlot ≡ ltb 0 (c .waiting - 1))
-      left true e o = (sound .owed-slots, sound .covered, o ∙ sym (lt-ltb 0 (c .waiting - 1) (omega (arith, ltb-true 1 (c .waiting) e))))
+      left : (t : Bool) → ltb 1 (a .waiting) ≡ t → has (a .owed) controlSlot ≡ true
+          → (pick t (a .owed) (remove (a .owed) controlSlot) < 2 ^ slotCount)
+          × ((u : ℕ) → has (pick t (a .owed) (remove (a .owed) controlSlot)) u ≡ true → has (a .subscribed) u ≡ true)
+          × (has (pick t (a .owed) (remove (a .owed) controlSlot)) controlSlot ≡ ltb 0 (a .waiting - 1))
+      left true e o = (sound .owed-slots, sound .covered, o ∙ sym (lt-ltb 0 (a .waiting - 1) (omega (arith, ltb-true 1 (a .waiting) e))))
       left false e o = (
-        remove-lt slotCount (c .owed) controlSlot (sound .owed-slots),
-        (λ u q. sound .covered u (cut (has (c .owed) u) (eqb controlSlot u) (sym (has-remove (c .owed) controlSlot u) ∙ q) .0)),
-        remove-same (c .owed) controlSlot ∙ sym (le-ltb 0 (c .waiting - 1) (omega (arith, ltb-false 1 (c .waiting) e))),
+        remove-lt slotCount (a .owed) controlSlot (sound .owed-slots),
+        (λ u q. sound .covered u (cut (has (a .owed) u) (eqb controlSlot u) (sym (has-remove (a .owed) controlSlot u) ∙ q) .0)),
+        remove-same (a .owed) controlSlot ∙ sym (le-ltb 0 (a .waiting - 1) (omega (arith, ltb-false 1 (a .waiting) e))),
       )
 
-      result : has (c .owed) controlSlot ≡ true
-          → Sound (withSlots (c .subscribed) (pick (ltb 1 (c .waiting)) (c .owed) (remove (c .owed) controlSlot)) controlSlot (c .waiting - 1) (withoutOldest (c .results)) c)
+      result : has (a .owed) controlSlot ≡ true
+          → Sound (withSlots (a .subscribed) (pick (ltb 1 (a .waiting)) (a .owed) (remove (a .owed) controlSlot)) (a .waiting - 1) (withoutOldest (a .results)) a)
       result o =
-          let l = left (ltb 1 (c .waiting)) refl o in
+          let l = left (ltb 1 (a .waiting)) refl o in
           record {
-            mtu-from = sound .mtu-from;
-            mtu-to = sound .mtu-to;
             subscribed-slots = sound .subscribed-slots;
             owed-slots = l .0;
             readable = sound .readable;
             covered = l .1;
             waits = l .2;
             few = omega (arith, sound .few);
-            codes = all-intro (λ (j : ℕ). within 1 4 (getD (withoutOldest (c .results)) j blankEntry .code)) (c .waiting - 1) behind;
-            marked = omega arith;
-            safe = sound .safe;
+            codes = all-intro (λ (j : ℕ). within 1 4 (getD (withoutOldest (a .results)) j blankEntry .code)) (a .waiting - 1) behind;
           }
 
-      at : Dec (s ≡ controlSlot) → Sound (served s c)
-      at (no n) = subst Sound (sym (served-value c s n)) (value n)
+      at : Dec (s ≡ controlSlot) → Sound (served s a)
+      at (no n) = subst Sound (sym (served-value a s n)) (value n)
       at (yes e) =
-          let o = ap (has (c .owed)) (sym e) ∙ owes in
-          subst (λ (t : ℕ). Sound (served t c)) (sym e) (subst Sound (sym (served-result c (some o))) (result o))
+          let o = ap (has (a .owed)) (sym e) ∙ owes in
+          subst (λ (t : ℕ). Sound (served t a)) (sym e) (subst Sound (sym (served-result a (some o))) (result o))
 
 -- a record that is not connected is told nothing
-pub kept-blank : (c : Client) (due altered : ℕ) → Blank c → Blank (noted due altered c)
+pub kept-blank : (c : Client) (due altered : ℕ) → Blank c → Blank (withAccount (noted due altered (c .account)) c)
 unfolding noted union inter minus
 kept-blank c due altered b =
     record {
       encrypted = b .encrypted;
       mtu = b .mtu;
+      mark = b .mark;
       subscribed = b .subscribed;
       owed = rw (b .owed, b .subscribed);
       fresh = rw (b .fresh);
-      mark = b .mark;
       waiting = b .waiting;
     }

@@ -12,8 +12,8 @@ use lib.Seq.{take-suc-set, take-append-le}
 use Rattle.ground.specs.Cases.{has}
 use Rattle.ground.specs.Lists.{allBelow}
 use Rattle.desk_slots.specs.Slots.{inter, onlySlots, slotOf}
-use Rattle.desk_client.specs.declared.Client.{Client}
-use Rattle.desk_client.specs.Client.{mtuRight, controlSlot, mostResults, blankEntry, blankRule, connectedRule, clientRule, startClient, connectedClient}
+use Rattle.desk_client.specs.declared.Account.{Account}
+use Rattle.desk_client.specs.Client.{mtuRight, controlSlot, mostResults, blankEntry, blankRule, accountRule, connectedRule, clientRule, startClient, connectedClient}
 use Rattle.desk_client.specs.Queue.{queueOf, pushed, popped}
 
 -- the control point's slot is the table's
@@ -26,7 +26,7 @@ unfolding clientRule blankRule startClient
 start-stands = refl
 
 pub connected-stands : (mtu : ℕ) (encrypted : Bool) → mtuRight mtu ≡ true → clientRule (connectedClient mtu encrypted) ≡ true
-unfolding clientRule connectedRule connectedClient onlySlots inter has allBelow
+unfolding clientRule connectedRule accountRule connectedClient onlySlots inter has allBelow
 connected-stands mtu true e = rw e
 connected-stands mtu false e = rw e
 
@@ -34,17 +34,17 @@ dropped : {A : Type 0} (n : ℕ) (xs : List A) (b : A) → n < length xs → tak
 dropped n [] b h = absurd (not-suc-le-zero h)
 dropped n (x ∷ xs) b h = take-append-le n xs (b ∷ []) (le-of-suc-le-suc h)
 
-module _ (c : Client) (long : length (c .results) ≡ mostResults) where
-  pub push-appends : (opcode code : ℕ) → c .waiting < mostResults → queueOf (pushed opcode code c) ≡ queueOf c ++ (record { opcode = opcode; code = code } ∷ [])
+module _ (a : Account) (long : length (a .results) ≡ mostResults) where
+  pub push-appends : (opcode code : ℕ) → a .waiting < mostResults → queueOf (pushed opcode code a) ≡ queueOf a ++ (record { opcode = opcode; code = code } ∷ [])
   unfolding pushed
   push-appends opcode code h =
-      let l : c .waiting < length (c .results) = omega arith in
-      rw (lt-ltb (c .waiting) 8 h, add-one (c .waiting)) (take-suc-set (c .results) (c .waiting) (record { opcode = opcode; code = code }) l)
+      let l : a .waiting < length (a .results) = omega arith in
+      rw (lt-ltb (a .waiting) 8 h, add-one (a .waiting)) (take-suc-set (a .results) (a .waiting) (record { opcode = opcode; code = code }) l)
 
-  pub pop-drops : 0 < c .waiting → c .waiting ≤ mostResults → queueOf (popped c) ≡ drop 1 (queueOf c)
+  pub pop-drops : 0 < a .waiting → a .waiting ≤ mostResults → queueOf (popped a) ≡ drop 1 (queueOf a)
   unfolding popped
   pop-drops p h =
-      let z : c .waiting ≡ 0 → ⊥ = λ q. omega arith in
-      let w : c .waiting ≡ suc (c .waiting - 1) = omega arith in
-      rw (ne-eqb (c .waiting) 0 z)
-      (dropped (c .waiting - 1) (c .results) blankEntry (omega arith) ∙ ap (λ (n : ℕ). drop 1 (take n (c .results))) (sym w))
+      let z : a .waiting ≡ 0 → ⊥ = λ q. omega arith in
+      let w : a .waiting ≡ suc (a .waiting - 1) = omega arith in
+      rw (ne-eqb (a .waiting) 0 z)
+      (dropped (a .waiting - 1) (a .results) blankEntry (omega arith) ∙ ap (λ (n : ℕ). drop 1 (take n (a .results))) (sym w))

@@ -1,47 +1,32 @@
--- A client record with one part changed. antt has no record update.
+-- An account, a link or a client record with one part changed. antt has no record update.
 -- Assumes nothing.
 use mathlib.Core.List.{List}
 use Prim.Native.Nat.{ℕ}
 use Rattle.desk_client.specs.declared.Entry.{Entry}
+use Rattle.desk_client.specs.declared.Link.{Link}
+use Rattle.desk_client.specs.declared.Account.{Account}
 use Rattle.desk_client.specs.declared.Client.{Client}
 
--- what the slots hold: subscribed and owed, the slot served last, and the waiting results
-abbrev pub withSlots : ℕ → ℕ → ℕ → ℕ → List Entry → Client → Client
-withSlots subscribed owed mark waiting results c =
-    record {
-      connected = c .connected;
-      encrypted = c .encrypted;
-      mtu = c .mtu;
-      subscribed = subscribed;
-      owed = owed;
-      fresh = c .fresh;
-      mark = mark;
-      waiting = waiting;
-      results = results;
-    }
+-- what the slots hold: subscribed and owed, and the waiting results
+abbrev pub withSlots : ℕ → ℕ → ℕ → List Entry → Account → Account
+withSlots subscribed owed waiting results a =
+    record { subscribed = subscribed; owed = owed; fresh = a .fresh; waiting = waiting; results = results }
 
-abbrev pub withSubscribed : ℕ → Client → Client
-withSubscribed subscribed c = withSlots subscribed (c .owed) (c .mark) (c .waiting) (c .results) c
+abbrev pub withSubscribed : ℕ → Account → Account
+withSubscribed subscribed a = withSlots subscribed (a .owed) (a .waiting) (a .results) a
 
-abbrev pub withOwed : ℕ → Client → Client
-withOwed owed c = withSlots (c .subscribed) owed (c .mark) (c .waiting) (c .results) c
+abbrev pub withOwed : ℕ → Account → Account
+withOwed owed a = withSlots (a .subscribed) owed (a .waiting) (a .results) a
 
-abbrev pub withMark : ℕ → Client → Client
-withMark mark c = withSlots (c .subscribed) (c .owed) mark (c .waiting) (c .results) c
+abbrev pub withQueue : ℕ → List Entry → Account → Account
+withQueue waiting results a = withSlots (a .subscribed) (a .owed) waiting results a
 
-abbrev pub withQueue : ℕ → List Entry → Client → Client
-withQueue waiting results c = withSlots (c .subscribed) (c .owed) (c .mark) waiting results c
+abbrev pub withFresh : ℕ → Account → Account
+withFresh fresh a =
+    record { subscribed = a .subscribed; owed = a .owed; fresh = fresh; waiting = a .waiting; results = a .results }
 
-abbrev pub withFresh : ℕ → Client → Client
-withFresh fresh c =
-    record {
-      connected = c .connected;
-      encrypted = c .encrypted;
-      mtu = c .mtu;
-      subscribed = c .subscribed;
-      owed = c .owed;
-      fresh = fresh;
-      mark = c .mark;
-      waiting = c .waiting;
-      results = c .results;
-    }
+abbrev pub withMark : ℕ → Link → Link
+withMark mark l = record { connected = l .connected; encrypted = l .encrypted; mtu = l .mtu; mark = mark }
+
+abbrev pub withAccount : Account → Client → Client
+withAccount a c = record { link = c .link; account = a }

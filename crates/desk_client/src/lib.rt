@@ -1,10 +1,10 @@
-// A client record: what is known of one of the four devices.
+// A client record: what is known of one of the four devices, of its link and of its account.
 ghost use mathlib.Core.Path.{_≡_};
 ghost use Prim.Native.Nat.{_≤_, _<_};
 ghost use Rattle.desk_slots.specs.Slots.{slotCount};
-ghost use Rattle.desk_client.specs.Client.{mtuRight, alike, codesRight, blankRule, connectedRule, clientRule, startClient, connectedClient};
+ghost use Rattle.desk_client.specs.Client.{mtuRight, isControl, alike, codesRight, blankRule, accountRule, connectedRule, clientRule, linked, startClient, connectedClient};
 ghost use Rattle.desk_client.specs.Queue.{withoutOldest, pushed, popped};
-ghost use Rattle.desk_client.specs.Duties.{joined, dropped, noted, wasRead, resulted, resultTaken, served};
+ghost use Rattle.desk_client.specs.Duties.{joined, dropped, noted, wasRead, resulted, resultTaken, served, passedOn};
 
 // A result that waits: the requested opcode and the result code.
 pub struct Entry {
@@ -12,18 +12,27 @@ pub struct Entry {
     pub code: u8,
 }
 
-// `subscribed` and `owed` are words of slots, `fresh` a word of characteristics that were read at 0 and have not changed since, `mark` is the slot that
-// was served last. The first `waiting` of the results wait, oldest first; the others are dead.
-pub struct Client {
+// The link of a device: `mark` is the place of its round that was served last.
+pub struct Link {
     pub connected: bool,
     pub encrypted: bool,
     pub mtu: u32,
+    pub mark: u32,
+}
+
+// What a service owes to a device. `subscribed` and `owed` are words of slots, `fresh` a word of characteristics that were read at 0 and have not
+// changed since. The first `waiting` of the results wait, oldest first; the others are dead.
+pub struct Account {
     pub subscribed: u32,
     pub owed: u32,
     pub fresh: u32,
-    pub mark: u32,
     pub waiting: usize,
     pub results: [Entry; 8],
+}
+
+pub struct Client {
+    pub link: Link,
+    pub account: Account,
 }
 
 pub const CONTROL_SLOT: u32 = 9;
@@ -65,93 +74,120 @@ pub fn mtu_right(mtu: u32) -> bool
     (LEAST_MTU <= mtu) & (mtu <= MOST_MTU)
 }
 
-fn connected_right(c: Client) -> bool
-    ensures { λ r. ⌜ r ≡ connectedRule c ⌝ }
+// Whether a slot is the control point's.
+pub fn is_control(slot: u32) -> bool
+    ensures { λ r. ⌜ r ≡ isControl slot ⌝ }
 {
-    let few = c.waiting <= MOST_RESULTS;
+    slot == CONTROL_SLOT
+}
+
+fn account_right(a: Account) -> bool
+    ensures { λ r. ⌜ r ≡ accountRule a ⌝ }
+{
+    let few = a.waiting <= MOST_RESULTS;
     if !few {
         return false;
     }
-    let mtu = mtu_right(c.mtu);
-    let subscribed = desk_slots::only_slots(c.subscribed);
-    let owed = desk_slots::only_slots(c.owed);
-    let fresh = c.fresh & desk_slots::READABLE == c.fresh;
-    let covered = c.owed & c.subscribed == c.owed;
-    let control = ground::has_bit(c.owed, CONTROL_SLOT);
-    let told = agree(control, 0 < c.waiting);
-    let results = c.results;
-    let codes = codes_right(c.waiting, results);
-    let mark = c.mark < desk_slots::SLOTS;
-    let safe = c.encrypted | (c.subscribed == 0);
-    mtu & subscribed & owed & fresh & covered & told & few & codes & mark & safe
+    let subscribed = desk_slots::only_slots(a.subscribed);
+    let owed = desk_slots::only_slots(a.owed);
+    let fresh = a.fresh & desk_slots::READABLE == a.fresh;
+    let covered = a.owed & a.subscribed == a.owed;
+    let control = ground::has_bit(a.owed, CONTROL_SLOT);
+    let told = agree(control, 0 < a.waiting);
+    let results = a.results;
+    let codes = codes_right(a.waiting, results);
+    subscribed & owed & fresh & covered & told & few & codes
+}
+
+fn connected_right(c: Client) -> bool
+    ensures { λ r. ⌜ r ≡ connectedRule c ⌝ }
+{
+    let link = c.link;
+    let a = c.account;
+    let mtu = mtu_right(link.mtu);
+    let mark = link.mark < desk_slots::PLACES;
+    let account = account_right(a);
+    let safe = link.encrypted | (a.subscribed == 0);
+    mtu & mark & account & safe
 }
 
 fn blank_right(c: Client) -> bool
     ensures { λ r. ⌜ r ≡ blankRule c ⌝ }
 {
-    !c.encrypted
-        & (c.mtu == LEAST_MTU)
-        & (c.subscribed == 0)
-        & (c.owed == 0)
-        & (c.fresh == 0)
-        & (c.mark == desk_slots::SLOTS - 1)
-        & (c.waiting == 0)
+    let link = c.link;
+    let a = c.account;
+    !link.encrypted
+        & (link.mtu == LEAST_MTU)
+        & (link.mark == desk_slots::PLACES - 1)
+        & (a.subscribed == 0)
+        & (a.owed == 0)
+        & (a.fresh == 0)
+        & (a.waiting == 0)
 }
 
 // Whether a record keeps the clients' part of 201.
 pub fn client_right(c: Client) -> bool
     ensures { λ r. ⌜ r ≡ clientRule c ⌝ }
 {
-    if c.connected {
+    if c.link.connected {
         return connected_right(c);
     }
     blank_right(c)
+}
+
+// A record with nothing asked for and nothing owed.
+fn with_link(connected: bool, encrypted: bool, mtu: u32) -> Client
+    ensures { λ r. ⌜ r ≡ linked connected encrypted mtu ⌝ }
+{
+    let none = Entry { opcode: 0, code: 0 };
+    let link = Link {
+        connected: connected,
+        encrypted: encrypted,
+        mtu: mtu,
+        mark: desk_slots::PLACES - 1,
+    };
+    let account = Account {
+        subscribed: 0,
+        owed: 0,
+        fresh: 0,
+        waiting: 0,
+        results: [none; 8],
+    };
+    Client {
+        link: link,
+        account: account,
+    }
 }
 
 // Start's record.
 pub fn fresh_client() -> Client
     ensures { λ r. ⌜ r ≡ startClient ⌝ }
 {
-    let none = Entry { opcode: 0, code: 0 };
-    Client {
-        connected: false,
-        encrypted: false,
-        mtu: LEAST_MTU,
-        subscribed: 0,
-        owed: 0,
-        fresh: 0,
-        mark: desk_slots::SLOTS - 1,
-        waiting: 0,
-        results: [none; 8],
-    }
+    with_link(false, false, LEAST_MTU)
 }
 
 pub fn connected_client(mtu: u32, encrypted: bool) -> Client
     ensures { λ r. ⌜ r ≡ connectedClient mtu encrypted ⌝ }
 {
-    let mut c = fresh_client();
-    c.connected = true;
-    c.encrypted = encrypted;
-    c.mtu = mtu;
-    c
+    with_link(true, encrypted, mtu)
 }
 
 // One result more, behind those that wait.
-pub fn push_result(c: Client, opcode: u8, code: u8) -> Client
-    ensures { λ r. ⌜ r ≡ pushed opcode code c ⌝ }
+pub fn push_result(a: Account, opcode: u8, code: u8) -> Account
+    ensures { λ r. ⌜ r ≡ pushed opcode code a ⌝ }
 {
-    let at = c.waiting;
+    let at = a.waiting;
     if MOST_RESULTS <= at {
-        return c;
+        return a;
     }
     let e = Entry {
         opcode: opcode,
         code: code,
     };
-    let mut d = c;
-    d.results[at] = e;
-    d.waiting = at + 1;
-    d
+    let mut b = a;
+    b.results[at] = e;
+    b.waiting = at + 1;
+    b
 }
 
 // The results without the oldest.
@@ -170,104 +206,114 @@ fn shifted(rs: [Entry; 8]) -> [Entry; 8]
 }
 
 // The oldest result is handed out.
-pub fn pop_result(c: Client) -> Client
-    ensures { λ r. ⌜ r ≡ popped c ⌝ }
+pub fn pop_result(a: Account) -> Account
+    ensures { λ r. ⌜ r ≡ popped a ⌝ }
 {
-    let n = c.waiting;
+    let n = a.waiting;
     if n == 0 {
-        return c;
+        return a;
     }
-    let mut d = c;
-    let rs = c.results;
+    let mut b = a;
+    let rs = a.results;
     let next = shifted(rs);
-    d.results = next;
-    d.waiting = n - 1;
-    d
+    b.results = next;
+    b.waiting = n - 1;
+    b
 }
 
 // The client subscribes to a slot.
-pub fn join(c: Client, s: u32) -> Client
+pub fn join(a: Account, s: u32) -> Account
     requires { ⌜ s < slotCount ⌝ }
-    ensures { λ r. ⌜ r ≡ joined s c ⌝ }
+    ensures { λ r. ⌜ r ≡ joined s a ⌝ }
 {
-    let mut d = c;
-    d.subscribed = desk_slots::with(c.subscribed, s);
-    d
+    let mut b = a;
+    b.subscribed = desk_slots::with(a.subscribed, s);
+    b
 }
 
 // The client unsubscribes from a slot, and what that owes is dropped.
-pub fn leave(c: Client, s: u32) -> Client
+pub fn leave(a: Account, s: u32) -> Account
     requires { ⌜ s < slotCount ⌝ }
-    ensures { λ r. ⌜ r ≡ dropped s c ⌝ }
+    ensures { λ r. ⌜ r ≡ dropped s a ⌝ }
 {
-    let mut d = c;
-    d.subscribed = desk_slots::without(c.subscribed, s);
-    d.owed = desk_slots::without(c.owed, s);
-    if s == CONTROL_SLOT {
-        d.waiting = 0;
-        return d;
+    let mut b = a;
+    b.subscribed = desk_slots::without(a.subscribed, s);
+    b.owed = desk_slots::without(a.owed, s);
+    if is_control(s) {
+        b.waiting = 0;
+        return b;
     }
-    d
+    b
 }
 
 // Values changed: `due` are the slots that fell due, `altered` the characteristics.
-pub fn note(c: Client, due: u32, altered: u32) -> Client
-    ensures { λ r. ⌜ r ≡ noted due altered c ⌝ }
+pub fn note(a: Account, due: u32, altered: u32) -> Account
+    ensures { λ r. ⌜ r ≡ noted due altered a ⌝ }
 {
-    let mut d = c;
-    let wanted = desk_slots::intersection(c.subscribed, due);
-    d.owed = desk_slots::union_of(c.owed, wanted);
-    d.fresh = desk_slots::difference(c.fresh, altered);
-    d
+    let mut b = a;
+    let wanted = desk_slots::intersection(a.subscribed, due);
+    b.owed = desk_slots::union_of(a.owed, wanted);
+    b.fresh = desk_slots::difference(a.fresh, altered);
+    b
 }
 
 // The client read a characteristic at 0.
-pub fn mark_read(c: Client, characteristic: u32) -> Client
+pub fn mark_read(a: Account, characteristic: u32) -> Account
     requires { ⌜ characteristic < 32 ⌝ }
-    ensures { λ r. ⌜ r ≡ wasRead characteristic c ⌝ }
+    ensures { λ r. ⌜ r ≡ wasRead characteristic a ⌝ }
 {
-    let mut d = c;
-    d.fresh = desk_slots::with(c.fresh, characteristic);
-    d
+    let mut b = a;
+    b.fresh = desk_slots::with(a.fresh, characteristic);
+    b
 }
 
 // A control write of the client came to a result.
-pub fn note_result(c: Client, opcode: u8, code: u8) -> Client
-    ensures { λ r. ⌜ r ≡ resulted opcode code c ⌝ }
+pub fn note_result(a: Account, opcode: u8, code: u8) -> Account
+    ensures { λ r. ⌜ r ≡ resulted opcode code a ⌝ }
 {
-    if !ground::has_bit(c.subscribed, CONTROL_SLOT) {
-        return c;
+    if !ground::has_bit(a.subscribed, CONTROL_SLOT) {
+        return a;
     }
-    let mut d = push_result(c, opcode, code);
-    d.owed = desk_slots::with(c.owed, CONTROL_SLOT);
-    d
+    let mut b = push_result(a, opcode, code);
+    b.owed = desk_slots::with(a.owed, CONTROL_SLOT);
+    b
 }
 
 // The oldest result was handed out.
-fn result_taken(c: Client) -> Client
-    ensures { λ r. ⌜ r ≡ resultTaken c ⌝ }
+fn result_taken(a: Account) -> Account
+    ensures { λ r. ⌜ r ≡ resultTaken a ⌝ }
 {
-    let mut d = pop_result(c);
-    if 1 < c.waiting {
-        d.owed = c.owed;
-        return d;
+    let mut b = pop_result(a);
+    if 1 < a.waiting {
+        b.owed = a.owed;
+        return b;
     }
-    d.owed = desk_slots::without(c.owed, CONTROL_SLOT);
-    d
+    b.owed = desk_slots::without(a.owed, CONTROL_SLOT);
+    b
 }
 
-// A slot was served.
+// What a slot owed was handed out.
+fn slot_served(a: Account, s: u32) -> Account
+    requires { ⌜ s < slotCount ⌝ }
+    ensures { λ r. ⌜ r ≡ served s a ⌝ }
+{
+    if is_control(s) {
+        return result_taken(a);
+    }
+    let mut b = a;
+    b.owed = desk_slots::without(a.owed, s);
+    b
+}
+
+// A client was served a slot, and its round goes on behind it.
 pub fn serve(c: Client, s: u32) -> Client
     requires { ⌜ s < slotCount ⌝ }
-    ensures { λ r. ⌜ r ≡ served s c ⌝ }
+    ensures { λ r. ⌜ r ≡ passedOn s c ⌝ }
 {
-    if s == CONTROL_SLOT {
-        let mut d = result_taken(c);
-        d.mark = s;
-        return d;
-    }
+    let a = c.account;
+    let next = slot_served(a, s);
     let mut d = c;
-    d.owed = desk_slots::without(c.owed, s);
-    d.mark = s;
+    d.account = next;
+    d.link.mark = s;
     d
 }

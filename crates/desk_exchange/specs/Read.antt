@@ -12,10 +12,11 @@ use Rattle.catalogue_tables.specs.Tables.{Tables}
 use Rattle.desk_slots.specs.Characteristics.{readables, isIn}
 use Rattle.player_values.specs.Values.{sourceOf, valueOf}
 use Rattle.player_values.specs.Handing.{partFrom}
+use Rattle.desk_client.specs.declared.Account.{Account}
 use Rattle.desk_client.specs.declared.Client.{Client}
 use Rattle.desk_client.specs.Duties.{wasRead}
 use Rattle.desk_state.specs.declared.Desk.{Desk}
-use Rattle.desk_state.specs.Desk.{withClient}
+use Rattle.desk_state.specs.Desk.{withAccountOf}
 use Rattle.desk_replies.specs.Replies.{ofClient, ofCharacteristic, asked, caller}
 
 -- the value that is read
@@ -26,20 +27,20 @@ valueNow k d characteristic = valueOf (sourceOf k) (d .player) characteristic
 -- such read since connecting"; 0x07, "offset above the length"
 abbrev pub readRows : ℕ → Client → ℕ → ℕ → ℕ → List Row
 readRows who c characteristic offset size =
-    ofClient who (c .connected)
-    ++ (ofCharacteristic (c .encrypted) characteristic 0x02 (isIn readables characteristic)
-    ++ (row 0x80 (ltb 0 offset && not (has (c .fresh) characteristic)) ∷ row 0x07 (ltb size offset) ∷ []))
+    ofClient who (c .link .connected)
+    ++ (ofCharacteristic (c .link .encrypted) characteristic 0x02 (isIn readables characteristic)
+    ++ (row 0x80 (ltb 0 offset && not (has (c .account .fresh) characteristic)) ∷ row 0x07 (ltb size offset) ∷ []))
 
 -- what is handed out
 unfoldable pub readOctets : Tables → Desk → ℕ → ℕ → ℕ → List ℕ
-readOctets k d who characteristic offset = partFrom offset (caller d who .mtu - 1) (valueNow k d characteristic)
+readOctets k d who characteristic offset = partFrom offset (caller d who .link .mtu - 1) (valueNow k d characteristic)
 
 -- a read at 0 is kept in mind, one above 0 is not
-abbrev pub afterRead : ℕ → ℕ → Client → Client
-afterRead characteristic offset c = pick (eqb offset 0) (wasRead characteristic c) c
+abbrev pub afterRead : ℕ → ℕ → Account → Account
+afterRead characteristic offset a = pick (eqb offset 0) (wasRead characteristic a) a
 
 unfoldable pub readCall : Tables → Desk → ℕ → ℕ → ℕ → ℕ → Left Desk
 readCall k d who characteristic offset room =
     asked k (ltb room leastOutput) d (readRows who (caller d who) characteristic offset (length (valueNow k d characteristic)))
     (leaves (granted (length (readOctets k d who characteristic offset) ∷ []))
-    (withClient who (afterRead characteristic offset (caller d who)) d))
+    (withAccountOf who (afterRead characteristic offset (caller d who .account)) d))

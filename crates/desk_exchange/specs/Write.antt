@@ -20,7 +20,7 @@ use Rattle.player_moves.specs.Clock.{positioned}
 use Rattle.desk_client.specs.Client.{mostResults}
 use Rattle.desk_client.specs.Duties.{resulted}
 use Rattle.desk_state.specs.declared.Desk.{Desk}
-use Rattle.desk_state.specs.Desk.{withClient}
+use Rattle.desk_state.specs.Desk.{withAccountOf}
 use Rattle.desk_notices.specs.Owed.{settled, byWriter}
 use Rattle.player_values.specs.Values.{sourceOf}
 use Rattle.desk_replies.specs.Replies.{ofClient, ofCharacteristic, asked, caller}
@@ -59,7 +59,7 @@ becomingBy k d who characteristic q = settled (sourceOf k) (byWriter who charact
 
 -- a control write: what the opcode comes to, and its result for the writer
 abbrev pub withResult : ℕ → ℕ → ℕ → Desk → Desk
-withResult who opcode code d = withClient who (resulted opcode code (caller d who)) d
+withResult who opcode code d = withAccountOf who (resulted opcode code (caller d who .account)) d
 
 abbrev pub outcomeOf : Tables → Desk → List ℕ → Controlled
 outcomeOf k d value = controlled (k .groups) (k .tracks) (k .segments) (firstOctet value) (numberOf value) (d .player)
@@ -78,5 +78,5 @@ written k d who characteristic value =
 
 unfoldable pub writeCall : Tables → Desk → ℕ → ℕ → List ℕ → Left Desk
 writeCall k d who characteristic value =
-    asked k false d (writeRows who (caller d who .connected) (caller d who .encrypted) (caller d who .waiting) characteristic value)
+    asked k false d (writeRows who (caller d who .link .connected) (caller d who .link .encrypted) (caller d who .account .waiting) characteristic value)
     (leaves (granted []) (written k d who characteristic value))

@@ -15,15 +15,15 @@ ghost use Rattle.desk_replies.specs.Replies.{Gated, saidOf, leftBy, fronted, ca
 ghost use Rattle.desk_exchange.specs.Read.{valueNow, readRows, afterRead, readOctets, readCall};
 ghost use Rattle.desk_exchange.specs.Write.{writeRows, controlLength, lengthRight, numberOf, controlWritten, written, writeCall};
 
-// What a read leaves of the client's record.
-fn after_read(c: desk_client::Client, characteristic: u32, offset: u32) -> desk_client::Client
+// What a read leaves of the client's account.
+fn after_read(a: desk_client::Account, characteristic: u32, offset: u32) -> desk_client::Account
     requires { ⌜ characteristic < 32 ⌝ }
-    ensures { λ r. ⌜ r ≡ afterRead characteristic offset c ⌝ }
+    ensures { λ r. ⌜ r ≡ afterRead characteristic offset a ⌝ }
 {
     if offset == 0 {
-        return desk_client::mark_read(c, characteristic);
+        return desk_client::mark_read(a, characteristic);
     }
-    c
+    a
 }
 
 // The refusals of a read.
@@ -55,8 +55,8 @@ fn read_gate(
     if !g.passes {
         return g;
     }
-    let c = desk_state::client_at(d, who);
-    let known = ground::has_bit(c.fresh, characteristic);
+    let a = desk_state::account_at(d, who);
+    let known = ground::has_bit(a.fresh, characteristic);
     if (0 < offset) & !known {
         return desk_replies::gate_shut(ground::VALUE_CHANGED);
     }
@@ -102,10 +102,11 @@ pub fn read(
     let c = desk_state::client_at(d, who);
     let h = player_values::hold(tracks, text, p, characteristic);
     let from = ground::wide_word(offset);
-    let most = ground::wide_word(c.mtu - 1);
+    let most = ground::wide_word(c.link.mtu - 1);
     let n = player_values::hand(out, h, from, most);
-    let next = after_read(c, characteristic, offset);
-    let e = desk_state::with_client(d, who, next);
+    let a = c.account;
+    let next = after_read(a, characteristic, offset);
+    let e = desk_state::with_account(d, who, next);
     desk_replies::left(desk_replies::Answer::Octets(n), e)
 }
 
@@ -140,7 +141,7 @@ fn write_gate(
     characteristic: u32,
     value: &[u8],
 ) -> desk_replies::Gate
-    ensures { λ r. ⌜ Gated (fronted (tables (now (groups .entry)) (now (tracks .entry)) (now (segments .entry)) (now (text .entry))) false d ++ writeRows who (caller d who .connected) (caller d who .encrypted) (caller d who .waiting) characteristic (now (value .entry))) r ⌝ }
+    ensures { λ r. ⌜ Gated (fronted (tables (now (groups .entry)) (now (tracks .entry)) (now (segments .entry)) (now (text .entry))) false d ++ writeRows who (caller d who .link .connected) (caller d who .link .encrypted) (caller d who .account .waiting) characteristic (now (value .entry))) r ⌝ }
 {
     let g = desk_replies::characteristic_gate(
         groups,
@@ -165,8 +166,8 @@ fn write_gate(
     if (characteristic == 15) & !order {
         return desk_replies::gate_shut(ground::BAD_ORDER);
     }
-    let c = desk_state::client_at(d, who);
-    if (characteristic == 18) & (desk_client::MOST_RESULTS <= c.waiting) {
+    let a = desk_state::account_at(d, who);
+    if (characteristic == 18) & (desk_client::MOST_RESULTS <= a.waiting) {
         return desk_replies::gate_shut(ground::TOO_MANY_RESULTS);
     }
     g
@@ -205,9 +206,9 @@ fn control(
     let code = done.result;
     let cause = desk_notices::by_writer(who, 18);
     let e = desk_notices::settle(tracks, text, d, q, cause);
-    let c = desk_state::client_at(e, who);
-    let next = desk_client::note_result(c, opcode, code);
-    desk_state::with_client(e, who, next)
+    let a = desk_state::account_at(e, who);
+    let next = desk_client::note_result(a, opcode, code);
+    desk_state::with_account(e, who, next)
 }
 
 // What a write does.

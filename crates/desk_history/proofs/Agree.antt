@@ -83,7 +83,7 @@ module _ (k : Tables) (right : catalogueRule k ≡ true) where
     keeps-on who s h (c ∷ c′ ∷ ks) st = (st .1 .0, keeps-on who s (c ∷ h) (c′ ∷ ks) (st .1))
 
     -- every client has an ATT_MTU of 23 at least
-    pub mtu-at : (h : List Call) (who : ℕ) → who < clientCount → 23 ≤ ledgerAt k name mask ccid h .side who .mtu
+    pub mtu-at : (h : List Call) (who : ℕ) → who < clientCount → 23 ≤ ledgerAt k name mask ccid h .side who .link .mtu
     mtu-at h who l =
         let o = ok h in
-        subst (λ (n : ℕ). 23 ≤ n) (o .0 .side who l .mtu) (mtu-least (clientAt (deskAt k name mask ccid h .clients) who) (client-stands (k .groups) (k .tracks) (deskAt k name mask ccid h) (o .1) who l))
+        subst (λ (n : ℕ). 23 ≤ n) (o .0 .side who l .link .mtu) (mtu-least (clientAt (deskAt k name mask ccid h .clients) who) (client-stands (k .groups) (k .tracks) (deskAt k name mask ccid h) (o .1) who l))

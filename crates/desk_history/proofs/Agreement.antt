@@ -27,13 +27,14 @@ use Rattle.desk_notices.specs.declared.Cause.{Cause}
 use Rattle.desk_notices.specs.Owed.{fallsDue, spared, dueTo, alteredOf, settled}
 use Rattle.desk_client.specs.declared.Client.{Client}
 use Rattle.desk_client.specs.Client.{controlSlot, clientRule, startClient}
+use Rattle.desk_client.specs.Setters.{withAccount}
 use Rattle.desk_client.specs.Duties.{noted}
-use Rattle.desk_client.proofs.Rule.{connected-sound, sound-connected, unconnected-blank, blank-unconnected}
+use Rattle.desk_client.proofs.Rule.{connected-linked, linked-connected, account-kept, unconnected-blank, blank-unconnected}
 use Rattle.desk_client.proofs.Kept.{kept-noted, kept-blank}
 use Rattle.desk_state.specs.declared.Desk.{Desk}
 use Rattle.desk_state.specs.Desk.{noClient, clientAt, clientsRule, deskRule, startedDesk, withClient}
 use Rattle.desk_state.proofs.Laws.{client-stands, turn-there, kept-client}
-use Rattle.desk_history.specs.Ledger.{Side, Ledger, nobody, opening, changing, noticing, becoming}
+use Rattle.desk_history.specs.Ledger.{Side, Ledger, nobody, opening, changing, onAccount, noticing, becoming}
 use Rattle.player_values.specs.Values.{sourceOf}
 use Rattle.desk_history.proofs.Likeness.{Like, like-start, like-noted}
 
@@ -94,7 +95,7 @@ map-length f j (c ∷ cs) = ap suc (map-length f (suc j) cs)
 
 module _ (k : Tables) (L : Ledger) (d : Desk) (agrees : Agrees L d) (cause : Player → Cause) (f : Player → Player) where
   abbrev tells : Player → ℕ → Client → Client
-  tells p who c = noted (dueTo (sourceOf k) p (f p) (cause p) who) (alteredOf (sourceOf k) p (f p)) c
+  tells p who c = withAccount (noted (dueTo (sourceOf k) p (f p) (cause p) who) (alteredOf (sourceOf k) p (f p)) (c .account)) c
 
   pub agree-becoming : Agrees (becoming k (cause (L .player)) (f (L .player)) L) (settled (sourceOf k) (cause (d .player)) (f (d .player)) d)
   unfolding settled
@@ -104,10 +105,13 @@ module _ (k : Tables) (L : Ledger) (d : Desk) (agrees : Agrees L d) (cause : Pla
         turn = agrees .turn;
         long = map-length (tells (d .player)) 0 (d .clients) ∙ agrees .long;
         side = λ c h.
-            subst (Like (noticing k (L .player) (f (L .player)) (cause (L .player)) c (L .side c)))
+            subst (Like (onAccount (noticing k (L .player) (f (L .player)) (cause (L .player)) c) (L .side c)))
             (sym (at-place (tells (d .player)) 0 c (d .clients) (subst (λ (n : ℕ). c < n) (sym (agrees .long)) h) ∙ ap (λ (n : ℕ). tells (d .player) n (clientAt (d .clients) c)) (zero-add c)))
-            (subst (λ (p : Player). Like (noticing k p (f p) (cause p) c (L .side c)) (tells (d .player) c (clientAt (d .clients) c))) (agrees .player)
-            (like-noted (L .side c) (clientAt (d .clients) c) (agrees .side c h) k (d .player) (f (d .player)) (cause (d .player)) c));
+            (subst (λ (p : Player). Like (onAccount (noticing k p (f p) (cause p) c) (L .side c)) (tells (d .player) c (clientAt (d .clients) c))) (agrees .player)
+            (record {
+              link = agrees .side c h .link;
+              account = like-noted (L .side c .account) (clientAt (d .clients) c .account) (agrees .side c h .account) k (d .player) (f (d .player)) (cause (d .player)) c;
+            }));
       }
 
 -- 18 never falls due by a change of values
@@ -122,14 +126,19 @@ quiet-control k p q cause who =
     none false true s e = refl
     none false false s e = refl
 
--- 201: a record that is noticing keeps its rule
-told-stands : (c : Client) (due altered : ℕ) → has due controlSlot ≡ false → clientRule c ≡ true → clientRule (noted due altered c) ≡ true
+-- 201: a record that is told keeps its rule
+told-stands : (c : Client) (due altered : ℕ) → has due controlSlot ≡ false → clientRule c ≡ true → clientRule (withAccount (noted due altered (c .account)) c) ≡ true
 unfolding noted
 told-stands c due altered quiet rule =
     ⊎-elim
-    (λ q. sound-connected (noted due altered c) q (kept-noted c (connected-sound c rule q) due altered quiet))
-    (λ q. blank-unconnected (noted due altered c) q (kept-blank c due altered (unconnected-blank c rule q)))
-    (true-or (c .connected))
+    (λ q.
+    let l = connected-linked c rule q in
+    linked-connected told q (account-kept c (noted due altered (c .account)) l (kept-noted (c .account) (l .account) due altered quiet) (l .safe)))
+    (λ q. blank-unconnected told q (kept-blank c due altered (unconnected-blank c rule q)))
+    (true-or (c .link .connected))
+  where
+    told : Client
+    told = withAccount (noted due altered (c .account)) c
 
 module _ (k : Tables) (d : Desk) (stands : deskRule (k .groups) (k .tracks) d ≡ true) (long : length (d .clients) ≡ clientCount) where
   pub settled-stands : (cause : Cause) (q : Player) → playerRule (k .groups) (k .tracks) q ≡ true
@@ -139,7 +148,7 @@ module _ (k : Tables) (d : Desk) (stands : deskRule (k .groups) (k .tracks) d �
       and-both (and-both right (all-intro (λ i. clientRule (clientAt (mapFrom tells 0 (d .clients)) i)) clientCount each)) (lt-ltb _ _ (turn-there (k .groups) (k .tracks) d stands))
     where
       tells : ℕ → Client → Client
-      tells who c = noted (dueTo (sourceOf k) (d .player) q cause who) (alteredOf (sourceOf k) (d .player) q) c
+      tells who c = withAccount (noted (dueTo (sourceOf k) (d .player) q cause who) (alteredOf (sourceOf k) (d .player) q) (c .account)) c
 
       each : (i : ℕ) → i < clientCount → clientRule (clientAt (mapFrom tells 0 (d .clients)) i) ≡ true
       each i h =

@@ -14,7 +14,7 @@ use Rattle.ground.specs.Limits.{leastOutput}
 use Rattle.catalogue_tables.specs.Tables.{Tables}
 use Rattle.catalogue_check.specs.Catalogue.{catalogueRule}
 use Rattle.player_check.specs.Standing.{textRule}
-use Rattle.desk_slots.specs.Slots.{slotCount, clientCount}
+use Rattle.desk_slots.specs.Slots.{placeCount, clientCount}
 use Rattle.desk_slots.proofs.NextLaws.{next-nearest}
 use Rattle.desk_client.specs.Client.{controlSlot}
 use Rattle.desk_replies.specs.Replies.{stateRight}
@@ -32,7 +32,7 @@ use Rattle.desk_history.proofs.Order.{oldest-first, some-of}
 
 -- 40: as many answered takes as there are slots of all clients
 abbrev pub bound : ℕ
-bound = clientCount * slotCount
+bound = clientCount * placeCount
 
 module _ (k : Tables) (right : catalogueRule k ≡ true) (name : List ℕ) (named : textRule name ≡ true) (mask ccid : ℕ) where
   abbrev ledger : List Call → Ledger
@@ -49,11 +49,11 @@ module _ (k : Tables) (right : catalogueRule k ≡ true) (name : List ℕ) (name
   pub stands-always : (h : List Call) → stateRight k (deskAt k name mask ccid h) ≡ true
   stands-always h = ok k right name named mask ccid h .1
 
-  module _ (who s : ℕ) (client : who < clientCount) (slot : s < slotCount) (h ks : List Call) (stays : Stays k name mask ccid who s h ks) where
+  module _ (who s : ℕ) (client : who < clientCount) (slot : s < placeCount) (h ks : List Call) (stays : Stays k name mask ccid who s h ks) where
     many-in-time : (j : ℕ) → j ≤ ledgerSystem k .backlog (ledger h) who s → bound * j ≤ length (given k name mask ccid h ks) → j ≤ countFor who s (firsts (bound * j) (given k name mask ccid h ks))
     many-in-time j waits enough =
         subst (λ (l : List Handout). j ≤ countFor who s (firsts (bound * j) l)) (sym (given-is k right name named mask ccid h ks))
-        (in-time (ledgerSystem k) clientCount slotCount (laws k) who s client slot j ks (ledger h) (in-range k right name named mask ccid h) (keeps-on k right name named mask ccid who s h ks stays) waits
+        (in-time (ledgerSystem k) clientCount placeCount (laws k) who s client slot j ks (ledger h) (in-range k right name named mask ccid h) (keeps-on k right name named mask ccid who s h ks stays) waits
         (subst (λ (l : List Handout). bound * j ≤ length l) (given-is k right name named mask ccid h ks) enough))
 
     -- "while a client stays connected and subscribed, a value owed to it is handed out by the 40th answered take from when it fell due"
@@ -63,9 +63,9 @@ module _ (k : Tables) (right : catalogueRule k ≡ true) (name : List ℕ) (name
   -- "and its result at place k of its waiting results by the 40·k-th, though the other clients write without pause": the first j results that it is then
   -- handed are the j oldest that waited, in their order
   pub results-by-40-each : (who : ℕ) → who < clientCount → (h ks : List Call) → Stays k name mask ccid who controlSlot h ks
-      → (j : ℕ) → j ≤ length (shown (ledger h .side who .waiting)) → bound * j ≤ length (given k name mask ccid h ks)
+      → (j : ℕ) → j ≤ length (shown (ledger h .side who .account .waiting)) → bound * j ≤ length (given k name mask ccid h ks)
       → (j ≤ countFor who controlSlot (firsts (bound * j) (given k name mask ccid h ks)))
-      × (firsts j (handoutsTo who controlSlot (firsts (bound * j) (given k name mask ccid h ks))) ≡ firsts j (shown (ledger h .side who .waiting)))
+      × (firsts j (handoutsTo who controlSlot (firsts (bound * j) (given k name mask ccid h ks))) ≡ firsts j (shown (ledger h .side who .account .waiting)))
   results-by-40-each who client h ks stays j place enough =
       let timely = many-in-time who controlSlot client (omega arith) h ks stays j (results-backlog (ledger h .side who) j place) enough in
       (timely, oldest-first k right name named mask ccid who client h ks stays j (bound * j) place timely)
@@ -83,7 +83,7 @@ module _ (k : Tables) (right : catalogueRule k ≡ true) (name : List ℕ) (name
       (slot-near (ledger h) (in-range k right name named mask ccid h) (w .inside) .holds, refl)
 
   -- "A take lent 128 octets or more is answered whenever anything is owed to any client."
-  pub answered-if-owed : (h : List Call) (room who s : ℕ) → 128 ≤ room → who < clientCount → s < slotCount → owed who s h ≡ true
+  pub answered-if-owed : (h : List Call) (room who s : ℕ) → 128 ≤ room → who < clientCount → s < placeCount → owed who s h ≡ true
       → handedOut k (take room) (deskAt k name mask ccid h) ≡ some (answerIn k (ledger h) (nextIn (ledger h)))
   unfolding nextIn
   answered-if-owed h room who s lent client slot due =

@@ -3,14 +3,14 @@ use mathlib.Core.Path.{_≡_, refl, sym, ap, _∙_, subst}
 use mathlib.Core.Bool.{Bool, true, false, not, _&&_, _||_}
 use mathlib.Core.Logic.{⊎-elim, _⊎_}
 use mathlib.Core.List.{List, [], _∷_, _++_}
-use Prim.Native.Nat.{ℕ, _+_, _-_, _≤_, _<_}
+use Prim.Native.Nat.{ℕ, _+_, _-_, _<_}
 use native.Mathlib.Omega.{arith}
-use borrow.Author.Tests.{eq-eqb, ne-eqb, eqb-true, eqb-false, lt-ltb, le-ltb, ltb-true, le-leb, lt-leb, leb-true, leb-false, not-true, not-false}
+use borrow.Author.Tests.{eq-eqb, ne-eqb, eqb-true, eqb-false, leb-true, leb-false, not-false}
 use lib.Dec.{eqb, ltb, leb}
 use lib.ListN.{length, length-take}
 use Rattle.ground.specs.Cases.{pick, within}
 use Rattle.ground.specs.Words.{wordAt}
-use Rattle.ground.proofs.Cases.{and-left, and-right, clash, le-or}
+use Rattle.ground.proofs.Cases.{and-left, and-right, clash}
 use Rattle.catalogue_tables.specs.Tables.{Tables}
 use Rattle.catalogue_check.specs.Catalogue.{catalogueRule}
 use Rattle.catalogue_check.proofs.Laws.{is-right}
@@ -29,24 +29,26 @@ use Rattle.ground.specs.Refusals.{Row, row, accepted}
 use Rattle.ground.proofs.Rows.{NoneApplies, none-of, state-of}
 use Rattle.desk_client.specs.declared.Client.{Client}
 use Rattle.desk_client.specs.Client.{mostResults, clientRule}
+use Rattle.desk_client.specs.Setters.{withAccount}
 use Rattle.desk_client.specs.Duties.{wasRead, resulted}
-use Rattle.desk_client.proofs.Rule.{connected-sound, sound-connected, few-results}
+use Rattle.desk_client.proofs.Rule.{Linked, connected-linked, linked-connected, account-kept, few-results}
 use Rattle.desk_client.proofs.Kept.{kept-read, kept-resulted}
+use Rattle.desk_client.proofs.SlotBySlot.{resulted-subscribed}
 use Rattle.desk_state.specs.declared.Desk.{Desk}
-use Rattle.desk_state.specs.Desk.{clientAt, withClient}
+use Rattle.desk_state.specs.Desk.{clientAt, withClient, withAccountOf}
 use Rattle.desk_state.proofs.Laws.{player-stands}
 use Rattle.desk_notices.specs.Owed.{byWriter}
 use Rattle.desk_replies.specs.Replies.{fronted, ofCharacteristic, caller}
 use Rattle.desk_exchange.specs.Read.{valueNow, readRows, afterRead, readCall}
 use Rattle.desk_exchange.specs.Write.{firstOctet, lengthRight, writeRows, numberOf, becomingBy, outcomeOf, controlWritten, written, writeCall}
 use Rattle.desk_history.specs.Ledger.{Side, Ledger, becoming, resulting, mayWrite, outcome, resultOf, controlWriting, writing}
-use Rattle.desk_history.proofs.Likeness.{Like, like-read, like-resulted}
+use Rattle.desk_history.proofs.Likeness.{Like, LikeAccount, like-read, like-resulted}
 use Rattle.desk_history.proofs.Agreement.{Agrees, agree-changing, client-kept}
-use Rattle.desk_history.proofs.Steps.{Ok, ok-call, same-rows, ok-becoming, ok-changing, like, rule, sound-of}
+use Rattle.desk_history.proofs.Steps.{Ok, ok-call, same-rows, ok-becoming, ok-account, like, rule, linked-of}
 
 -- as many results wait as the list says
-pub as-many : (x : Side) (c : Client) → Like x c → clientRule c ≡ true → length (x .waiting) ≡ c .waiting
-as-many x c l r = ap length (sym (l .waiting)) ∙ length-take (c .waiting) (c .results) ∙ omega (arith, l .long, few-results c r)
+pub as-many : (x : Side) (c : Client) → Like x c → clientRule c ≡ true → length (x .account .waiting) ≡ c .account .waiting
+as-many x c l r = ap length (sym (l .account .waiting)) ∙ length-take (c .account .waiting) (c .account .results) ∙ omega (arith, l .account .long, few-results c r)
 
 module _ (k : Tables) (right : catalogueRule k ≡ true) (L : Ledger) (d : Desk) (ok : Ok k L d) where
   -- ---- a read: nothing that the ledger knows of changes
@@ -76,29 +78,32 @@ module _ (k : Tables) (right : catalogueRule k ≡ true) (L : Ledger) (d : Desk)
       rows : List Row
       rows = fronted k (ltb room leastOutput) d ++ readRows who own c offset (length (valueNow k d c))
 
-      after-read : (t : Bool) → (h : who < clientCount) → own .connected ≡ true → isIn readables c ≡ true
-          → Like (L .side who) (pick t (wasRead c own) own) × (clientRule (pick t (wasRead c own) own) ≡ true)
-      after-read true h on may =
-          (like-read (L .side who) own (like k right L d ok who h) c, sound-connected (wasRead c own) on (kept-read own (connected-sound own (rule k right L d ok who h) on) c may))
+      after-read : (t : Bool) → (h : who < clientCount) → own .link .connected ≡ true → isIn readables c ≡ true
+          → Like (L .side who) (withAccount (pick t (wasRead c (own .account)) (own .account)) own) × (clientRule (withAccount (pick t (wasRead c (own .account)) (own .account)) own) ≡ true)
+      after-read true h on may = (
+        record { link = like k right L d ok who h .link; account = like-read (L .side who .account) (own .account) (like k right L d ok who h .account) c },
+        let l = connected-linked own (rule k right L d ok who h) on in
+            linked-connected (withAccount (wasRead c (own .account)) own) on (account-kept own (wasRead c (own .account)) l (kept-read (own .account) (l .account) c may) (l .safe)),
+      )
       after-read false h on may = (like k right L d ok who h, rule k right L d ok who h)
 
-      choose : (t : Bool) → accepted rows ≡ t → Ok k L (pick t (withClient who (afterRead c offset own) d) d)
+      choose : (t : Bool) → accepted rows ≡ t → Ok k L (pick t (withAccountOf who (afterRead c offset (own .account)) d) d)
       choose false e = ok
       choose true e =
           let n = none-of rows e in
           let h = leb-false clientCount who (n .1 .1 .1 .0) in
           let a = after-read (eqb offset 0) h (not-false _ (n .1 .1 .1 .1 .0)) (not-false _ (n .1 .1 .1 .1 .1 .1 .0)) in
-          (unchanged who h (afterRead c offset own) (a .0), client-kept k d (ok .1) (ok .0 .long) who h (afterRead c offset own) (a .1))
+          (unchanged who h (withAccount (afterRead c offset (own .account)) own) (a .0), client-kept k d (ok .1) (ok .0 .long) who h (withAccount (afterRead c offset (own .account)) own) (a .1))
 
   -- ---- a write: accepted exactly where the ledger's rows accept
   write-rows : (who c : ℕ) (value : List ℕ)
-      → accepted (writeRows who (caller d who .connected) (caller d who .encrypted) (caller d who .waiting) c value) ≡ mayWrite L who c value
+      → accepted (writeRows who (caller d who .link .connected) (caller d who .link .encrypted) (caller d who .account .waiting) c value) ≡ mayWrite L who c value
   write-rows who c value =
-      same-rows k right L d ok who (rest (caller d who .connected) (caller d who .encrypted) (caller d who .waiting)) (rest (L .side who .on) (L .side who .safe) (length (L .side who .waiting)))
+      same-rows k right L d ok who (rest (caller d who .link .connected) (caller d who .link .encrypted) (caller d who .account .waiting)) (rest (L .side who .link .on) (L .side who .link .safe) (length (L .side who .account .waiting)))
       (λ h.
       let l = like k right L d ok who h in
       let many = as-many (L .side who) (caller d who) l (rule k right L d ok who h) in
-      λ i. accepted (rest (l .on i) (l .safe i) (sym many i)))
+      λ i. accepted (rest (l .link .on i) (l .link .safe i) (sym many i)))
     where
       rest : Bool → Bool → ℕ → List Row
       rest on safe waiting =
@@ -108,13 +113,13 @@ module _ (k : Tables) (right : catalogueRule k ≡ true) (L : Ledger) (d : Desk)
 
   -- what an accepted write tells
   module _ (who c : ℕ) (value : List ℕ) (may : mayWrite L who c value ≡ true) where
-    passed : NoneApplies (writeRows who (L .side who .on) (L .side who .safe) (length (L .side who .waiting)) c value)
-    passed = none-of (writeRows who (L .side who .on) (L .side who .safe) (length (L .side who .waiting)) c value) may
+    passed : NoneApplies (writeRows who (L .side who .link .on) (L .side who .link .safe) (length (L .side who .account .waiting)) c value)
+    passed = none-of (writeRows who (L .side who .link .on) (L .side who .link .safe) (length (L .side who .account .waiting)) c value) may
 
     w-there : who < clientCount
     w-there = leb-false clientCount who (passed .0)
 
-    w-on : L .side who .on ≡ true
+    w-on : L .side who .link .on ≡ true
     w-on = not-false _ (passed .1 .0)
 
     w-in : isIn writables c ≡ true
@@ -129,8 +134,8 @@ module _ (k : Tables) (right : catalogueRule k ≡ true) (L : Ledger) (d : Desk)
         inside false q = sym q
 
     -- a control write finds room for its result
-    w-room : eqb c 18 ≡ true → length (L .side who .waiting) < mostResults
-    w-room e = leb-false mostResults (length (L .side who .waiting)) (sym (λ i. e i && leb mostResults (length (L .side who .waiting))) ∙ passed .1 .1 .1 .1 .1 .1 .1 .0)
+    w-room : eqb c 18 ≡ true → length (L .side who .account .waiting) < mostResults
+    w-room e = leb-false mostResults (length (L .side who .account .waiting)) (sym (λ i. e i && leb mostResults (length (L .side who .account .waiting))) ∙ passed .1 .1 .1 .1 .1 .1 .1 .0)
 
     -- what may be written and is none of 7, 8, 15 is 18
     w-control : eqb c 7 ≡ false → eqb c 8 ≡ false → eqb c 15 ≡ false → eqb c 18 ≡ true
@@ -158,13 +163,13 @@ module _ (k : Tables) (right : catalogueRule k ≡ true) (L : Ledger) (d : Desk)
   fine = player-stands (k .groups) (k .tracks) d (ok .1)
 
   -- a control write: the opcode is carried out, and then its result is noted
-  control-step : (who : ℕ) (value : List ℕ) → who < clientCount → L .side who .on ≡ true → length (L .side who .waiting) < mostResults
+  control-step : (who : ℕ) (value : List ℕ) → who < clientCount → L .side who .link .on ≡ true → length (L .side who .account .waiting) < mostResults
       → Ok k (controlWriting k L who value) (controlWritten k d who value)
   unfolding controlWritten
   control-step who value h on room =
-      ok-changing k right L1 e1 ok1 who h (resulted opcode (code (d .player)) own) (resulting (resultOf k L value)) like2
-      (sound-connected (resulted opcode (code (d .player)) own) (like2 .on ∙ on)
-      (kept-resulted own (sound-of k right L1 e1 ok1 who h on) opcode (code (d .player)) (like1 .long) room1 (code-within opcode (numberOf value) (d .player))))
+      ok-account k right L1 e1 ok1 who h on (resulted opcode (code (d .player)) (own .account)) (resulting (resultOf k L value)) like2
+      (kept-resulted (own .account) (l .account) opcode (code (d .player)) (like1 .account .long) room1 (code-within opcode (numberOf value) (d .player)))
+      (ap (λ (n : ℕ). own .link .encrypted || eqb n 0) (resulted-subscribed (own .account) opcode (code (d .player))) ∙ l .safe)
     where
       opcode : ℕ
       opcode = firstOctet value
@@ -192,18 +197,21 @@ module _ (k : Tables) (right : catalogueRule k ≡ true) (L : Ledger) (d : Desk)
       like1 : Like (L1 .side who) own
       like1 = like k right L1 e1 ok1 who h
 
-      room1 : own .waiting < mostResults
+      room1 : own .account .waiting < mostResults
       room1 = subst (λ (n : ℕ). n < mostResults) (as-many (L1 .side who) own like1 (rule k right L1 e1 ok1 who h)) room
 
-      like2 : Like (resulting (resultOf k L value) (L1 .side who)) (resulted opcode (code (d .player)) own)
+      l : Linked own
+      l = linked-of k right L1 e1 ok1 who h on
+
+      like2 : LikeAccount (resulting (resultOf k L value) (L1 .side who .account)) (resulted opcode (code (d .player)) (own .account))
       like2 =
-          subst (λ (n : ℕ). Like (resulting (record { opcode = firstOctet value; code = n }) (L1 .side who)) (resulted opcode (code (d .player)) own)) (ap code (ok .0 .player))
-          (like-resulted (L1 .side who) own like1 opcode (code (d .player)) room1)
+          subst (λ (n : ℕ). LikeAccount (resulting (record { opcode = firstOctet value; code = n }) (L1 .side who .account)) (resulted opcode (code (d .player)) (own .account)))
+          (ap code (ok .0 .player)) (like-resulted (L1 .side who .account) (own .account) (like1 .account) opcode (code (d .player)) room1)
 
   pub write-step : (who c : ℕ) (value : List ℕ) → Ok k (pick (mayWrite L who c value) (writing k L who c value) L) (writeCall k d who c value .state)
   unfolding writeCall written
   write-step who c value =
-      ok-call k right L d ok false (mayWrite L who c value) (writeRows who (caller d who .connected) (caller d who .encrypted) (caller d who .waiting) c value) _ (writing k L who c value) (write-rows who c value)
+      ok-call k right L d ok false (mayWrite L who c value) (writeRows who (caller d who .link .connected) (caller d who .link .encrypted) (caller d who .account .waiting) c value) _ (writing k L who c value) (write-rows who c value)
       (λ e. carried e (eqb c 7) refl (eqb c 8) refl (eqb c 15) refl)
     where
       carried : mayWrite L who c value ≡ true → (p : Bool) → eqb c 7 ≡ p → (q : Bool) → eqb c 8 ≡ q → (r : Bool) → eqb c 15 ≡ r → Ok k (writing k L who c value) (written k d who c value)

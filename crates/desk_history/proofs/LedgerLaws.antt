@@ -9,7 +9,7 @@ use native.Mathlib.Decide.{ℕ-discrete}
 use native.Mathlib.Nat.{le-refl, le-of-eq}
 use native.Mathlib.Omega.{arith}
 use borrow.Author.Tests.{eq-eqb, ne-eqb, eqb-true, leb-false}
-use lib.Dec.{eqb, leb, ltb}
+use lib.Dec.{eqb, leb}
 use lib.ListN.{length, length-append}
 use Rattle.ground.specs.Cases.{pick}
 use Rattle.ground.specs.Words.{wordAt}
@@ -19,7 +19,7 @@ use Rattle.player_state.specs.declared.Player.{Player}
 use Rattle.player_state.specs.Player.{renamed, deactivated, withOrder, withSpeed}
 use Rattle.player_moves.specs.Clock.{advanced, positioned, activated}
 use Rattle.ground.specs.Refusals.{accepted}
-use Rattle.desk_slots.specs.Slots.{slotCount, clientCount, slotOf}
+use Rattle.desk_slots.specs.Slots.{placeCount, clientCount, slotOf}
 use Rattle.desk_slots.specs.Round.{dist}
 use Rattle.desk_slots.proofs.NextLaws.{Nearest, next-hit, next-nearest}
 use Rattle.desk_client.specs.declared.Entry.{Entry}
@@ -29,14 +29,14 @@ use Rattle.desk_notices.specs.Owed.{noWriter, byWriter}
 use Rattle.desk_console.specs.Console.{nameRows, activateRows, quietAdvance}
 use Rattle.desk_exchange.specs.Write.{firstOctet}
 use Rattle.desk_history.specs.Calls.{Call, setName, activate, deactivate, advance, connect, disconnect, subscribe, unsubscribe, read, write, take}
-use Rattle.desk_history.specs.Ledger.{Side, Ledger, linked, nobody, mayConnect, asks, mayJoin, mayTake, changing, noticing, becoming, joining, leaving, resulting, behind, serving, owes, owedAny, nextIn, slotIn, servingNext, outcome, resultOf, controlWriting, mayWrite, writing, after}
+use Rattle.desk_history.specs.Ledger.{Side, Ledger, onAccount, linked, nobody, mayConnect, asks, mayJoin, mayTake, changing, noticing, becoming, joining, leaving, resulting, behind, serving, passing, owes, owedAny, nextIn, slotIn, servingNext, outcome, resultOf, controlWriting, mayWrite, writing, after}
 use Rattle.desk_history.specs.Rounds.{Handout, isFor, System, Laws}
 use Rattle.desk_history.specs.History.{answerIn, dueOut}
 use Rattle.desk_history.proofs.Serving.{backlog, owes-of, owed-any, any-owed}
 
 -- ---- what a side loses by a call that hands out nothing, while its interest in s is kept: nothing
 abbrev Quiet : ℕ → Side → Side → Type 0
-Quiet s x y = (y .last ≡ x .last) × (backlog x s ≤ backlog y s)
+Quiet s x y = (y .link .last ≡ x .link .last) × (backlog x s ≤ backlog y s)
 
 quiet-same : (s : ℕ) (x : Side) → Quiet s x x
 quiet-same s x = (refl, le-refl _)
@@ -62,10 +62,10 @@ by-slot s a b c d f g =
     ]
 
 module _ (s : ℕ) (x : Side) where
-  quiet-told : (k : Tables) (p q : Player) (cause : Cause) (who : ℕ) → Quiet s x (noticing k p q cause who x)
-  quiet-told k p q cause who = (refl, by-slot s _ _ _ _ (λ e. le-refl _) (λ n. bit-up (x .due s) _))
+  quiet-told : (k : Tables) (p q : Player) (cause : Cause) (who : ℕ) → Quiet s x (onAccount (noticing k p q cause who) x)
+  quiet-told k p q cause who = (refl, by-slot s _ _ _ _ (λ e. le-refl _) (λ n. bit-up (x .account .due s) _))
 
-  quiet-joining : (t : ℕ) → Quiet s x (joining t x)
+  quiet-joining : (t : ℕ) → Quiet s x (onAccount (joining t) x)
   quiet-joining t = (refl, le-refl _)
 
   kept-slot : (a b : Bool) → (a && not b) ≡ true → b ≡ false
@@ -73,20 +73,20 @@ module _ (s : ℕ) (x : Side) where
   kept-slot true false e = refl
   kept-slot false b e = clash e
 
-  quiet-leaving : (t : ℕ) → leaving t x .wants s ≡ true → Quiet s x (leaving t x)
+  quiet-leaving : (t : ℕ) → leaving t (x .account) .wants s ≡ true → Quiet s x (onAccount (leaving t) x)
   quiet-leaving t e =
-      let other : eqb t s ≡ false = kept-slot (x .wants s) (eqb t s) e in (
+      let other : eqb t s ≡ false = kept-slot (x .account .wants s) (eqb t s) e in (
         refl,
         by-slot s _ _ _ _
-            (λ q. le-of-eq (ap (λ (b : Bool). length (pick b [] (x .waiting))) (sym (sym (ap (eqb t) q) ∙ other))))
-            (λ n. bit-kept (x .due s) (eqb t s) other),
+            (λ q. le-of-eq (ap (λ (b : Bool). length (pick b [] (x .account .waiting))) (sym (sym (ap (eqb t) q) ∙ other))))
+            (λ n. bit-kept (x .account .due s) (eqb t s) other),
       )
 
-  quiet-resulting : (e : Entry) → Quiet s x (resulting e x)
-  quiet-resulting e = (refl, by-slot s _ _ _ _ (λ q. grows (x .wants controlSlot)) (λ n. le-refl _))
+  quiet-resulting : (e : Entry) → Quiet s x (onAccount (resulting e) x)
+  quiet-resulting e = (refl, by-slot s _ _ _ _ (λ q. grows (x .account .wants controlSlot)) (λ n. le-refl _))
     where
-      grows : (t : Bool) → length (x .waiting) ≤ length (pick t (x .waiting ++ (e ∷ [])) (x .waiting))
-      grows true = more (x .waiting) (e ∷ [])
+      grows : (t : Bool) → length (x .account .waiting) ≤ length (pick t (x .account .waiting ++ (e ∷ [])) (x .account .waiting))
+      grows true = more (x .account .waiting) (e ∷ [])
       grows false = le-refl _
 
 -- ---- the same of the whole, for client c
@@ -95,7 +95,7 @@ Still c s L M = (M .turn ≡ L .turn) × Quiet s (L .side c) (M .side c)
 
 module _ (c s : ℕ) where
   abbrev Wants : Ledger → Type 0
-  Wants M = M .side c .wants s ≡ true
+  Wants M = M .side c .account .wants s ≡ true
 
   still-same : (L : Ledger) → Still c s L L
   still-same L = (refl, quiet-same s (L .side c))
@@ -105,11 +105,11 @@ module _ (c s : ℕ) where
   still-if true M L f w = f w
   still-if false M L f w = still-same L
 
-  still-changing : (who : ℕ) (f : Side → Side) (L : Ledger) → (f (L .side c) .wants s ≡ true → Quiet s (L .side c) (f (L .side c)))
+  still-changing : (who : ℕ) (f : Side → Side) (L : Ledger) → (f (L .side c) .account .wants s ≡ true → Quiet s (L .side c) (f (L .side c)))
       → Wants (changing who f L) → Still c s L (changing who f L)
   still-changing who f L g w = (refl, go (eqb c who) w)
     where
-      go : (t : Bool) → pick t (f (L .side c)) (L .side c) .wants s ≡ true → Quiet s (L .side c) (pick t (f (L .side c)) (L .side c))
+      go : (t : Bool) → pick t (f (L .side c)) (L .side c) .account .wants s ≡ true → Quiet s (L .side c) (pick t (f (L .side c)) (L .side c))
       go true h = g h
       go false h = quiet-same s (L .side c)
 
@@ -133,8 +133,8 @@ module _ (k : Tables) (c s : ℕ) where
   still (advance step) L e w = still-becoming c s k (noWriter (quietAdvance (k .tracks) step (L .player))) (advanced (k .groups) (k .tracks) step (L .player)) L
   still (connect who mtu encrypted) L e w = still-if c s (mayConnect L who mtu) (changing who (λ y. linked true encrypted mtu) L) L (still-changing c s who (λ y. linked true encrypted mtu) L (λ h. clash h)) w
   still (disconnect who) L e w = still-if c s (asks L who) (changing who (λ y. nobody) L) L (still-changing c s who (λ y. nobody) L (λ h. clash h)) w
-  still (subscribe who x) L e w = still-if c s (mayJoin L who x) (changing who (joining (slotOf x)) L) L (still-changing c s who (joining (slotOf x)) L (λ h. quiet-joining s (L .side c) (slotOf x))) w
-  still (unsubscribe who x) L e w = still-if c s (mayJoin L who x) (changing who (leaving (slotOf x)) L) L (still-changing c s who (leaving (slotOf x)) L (λ h. quiet-leaving s (L .side c) (slotOf x) h)) w
+  still (subscribe who x) L e w = still-if c s (mayJoin L who x) (changing who (onAccount (joining (slotOf x))) L) L (still-changing c s who (onAccount (joining (slotOf x))) L (λ h. quiet-joining s (L .side c) (slotOf x))) w
+  still (unsubscribe who x) L e w = still-if c s (mayJoin L who x) (changing who (onAccount (leaving (slotOf x))) L) L (still-changing c s who (onAccount (leaving (slotOf x))) L (λ h. quiet-leaving s (L .side c) (slotOf x) h)) w
   still (read who x offset room) L e w = still-same c s L
   still (write who x value) L e w = still-if c s (mayWrite L who x value) (writing k L who x value) L written w
     where
@@ -145,7 +145,7 @@ module _ (k : Tables) (c s : ℕ) where
           control h =
               still-both c s L (becoming k (byWriter who 18) (outcome k L value .player) L) (controlWriting k L who value)
               (still-becoming c s k (byWriter who 18) (outcome k L value .player) L)
-              (still-changing c s who (resulting (resultOf k L value)) (becoming k (byWriter who 18) (outcome k L value .player) L) (λ v. quiet-resulting s (becoming k (byWriter who 18) (outcome k L value .player) L .side c) (resultOf k L value)) h)
+              (still-changing c s who (onAccount (resulting (resultOf k L value))) (becoming k (byWriter who 18) (outcome k L value .player) L) (λ v. quiet-resulting s (becoming k (byWriter who 18) (outcome k L value .player) L .side c) (resultOf k L value)) h)
 
           one : (t u v : Bool)
               → Wants c s (pick t (becoming k (byWriter who 7) (positioned (k .tracks) (wordAt value 0) (L .player)) L)
@@ -208,7 +208,7 @@ module _ (k : Tables) where
 
 -- ---- the system
 abbrev pub InRange : Ledger → Type 0
-InRange L = (L .turn < clientCount) × ((c : ℕ) → c < clientCount → L .side c .last < slotCount)
+InRange L = (L .turn < clientCount) × ((c : ℕ) → c < clientCount → L .side c .link .last < placeCount)
 
 abbrev pub ledgerSystem : Tables → System
 ledgerSystem k =
@@ -219,8 +219,8 @@ ledgerSystem k =
       out = dueOut k;
       backlog = λ L c. backlog (L .side c);
       last = λ L. L .turn;
-      slast = λ L c. L .side c .last;
-      Keeps = λ c s call L. after k call L .side c .wants s ≡ true;
+      slast = λ L c. L .side c .link .last;
+      Keeps = λ c s call L. after k call L .side c .account .wants s ≡ true;
       Good = InRange;
     }
 
@@ -234,13 +234,13 @@ module _ (L : Ledger) (good : InRange L) (inside : nextIn L < clientCount) where
   near = next-hit clientCount (λ c. owedAny (L .side c)) (L .turn) (good .0) inside
 
   -- its next slot is the nearest that is owed
-  pub slot-near : Nearest slotCount (owes served) (served .last) (slotIn served)
+  pub slot-near : Nearest placeCount (owes served) (served .link .last) (slotIn served)
   unfolding slotIn
   slot-near =
       let w = any-owed served (near .holds) in
-      next-nearest slotCount (owes served) (served .last) (good .1 (nextIn L) inside) (w .0) (w .1) (w .2)
+      next-nearest placeCount (owes served) (served .link .last) (good .1 (nextIn L) inside) (w .0) (w .1) (w .2)
 
-  pub client-near : (c s : ℕ) → c < clientCount → s < slotCount → owes (L .side c) s ≡ true → dist clientCount (L .turn) (nextIn L) ≤ dist clientCount (L .turn) c
+  pub client-near : (c s : ℕ) → c < clientCount → s < placeCount → owes (L .side c) s ≡ true → dist clientCount (L .turn) (nextIn L) ≤ dist clientCount (L .turn) c
   client-near c s hc hs e = near .least c hc (owed-any (L .side c) s hs e)
 
 -- the one that is served, and the others
@@ -248,11 +248,11 @@ module _ (L : Ledger) (who : ℕ) where
   abbrev then : ℕ → Side
   then c = servingNext L who .side c
 
-  at-served : then who ≡ serving (slotIn (L .side who)) (L .side who)
+  at-served : then who ≡ passing (slotIn (L .side who)) (L .side who)
   at-served = sym (here (L .side who) (eq-eqb who who refl) refl)
 
   at-other : (c : ℕ) → (c ≡ who → ⊥) → then c ≡ L .side c
-  at-other c n = sym (past (serving (slotIn (L .side c)) (L .side c)) (ne-eqb c who n) refl)
+  at-other c n = sym (past (passing (slotIn (L .side c)) (L .side c)) (ne-eqb c who n) refl)
 
 rest-length : (l : List Entry) → length l ≤ suc (length (behind l))
 rest-length [] = zero-le
@@ -264,24 +264,24 @@ bit-one false n = zero-le
 
 module _ (x : Side) (t : ℕ) where
   -- serving a slot takes one thing from it
-  serving-takes : backlog x t ≤ suc (backlog (serving t x) t)
+  serving-takes : backlog x t ≤ suc (backlog (passing t x) t)
   serving-takes =
       elim (ℕ-discrete t controlSlot) [
         | yes e ↦
-            subst (λ (b : Bool). pick b (length (x .waiting)) (pick (x .due t) 1 0) ≤ suc (pick b (length (pick b (behind (x .waiting)) (x .waiting))) (pick (x .due t && not (eqb t t)) 1 0)))
-            (sym (eq-eqb t controlSlot e)) (rest-length (x .waiting))
+            subst (λ (b : Bool). pick b (length (x .account .waiting)) (pick (x .account .due t) 1 0) ≤ suc (pick b (length (pick b (behind (x .account .waiting)) (x .account .waiting))) (pick (x .account .due t && not (eqb t t)) 1 0)))
+            (sym (eq-eqb t controlSlot e)) (rest-length (x .account .waiting))
         | no n ↦
-            subst (λ (b : Bool). pick b (length (x .waiting)) (pick (x .due t) 1 0) ≤ suc (pick b (length (pick b (behind (x .waiting)) (x .waiting))) (pick (x .due t && not (eqb t t)) 1 0)))
-            (sym (ne-eqb t controlSlot n)) (bit-one (x .due t) _)
+            subst (λ (b : Bool). pick b (length (x .account .waiting)) (pick (x .account .due t) 1 0) ≤ suc (pick b (length (pick b (behind (x .account .waiting)) (x .account .waiting))) (pick (x .account .due t && not (eqb t t)) 1 0)))
+            (sym (ne-eqb t controlSlot n)) (bit-one (x .account .due t) _)
       ]
 
   -- and nothing from another
-  serving-keeps : (s : ℕ) → (s ≡ t → ⊥) → backlog x s ≤ backlog (serving t x) s
+  serving-keeps : (s : ℕ) → (s ≡ t → ⊥) → backlog x s ≤ backlog (passing t x) s
   serving-keeps s n =
       let other : eqb t s ≡ false = ne-eqb t s (λ e. n (sym e)) in
       by-slot s _ _ _ _
-      (λ e. le-of-eq (ap (λ (b : Bool). length (pick b (behind (x .waiting)) (x .waiting))) (sym (sym (ap (eqb t) e) ∙ other))))
-      (λ m. bit-kept (x .due s) (eqb t s) other)
+      (λ e. le-of-eq (ap (λ (b : Bool). length (pick b (behind (x .account .waiting)) (x .account .waiting))) (sym (sym (ap (eqb t) e) ∙ other))))
+      (λ m. bit-kept (x .account .due s) (eqb t s) other)
 
 -- an answer that is not for slot s of client c is for another client, or for another slot
 not-for : (c s : ℕ) (a : Handout) → isFor c s a ≡ false → (c ≡ a .client → ⊥) ⊎ ((c ≡ a .client) × (s ≡ a .slot → ⊥))
@@ -297,7 +297,7 @@ for-both false b e = clash e
 
 -- ---- the marks of a call that hands out nothing: where they were, or at the end of the round
 abbrev Mark : Side → Side → Type 0
-Mark x y = (y .last ≡ x .last) ⊎ (y .last ≡ slotCount - 1)
+Mark x y = (y .link .last ≡ x .link .last) ⊎ (y .link .last ≡ placeCount - 1)
 
 abbrev Marks : Ledger → Ledger → Type 0
 Marks L M = (M .turn ≡ L .turn) × ((c : ℕ) → Mark (L .side c) (M .side c))
@@ -328,8 +328,8 @@ module _ (k : Tables) where
   marks (advance step) L e = marks-becoming k (noWriter (quietAdvance (k .tracks) step (L .player))) (advanced (k .groups) (k .tracks) step (L .player)) L
   marks (connect who mtu encrypted) L e = marks-if (mayConnect L who mtu) (changing who (λ y. linked true encrypted mtu) L) L (marks-changing who (λ y. linked true encrypted mtu) L (λ y. inr refl))
   marks (disconnect who) L e = marks-if (asks L who) (changing who (λ y. nobody) L) L (marks-changing who (λ y. nobody) L (λ y. inr refl))
-  marks (subscribe who x) L e = marks-if (mayJoin L who x) (changing who (joining (slotOf x)) L) L (marks-changing who (joining (slotOf x)) L (λ y. inl refl))
-  marks (unsubscribe who x) L e = marks-if (mayJoin L who x) (changing who (leaving (slotOf x)) L) L (marks-changing who (leaving (slotOf x)) L (λ y. inl refl))
+  marks (subscribe who x) L e = marks-if (mayJoin L who x) (changing who (onAccount (joining (slotOf x))) L) L (marks-changing who (onAccount (joining (slotOf x))) L (λ y. inl refl))
+  marks (unsubscribe who x) L e = marks-if (mayJoin L who x) (changing who (onAccount (leaving (slotOf x))) L) L (marks-changing who (onAccount (leaving (slotOf x))) L (λ y. inl refl))
   marks (read who x offset room) L e = marks-same L
   marks (write who x value) L e = marks-if (mayWrite L who x value) (writing k L who x value) L (one (eqb x 7) (eqb x 8) (eqb x 15))
     where
@@ -341,7 +341,7 @@ module _ (k : Tables) where
       one false true v = marks-becoming k (byWriter who 8) (withSpeed (firstOctet value) (L .player)) L
       one false false true = marks-becoming k (byWriter who 15) (withOrder (firstOctet value) (L .player)) L
       one false false false =
-          marks-changing who (resulting (resultOf k L value)) (becoming k (byWriter who 18) (outcome k L value .player) L) (λ y. inl refl)
+          marks-changing who (onAccount (resulting (resultOf k L value))) (becoming k (byWriter who 18) (outcome k L value .player) L) (λ y. inl refl)
   marks (take room) L e = go (mayTake room) (leb clientCount (nextIn L)) e
     where
       go : (t u : Bool) → pick t (pick u none (some (answerIn k L (nextIn L)))) none ≡ none → Marks L (pick t (pick u L (servingNext L (nextIn L))) L)
@@ -354,9 +354,9 @@ module _ (k : Tables) where
   in-range call L g = go (dueOut k call L) refl
     where
       -- a mark is where it was, or at the end of its round
-      kept : (c : ℕ) → c < clientCount → (x y : Side) → (y .last ≡ x .last) ⊎ (y .last ≡ slotCount - 1) → x .last < slotCount → y .last < slotCount
-      kept c h x y (inl e) l = subst (λ (n : ℕ). n < slotCount) (sym e) l
-      kept c h x y (inr e) l = subst (λ (n : ℕ). n < slotCount) (sym e) (omega arith)
+      kept : (c : ℕ) → c < clientCount → (x y : Side) → (y .link .last ≡ x .link .last) ⊎ (y .link .last ≡ placeCount - 1) → x .link .last < placeCount → y .link .last < placeCount
+      kept c h x y (inl e) l = subst (λ (n : ℕ). n < placeCount) (sym e) l
+      kept c h x y (inr e) l = subst (λ (n : ℕ). n < placeCount) (sym e) (omega arith)
 
       go : (o : Option Handout) → dueOut k call L ≡ o → InRange (after k call L)
       go (some a) e =
@@ -364,8 +364,8 @@ module _ (k : Tables) where
           subst InRange (sym (w .leaves)) (
             w .inside,
             λ c h. elim (ℕ-discrete c (nextIn L)) [
-              | yes q ↦ subst (λ (n : ℕ). servingNext L (nextIn L) .side n .last < slotCount) (sym q) (subst (λ (x : Side). x .last < slotCount) (sym (at-served L (nextIn L))) (slot-near L g (w .inside) .inside))
-              | no n ↦ subst (λ (x : Side). x .last < slotCount) (sym (at-other L (nextIn L) c n)) (g .1 c h)
+              | yes q ↦ subst (λ (n : ℕ). servingNext L (nextIn L) .side n .link .last < placeCount) (sym q) (subst (λ (x : Side). x .link .last < placeCount) (sym (at-served L (nextIn L))) (slot-near L g (w .inside) .inside))
+              | no n ↦ subst (λ (x : Side). x .link .last < placeCount) (sym (at-other L (nextIn L) c n)) (g .1 c h)
             ],
           )
       go none e =
@@ -382,7 +382,7 @@ module _ (k : Tables) where
       subst (λ (M : Ledger). backlog (L .side c) s ≤ suc (backlog (M .side c) s)) (sym (w .leaves))
       (subst (λ (n : ℕ). backlog (L .side n) s ≤ suc (backlog (servingNext L (nextIn L) .side n) s)) (sym who)
       (subst (λ (x : Side). backlog (L .side (nextIn L)) s ≤ suc (backlog x s)) (sym (at-served L (nextIn L)))
-      (subst (λ (t : ℕ). backlog (L .side (nextIn L)) t ≤ suc (backlog (serving (slotIn (L .side (nextIn L))) (L .side (nextIn L))) t)) (sym slot)
+      (subst (λ (t : ℕ). backlog (L .side (nextIn L)) t ≤ suc (backlog (passing (slotIn (L .side (nextIn L))) (L .side (nextIn L))) t)) (sym slot)
       (serving-takes (L .side (nextIn L)) (slotIn (L .side (nextIn L)))))))
 
   kept-others : (call : Call) (L : Ledger) (a : Handout) (c s : ℕ) → InRange L → dueOut k call L ≡ some a → isFor c s a ≡ false
@@ -399,7 +399,7 @@ module _ (k : Tables) where
       (serving-keeps (L .side (nextIn L)) (slotIn (L .side (nextIn L))) s (λ q. p .1 (q ∙ sym slot)))))
       (not-for c s a f))
 
-  pub laws : Laws (ledgerSystem k) clientCount slotCount
+  pub laws : Laws (ledgerSystem k) clientCount placeCount
   laws =
       record {
         good = in-range;
@@ -407,25 +407,25 @@ module _ (k : Tables) where
         slast< = λ L c g h. g .1 c h;
         client< = λ call L a g e. let w = serves k call L a e in subst (λ (b : Handout). b .client < clientCount) (sym (w .is)) (w .inside);
         slot< = λ call L a g e.
-            let w = serves k call L a e in subst (λ (b : Handout). b .slot < slotCount) (sym (w .is)) (slot-near L g (w .inside) .inside);
+            let w = serves k call L a e in subst (λ (b : Handout). b .slot < placeCount) (sym (w .is)) (slot-near L g (w .inside) .inside);
         first-client = λ call L a g e c s hc hs b.
             let w = serves k call L a e in
             subst (λ (x : Handout). dist clientCount (L .turn) (x .client) ≤ dist clientCount (L .turn) c) (sym (w .is))
             (client-near L g (w .inside) c s hc hs (owes-of (L .side c) s b));
         first-slot = λ call L a g e s hs.
             let w = serves k call L a e in
-            subst (λ (x : Handout). 1 ≤ backlog (L .side (x .client)) s → dist slotCount (L .side (x .client) .last) (x .slot) ≤ dist slotCount (L .side (x .client) .last) s) (sym (w .is))
+            subst (λ (x : Handout). 1 ≤ backlog (L .side (x .client)) s → dist placeCount (L .side (x .client) .link .last) (x .slot) ≤ dist placeCount (L .side (x .client) .link .last) s) (sym (w .is))
             (λ b. slot-near L g (w .inside) .least s hs (owes-of (L .side (nextIn L)) s b));
         last-served = λ call L a g e.
             let w = serves k call L a e in ap (λ (M : Ledger). M .turn) (w .leaves) ∙ sym (ap (λ (x : Handout). x .client) (w .is));
         slast-served = λ call L a g e.
             let w = serves k call L a e in
-            subst (λ (x : Handout). after k call L .side (x .client) .last ≡ x .slot) (sym (w .is))
-            (ap (λ (M : Ledger). M .side (nextIn L) .last) (w .leaves) ∙ ap (λ (x : Side). x .last) (at-served L (nextIn L)));
+            subst (λ (x : Handout). after k call L .side (x .client) .link .last ≡ x .slot) (sym (w .is))
+            (ap (λ (M : Ledger). M .side (nextIn L) .link .last) (w .leaves) ∙ ap (λ (x : Side). x .link .last) (at-served L (nextIn L)));
         slast-other = λ call L a g e c n.
             let w = serves k call L a e in
-            ap (λ (M : Ledger). M .side c .last) (w .leaves)
-            ∙ ap (λ (x : Side). x .last) (at-other L (nextIn L) c (λ q. n (q ∙ sym (ap (λ (x : Handout). x .client) (w .is)))));
+            ap (λ (M : Ledger). M .side c .link .last) (w .leaves)
+            ∙ ap (λ (x : Side). x .link .last) (at-other L (nextIn L) c (λ q. n (q ∙ sym (ap (λ (x : Handout). x .client) (w .is)))));
         last-kept = λ call L c s g kp e. still k c s call L e kp .0;
         slast-kept = λ call L c s g kp e. still k c s call L e kp .1 .0;
         one-less = λ call L a c s g e f. taken call L a c s g e f;

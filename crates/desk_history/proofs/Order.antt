@@ -77,27 +77,27 @@ module _ (k : Tables) (right : catalogueRule k ≡ true) (name : List ℕ) (name
   L h = ledgerAt k name mask ccid h
 
   abbrev waits : List Call → Lists
-  waits h = shown (L h .side who .waiting)
+  waits h = shown (L h .side who .account .waiting)
 
   abbrev out : Call → List Call → Lists
   out c h = handoutsTo who controlSlot (prepend (handedOut k c (deskAt k name mask ccid h)) [])
 
-  a-turn : (c : Call) (h : List Call) → Turn (L h .side who .wants controlSlot) (L (c ∷ h) .side who .wants controlSlot) (waits h) (resultBy k who c (L h)) (out c h) (waits (c ∷ h))
+  a-turn : (c : Call) (h : List Call) → Turn (L h .side who .account .wants controlSlot) (L (c ∷ h) .side who .account .wants controlSlot) (waits h) (resultBy k who c (L h)) (out c h) (waits (c ∷ h))
   a-turn c h =
-      subst (λ (o : Option Handout). Turn (L h .side who .wants controlSlot) (L (c ∷ h) .side who .wants controlSlot) (waits h) (resultBy k who c (L h)) (handoutsTo who controlSlot (prepend o [])) (waits (c ∷ h)))
+      subst (λ (o : Option Handout). Turn (L h .side who .account .wants controlSlot) (L (c ∷ h) .side who .account .wants controlSlot) (waits h) (resultBy k who c (L h)) (handoutsTo who controlSlot (prepend o [])) (waits (c ∷ h)))
       (sym (hands-at k right name named mask ccid c h)) (turn k who c (L h) (in-range k right name named mask ccid h) (mtu-at k right name named mask ccid h who there))
 
   -- one call, while subscribed: what waited, with the call's own result, is what it hands out and what then waits
-  in-turn : (c : Call) (h : List Call) → L h .side who .wants controlSlot ≡ true → L (c ∷ h) .side who .wants controlSlot ≡ true → waits h ++ resultBy k who c (L h) ≡ out c h ++ waits (c ∷ h)
+  in-turn : (c : Call) (h : List Call) → L h .side who .account .wants controlSlot ≡ true → L (c ∷ h) .side who .account .wants controlSlot ≡ true → waits h ++ resultBy k who c (L h) ≡ out c h ++ waits (c ∷ h)
   in-turn c h before later = go (a-turn c h)
     where
-      go : Turn (L h .side who .wants controlSlot) (L (c ∷ h) .side who .wants controlSlot) (waits h) (resultBy k who c (L h)) (out c h) (waits (c ∷ h)) → waits h ++ resultBy k who c (L h) ≡ out c h ++ waits (c ∷ h)
+      go : Turn (L h .side who .account .wants controlSlot) (L (c ∷ h) .side who .account .wants controlSlot) (waits h) (resultBy k who c (L h)) (out c h) (waits (c ∷ h)) → waits h ++ resultBy k who c (L h) ≡ out c h ++ waits (c ∷ h)
       go (adds e f) = sym ((λ i. e i ++ waits (c ∷ h)) ∙ f)
       go (keeps e f g) = (λ i. waits h ++ g before i) ∙ append-nil (waits h) ∙ sym ((λ i. e i ++ waits (c ∷ h)) ∙ f)
       go (drops e f g) = absurd (g later)
       go (hands e f) = (λ i. waits h ++ e i) ∙ append-nil (waits h) ∙ f
 
-  still : (h ks : List Call) → Stays k name mask ccid who controlSlot h ks → L h .side who .wants controlSlot ≡ true
+  still : (h ks : List Call) → Stays k name mask ccid who controlSlot h ks → L h .side who .account .wants controlSlot ≡ true
   still h [] st = st
   still h (c ∷ ks) st = st .0
 
@@ -149,7 +149,7 @@ module _ (k : Tables) (right : catalogueRule k ≡ true) (name : List ℕ) (name
       none-out : out c h ≡ [] → (later : Lists) → waits (c ∷ h) ≡ later → (H ++ out c h) ++ waits (c ∷ h) ≡ H ++ later
       none-out e later f = (λ i. (H ++ e i) ++ f i) ∙ ap (λ (l : Lists). l ++ later) (append-nil H)
 
-      go : Among (H ++ waits h) A → Turn (L h .side who .wants controlSlot) (L (c ∷ h) .side who .wants controlSlot) (waits h) R (out c h) (waits (c ∷ h)) → Among ((H ++ out c h) ++ waits (c ∷ h)) (A ++ R)
+      go : Among (H ++ waits h) A → Turn (L h .side who .account .wants controlSlot) (L (c ∷ h) .side who .account .wants controlSlot) (waits h) R (out c h) (waits (c ∷ h)) → Among ((H ++ out c h) ++ waits (c ∷ h)) (A ++ R)
       go more (adds e f) = subst (λ (l : Lists). Among l (A ++ R)) (append-assoc H (waits h) R ∙ sym (none-out e (waits h ++ R) f)) (among-both R more)
       go more (keeps e f g) = subst (λ (l : Lists). Among l (A ++ R)) (sym (none-out e (waits h) f)) (among-trans more (among-left A R))
       go more (drops e f g) = subst (λ (l : Lists). Among l (A ++ R)) (sym (none-out e [] f)) (among-trans (subst (λ (l : Lists). Among l (H ++ waits h)) (sym (append-nil H)) (among-left H (waits h))) (among-trans more (among-left A R)))

@@ -8,7 +8,7 @@ use Prim.Native.Nat.{ℕ, _-_, _≤_, _<_}
 use native.Mathlib.Decide.{ℕ-discrete}
 use native.Mathlib.Omega.{arith}
 use borrow.Author.Tests.{eq-eqb, ne-eqb, eqb-true, eqb-false, leb-false, not-false}
-use lib.Dec.{eqb, leb, ltb}
+use lib.Dec.{eqb, leb}
 use lib.ListN.{length, take as firsts}
 use lib.Seq.{take-all}
 use Rattle.ground.specs.Cases.{pick}
@@ -31,7 +31,7 @@ use Rattle.desk_console.specs.Console.{nameRows, activateRows, quietAdvance}
 use Rattle.desk_exchange.specs.Write.{firstOctet, writeRows}
 use Rattle.desk_take.specs.Serving.{resultOctets}
 use Rattle.desk_history.specs.Calls.{Call, setName, activate, deactivate, advance, connect, disconnect, subscribe, unsubscribe, read, write, take}
-use Rattle.desk_history.specs.Ledger.{Side, Ledger, linked, nobody, changing, becoming, joining, leaving, resulting, behind, serving, anyWaits as any, owes, nextIn, slotIn, servingNext, mayConnect, asks, mayJoin, mayWrite, mayTake, outcome, resultOf, controlWriting, writing, after}
+use Rattle.desk_history.specs.Ledger.{Side, Ledger, linked, nobody, changing, onAccount, becoming, joining, leaving, resulting, behind, passing, anyWaits as any, owes, nextIn, slotIn, servingNext, mayConnect, asks, mayJoin, mayWrite, mayTake, outcome, resultOf, controlWriting, writing, after}
 use Rattle.desk_history.specs.Rounds.{prepend}
 use Rattle.desk_history.specs.History.{oldest, octetsIn, answerIn, dueOut, resultBy, handoutsTo}
 use Rattle.desk_history.proofs.LedgerLaws.{InRange, slot-near}
@@ -53,12 +53,12 @@ shown-append (e ∷ l) r = ap (λ (t : List (List ℕ)). resultOctets e ∷ t) (
 
 -- what may be written is one of the four
 may-in : (L : Ledger) (who x : ℕ) (value : List ℕ) → mayWrite L who x value ≡ true → isIn writables x ≡ true
-may-in L who x value e = not-false _ (none-of (writeRows who (L .side who .on) (L .side who .safe) (length (L .side who .waiting)) x value) e .1 .1 .1 .0)
+may-in L who x value e = not-false _ (none-of (writeRows who (L .side who .link .on) (L .side who .link .safe) (length (L .side who .account .waiting)) x value) e .1 .1 .1 .0)
 
 -- a side and what becomes of it, by a call that hands out nothing and has no result for it
 module _ (c : ℕ) where
   abbrev Now : Ledger → Ledger → List (List ℕ) → Type 0
-  Now L M R = Turn (L .side c .wants controlSlot) (M .side c .wants controlSlot) (shown (L .side c .waiting)) R [] (shown (M .side c .waiting))
+  Now L M R = Turn (L .side c .account .wants controlSlot) (M .side c .account .wants controlSlot) (shown (L .side c .account .waiting)) R [] (shown (M .side c .account .waiting))
 
   same : (L : Ledger) → Now L L []
   same L = keeps refl refl (λ e. refl)
@@ -71,7 +71,7 @@ module _ (c : ℕ) where
   becoming-turn k cause q L = keeps refl refl (λ e. refl)
 
   abbrev OfSide : Side → Side → List (List ℕ) → Type 0
-  OfSide x y R = Turn (x .wants controlSlot) (y .wants controlSlot) (shown (x .waiting)) R [] (shown (y .waiting))
+  OfSide x y R = Turn (x .account .wants controlSlot) (y .account .wants controlSlot) (shown (x .account .waiting)) R [] (shown (y .account .waiting))
 
   changing-turn : (who : ℕ) (f : Side → Side) (L : Ledger) → OfSide (L .side c) (f (L .side c)) [] → Now L (changing who f L) []
   changing-turn who f L g = go (eqb c who)
@@ -83,28 +83,28 @@ module _ (c : ℕ) where
   gone : (x : Side) (on safe : Bool) (mtu : ℕ) → OfSide x (linked on safe mtu) []
   gone x on safe mtu = drops refl refl (λ e. true≢false (sym e))
 
-  left-side : (x : Side) (s : ℕ) → OfSide x (leaving s x) []
+  left-side : (x : Side) (s : ℕ) → OfSide x (onAccount (leaving s) x) []
   left-side x s = go (eqb s controlSlot) refl
     where
-      go : (t : Bool) → eqb s controlSlot ≡ t → Turn (x .wants controlSlot) (x .wants controlSlot && not (eqb s controlSlot)) (shown (x .waiting)) [] [] (shown (pick (eqb s controlSlot) [] (x .waiting)))
-      go true e = drops refl (ap (λ (b : Bool). shown (pick b [] (x .waiting))) e) (λ w. true≢false (sym (sym (λ i. x .wants controlSlot && not (e i)) ∙ w) ∙ never (x .wants controlSlot)))
+      go : (t : Bool) → eqb s controlSlot ≡ t → Turn (x .account .wants controlSlot) (x .account .wants controlSlot && not (eqb s controlSlot)) (shown (x .account .waiting)) [] [] (shown (pick (eqb s controlSlot) [] (x .account .waiting)))
+      go true e = drops refl (ap (λ (b : Bool). shown (pick b [] (x .account .waiting))) e) (λ w. true≢false (sym (sym (λ i. x .account .wants controlSlot && not (e i)) ∙ w) ∙ never (x .account .wants controlSlot)))
         where
           never : (b : Bool) → (b && false) ≡ false
           never true = refl
           never false = refl
-      go false e = keeps refl (ap (λ (b : Bool). shown (pick b [] (x .waiting))) e) (λ w. refl)
+      go false e = keeps refl (ap (λ (b : Bool). shown (pick b [] (x .account .waiting))) e) (λ w. refl)
 
 module _ (k : Tables) (c : ℕ) where
   -- a control write: its result behind the others, for a writer that is subscribed
   control-turn : (who : ℕ) (value : List ℕ) (L : Ledger) → Now c L (controlWriting k L who value) (pick (eqb c who) (resultOctets (resultOf k L value) ∷ []) [])
-  control-turn who value L = go (eqb c who) (L .side c .wants controlSlot) refl
+  control-turn who value L = go (eqb c who) (L .side c .account .wants controlSlot) refl
     where
-      go : (t w : Bool) → L .side c .wants controlSlot ≡ w
-          → Turn (L .side c .wants controlSlot) (pick t (resulting (resultOf k L value) (becoming k (byWriter who 18) (outcome k L value .player) L .side c)) (becoming k (byWriter who 18) (outcome k L value .player) L .side c) .wants controlSlot)
-          (shown (L .side c .waiting)) (pick t (resultOctets (resultOf k L value) ∷ []) []) []
-          (shown (pick t (resulting (resultOf k L value) (becoming k (byWriter who 18) (outcome k L value .player) L .side c)) (becoming k (byWriter who 18) (outcome k L value .player) L .side c) .waiting))
-      go true true e = adds refl (ap (λ (b : Bool). shown (pick b (L .side c .waiting ++ (resultOf k L value ∷ [])) (L .side c .waiting))) e ∙ shown-append (L .side c .waiting) (resultOf k L value ∷ []))
-      go true false e = keeps refl (ap (λ (b : Bool). shown (pick b (L .side c .waiting ++ (resultOf k L value ∷ [])) (L .side c .waiting))) e) (λ w. absurd (true≢false (sym w ∙ e)))
+      go : (t w : Bool) → L .side c .account .wants controlSlot ≡ w
+          → Turn (L .side c .account .wants controlSlot) (pick t (onAccount (resulting (resultOf k L value)) (becoming k (byWriter who 18) (outcome k L value .player) L .side c)) (becoming k (byWriter who 18) (outcome k L value .player) L .side c) .account .wants controlSlot)
+          (shown (L .side c .account .waiting)) (pick t (resultOctets (resultOf k L value) ∷ []) []) []
+          (shown (pick t (onAccount (resulting (resultOf k L value)) (becoming k (byWriter who 18) (outcome k L value .player) L .side c)) (becoming k (byWriter who 18) (outcome k L value .player) L .side c) .account .waiting))
+      go true true e = adds refl (ap (λ (b : Bool). shown (pick b (L .side c .account .waiting ++ (resultOf k L value ∷ [])) (L .side c .account .waiting))) e ∙ shown-append (L .side c .account .waiting) (resultOf k L value ∷ []))
+      go true false e = keeps refl (ap (λ (b : Bool). shown (pick b (L .side c .account .waiting ++ (resultOf k L value ∷ [])) (L .side c .account .waiting))) e) (λ w. absurd (true≢false (sym w ∙ e)))
       go false w e = keeps refl refl (λ v. refl)
 
   -- the result of a write that is accepted
@@ -152,12 +152,12 @@ module _ (k : Tables) (c : ℕ) where
           (subst (Now c L (controlWriting k L who value)) (λ i. pick (eqb c who) (pick (sym e i) (resultOctets (resultOf k L value) ∷ []) []) []) (control-turn who value L))
 
   -- a client that is served: the oldest result, where it is 18's turn
-  served-turn : (L : Ledger) (m : 23 ≤ L .side c .mtu) (s : ℕ) → (s ≡ controlSlot → any (L .side c .waiting) ≡ true)
-      → shown (L .side c .waiting) ≡ pick (eqb controlSlot s) (octetsIn k (L .player) (L .side c) s ∷ []) [] ++ shown (pick (eqb s controlSlot) (behind (L .side c .waiting)) (L .side c .waiting))
+  served-turn : (L : Ledger) (m : 23 ≤ L .side c .link .mtu) (s : ℕ) → (s ≡ controlSlot → any (L .side c .account .waiting) ≡ true)
+      → shown (L .side c .account .waiting) ≡ pick (eqb controlSlot s) (octetsIn k (L .player) (L .side c) s ∷ []) [] ++ shown (pick (eqb s controlSlot) (behind (L .side c .account .waiting)) (L .side c .account .waiting))
   served-turn L m s f = at (ℕ-discrete s controlSlot)
     where
       W : List Entry
-      W = L .side c .waiting
+      W = L .side c .account .waiting
 
       oldest-shown : (l : List Entry) (n : ℕ) → 2 ≤ n → any l ≡ true → shown l ≡ firsts n (oldest l) ∷ shown (behind l)
       oldest-shown [] n h e = clash e
@@ -165,15 +165,15 @@ module _ (k : Tables) (c : ℕ) where
 
       at : Dec (s ≡ controlSlot) → shown W ≡ pick (eqb controlSlot s) (octetsIn k (L .player) (L .side c) s ∷ []) [] ++ shown (pick (eqb s controlSlot) (behind W) W)
       at (yes e) =
-          oldest-shown W (L .side c .mtu - 3) (omega arith) (f e)
-          ∙ (λ i. pick (sym (eq-eqb controlSlot s (sym e)) i) (firsts (L .side c .mtu - 3) (pick (sym (eq-eqb s controlSlot e) i) (oldest W) (valueOf (sourceOf k) (L .player) (characteristicOf s))) ∷ []) [] ++ shown (pick (sym (eq-eqb s controlSlot e) i) (behind W) W))
+          oldest-shown W (L .side c .link .mtu - 3) (omega arith) (f e)
+          ∙ (λ i. pick (sym (eq-eqb controlSlot s (sym e)) i) (firsts (L .side c .link .mtu - 3) (pick (sym (eq-eqb s controlSlot e) i) (oldest W) (valueOf (sourceOf k) (L .player) (characteristicOf s))) ∷ []) [] ++ shown (pick (sym (eq-eqb s controlSlot e) i) (behind W) W))
       at (no n) =
           λ i. pick (sym (ne-eqb controlSlot s (λ e. n (sym e))) i) (octetsIn k (L .player) (L .side c) s ∷ []) [] ++ shown (pick (sym (ne-eqb s controlSlot n) i) (behind W) W)
 
   -- every call
-  pub turn : (call : Call) (L : Ledger) → InRange L → 23 ≤ L .side c .mtu
-      → Turn (L .side c .wants controlSlot) (after k call L .side c .wants controlSlot) (shown (L .side c .waiting)) (resultBy k c call L) (handoutsTo c controlSlot (prepend (dueOut k call L) []))
-      (shown (after k call L .side c .waiting))
+  pub turn : (call : Call) (L : Ledger) → InRange L → 23 ≤ L .side c .link .mtu
+      → Turn (L .side c .account .wants controlSlot) (after k call L .side c .account .wants controlSlot) (shown (L .side c .account .waiting)) (resultBy k c call L) (handoutsTo c controlSlot (prepend (dueOut k call L) []))
+      (shown (after k call L .side c .account .waiting))
   turn (setName name) L g m = by-test c (accepted (nameRows name)) (becoming k (noWriter false) (renamed name (L .player)) L) L (becoming-turn c k (noWriter false) (renamed name (L .player)) L)
   turn (activate n) L g m =
       by-test c (accepted (activateRows k n)) (becoming k (noWriter false) (activated (k .groups) (k .tracks) n (L .player)) L) L
@@ -184,8 +184,8 @@ module _ (k : Tables) (c : ℕ) where
       by-test c (mayConnect L who mtu) (changing who (λ x. linked true encrypted mtu) L) L
       (changing-turn c who (λ x. linked true encrypted mtu) L (gone c (L .side c) true encrypted mtu))
   turn (disconnect who) L g m = by-test c (asks L who) (changing who (λ x. nobody) L) L (changing-turn c who (λ x. nobody) L (gone c (L .side c) false false 23))
-  turn (subscribe who x) L g m = by-test c (mayJoin L who x) (changing who (joining (slotOf x)) L) L (changing-turn c who (joining (slotOf x)) L (keeps refl refl (λ e. refl)))
-  turn (unsubscribe who x) L g m = by-test c (mayJoin L who x) (changing who (leaving (slotOf x)) L) L (changing-turn c who (leaving (slotOf x)) L (left-side c (L .side c) (slotOf x)))
+  turn (subscribe who x) L g m = by-test c (mayJoin L who x) (changing who (onAccount (joining (slotOf x))) L) L (changing-turn c who (onAccount (joining (slotOf x))) L (keeps refl refl (λ e. refl)))
+  turn (unsubscribe who x) L g m = by-test c (mayJoin L who x) (changing who (onAccount (leaving (slotOf x))) L) L (changing-turn c who (onAccount (leaving (slotOf x))) L (left-side c (L .side c) (slotOf x)))
   turn (read who x offset room) L g m = same c L
   turn (write who x value) L g m = go (mayWrite L who x value) refl
     where
@@ -195,23 +195,23 @@ module _ (k : Tables) (c : ℕ) where
   turn (take room) L g m = go (mayTake room) (leb clientCount (nextIn L)) refl
     where
       go : (t u : Bool) → leb clientCount (nextIn L) ≡ u
-          → Turn (L .side c .wants controlSlot) (pick t (pick u L (servingNext L (nextIn L))) L .side c .wants controlSlot) (shown (L .side c .waiting)) []
-          (handoutsTo c controlSlot (prepend (pick t (pick u none (some (answerIn k L (nextIn L)))) none) [])) (shown (pick t (pick u L (servingNext L (nextIn L))) L .side c .waiting))
+          → Turn (L .side c .account .wants controlSlot) (pick t (pick u L (servingNext L (nextIn L))) L .side c .account .wants controlSlot) (shown (L .side c .account .waiting)) []
+          (handoutsTo c controlSlot (prepend (pick t (pick u none (some (answerIn k L (nextIn L)))) none) [])) (shown (pick t (pick u L (servingNext L (nextIn L))) L .side c .account .waiting))
       go true true e = same c L
       go true false e = hands refl (who (ℕ-discrete c (nextIn L)))
         where
           inside : nextIn L < clientCount
           inside = leb-false clientCount (nextIn L) e
 
-          waits : (s : ℕ) → s ≡ slotIn (L .side (nextIn L)) → s ≡ controlSlot → any (L .side (nextIn L) .waiting) ≡ true
-          waits s q z = here (L .side (nextIn L) .due s) (eq-eqb s controlSlot z) refl ∙ ap (owes (L .side (nextIn L))) q ∙ slot-near L g inside .holds
+          waits : (s : ℕ) → s ≡ slotIn (L .side (nextIn L)) → s ≡ controlSlot → any (L .side (nextIn L) .account .waiting) ≡ true
+          waits s q z = here (L .side (nextIn L) .account .due s) (eq-eqb s controlSlot z) refl ∙ ap (owes (L .side (nextIn L))) q ∙ slot-near L g inside .holds
 
           who : Dec (c ≡ nextIn L)
-              → shown (L .side c .waiting)
+              → shown (L .side c .account .waiting)
               ≡ pick (eqb c (nextIn L) && eqb controlSlot (slotIn (L .side (nextIn L)))) (octetsIn k (L .player) (L .side (nextIn L)) (slotIn (L .side (nextIn L))) ∷ []) []
-              ++ shown (pick (eqb c (nextIn L)) (serving (slotIn (L .side c)) (L .side c)) (L .side c) .waiting)
-          who (no n) = λ i. pick (sym (ne-eqb c (nextIn L) n) i && eqb controlSlot (slotIn (L .side (nextIn L)))) (octetsIn k (L .player) (L .side (nextIn L)) (slotIn (L .side (nextIn L))) ∷ []) [] ++ shown (pick (sym (ne-eqb c (nextIn L) n) i) (serving (slotIn (L .side c)) (L .side c)) (L .side c) .waiting)
+              ++ shown (pick (eqb c (nextIn L)) (passing (slotIn (L .side c)) (L .side c)) (L .side c) .account .waiting)
+          who (no n) = λ i. pick (sym (ne-eqb c (nextIn L) n) i && eqb controlSlot (slotIn (L .side (nextIn L)))) (octetsIn k (L .player) (L .side (nextIn L)) (slotIn (L .side (nextIn L))) ∷ []) [] ++ shown (pick (sym (ne-eqb c (nextIn L) n) i) (passing (slotIn (L .side c)) (L .side c)) (L .side c) .account .waiting)
           who (yes q) =
-              served-turn L m (slotIn (L .side c)) (λ z. subst (λ (n : ℕ). any (L .side n .waiting) ≡ true) (sym q) (waits (slotIn (L .side c)) (ap (λ (n : ℕ). slotIn (L .side n)) q) z))
-              ∙ (λ i. pick (sym (eq-eqb c (nextIn L) q) i && eqb controlSlot (slotIn (L .side (q i)))) (octetsIn k (L .player) (L .side (q i)) (slotIn (L .side (q i))) ∷ []) [] ++ shown (pick (sym (eq-eqb c (nextIn L) q) i) (serving (slotIn (L .side c)) (L .side c)) (L .side c) .waiting))
+              served-turn L m (slotIn (L .side c)) (λ z. subst (λ (n : ℕ). any (L .side n .account .waiting) ≡ true) (sym q) (waits (slotIn (L .side c)) (ap (λ (n : ℕ). slotIn (L .side n)) q) z))
+              ∙ (λ i. pick (sym (eq-eqb c (nextIn L) q) i && eqb controlSlot (slotIn (L .side (q i)))) (octetsIn k (L .player) (L .side (q i)) (slotIn (L .side (q i))) ∷ []) [] ++ shown (pick (sym (eq-eqb c (nextIn L) q) i) (passing (slotIn (L .side c)) (L .side c)) (L .side c) .account .waiting))
       go false u e = same c L

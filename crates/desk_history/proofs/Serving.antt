@@ -11,30 +11,30 @@ use lib.Dec.{eqb}
 use lib.ListN.{length}
 use Rattle.ground.specs.Cases.{pick}
 use Rattle.ground.proofs.Cases.{clash}
-use Rattle.desk_slots.specs.Slots.{slotCount}
+use Rattle.desk_slots.specs.Slots.{placeCount}
 use Rattle.desk_client.specs.declared.Entry.{Entry}
-use Rattle.desk_client.specs.Client.{controlSlot}
+use Rattle.desk_client.specs.Client.{controlSlot, isControl}
 use Rattle.desk_take.specs.Serving.{resultOctets}
 use Rattle.desk_history.specs.Ledger.{Side, anyWaits as any, owes, anyBelow, owedAny}
 
 -- how many things wait at a slot
 abbrev pub backlog : Side → ℕ → ℕ
-backlog x s = pick (eqb s controlSlot) (length (x .waiting)) (pick (x .due s) 1 0)
+backlog x s = pick (isControl s) (length (x .account .waiting)) (pick (x .account .due s) 1 0)
 
 any-of : {A : Type 0} (l : List A) → 1 ≤ length l → any l ≡ true
 any-of [] h = absurd (not-suc-le-zero h)
 any-of (x ∷ l) h = refl
 
 pub owes-of : (x : Side) (s : ℕ) → 1 ≤ backlog x s → owes x s ≡ true
-owes-of x s = go (eqb s controlSlot) (x .due s)
+owes-of x s = go (eqb s controlSlot) (x .account .due s)
   where
-    go : (t b : Bool) → 1 ≤ pick t (length (x .waiting)) (pick b 1 0) → pick t (any (x .waiting)) b ≡ true
-    go true b h = any-of (x .waiting) h
+    go : (t b : Bool) → 1 ≤ pick t (length (x .account .waiting)) (pick b 1 0) → pick t (any (x .account .waiting)) b ≡ true
+    go true b h = any-of (x .account .waiting) h
     go false true h = refl
     go false false h = absurd (not-suc-le-zero h)
 
 pub owes-to : (x : Side) (s : ℕ) → owes x s ≡ true → 1 ≤ backlog x s
-owes-to x s = go (eqb s controlSlot) (x .due s) (x .waiting)
+owes-to x s = go (eqb s controlSlot) (x .account .due s) (x .account .waiting)
   where
     go : (t b : Bool) (l : List Entry) → pick t (any l) b ≡ true → 1 ≤ pick t (length l) (pick b 1 0)
     go true b [] h = clash h
@@ -68,17 +68,17 @@ below-any (suc n) test e = at (anyBelow n test) (test n) refl refl e (below-any 
     at false true p q h ih = (n, omega arith, q)
     at false false p q h ih = clash h
 
-pub owed-any : (x : Side) (s : ℕ) → s < slotCount → owes x s ≡ true → owedAny x ≡ true
+pub owed-any : (x : Side) (s : ℕ) → s < placeCount → owes x s ≡ true → owedAny x ≡ true
 unfolding owedAny
-owed-any x s h e = any-below slotCount (owes x) s h e
+owed-any x s h e = any-below placeCount (owes x) s h e
 
-pub any-owed : (x : Side) → owedAny x ≡ true → (s : ℕ) × (s < slotCount) × (owes x s ≡ true)
+pub any-owed : (x : Side) → owedAny x ≡ true → (s : ℕ) × (s < placeCount) × (owes x s ≡ true)
 unfolding owedAny
-any-owed x e = below-any slotCount (owes x) e
+any-owed x e = below-any placeCount (owes x) e
 
 -- as many results wait as the list has
-pub results-backlog : (x : Side) (j : ℕ) → j ≤ length (map resultOctets (x .waiting)) → j ≤ backlog x controlSlot
-results-backlog x j h = subst (λ (n : ℕ). j ≤ n) (long (x .waiting)) h
+pub results-backlog : (x : Side) (j : ℕ) → j ≤ length (map resultOctets (x .account .waiting)) → j ≤ backlog x controlSlot
+results-backlog x j h = subst (λ (n : ℕ). j ≤ n) (long (x .account .waiting)) h
   where
     long : (l : List Entry) → length (map resultOctets l) ≡ length l
     long [] = refl

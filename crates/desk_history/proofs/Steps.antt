@@ -1,11 +1,11 @@
 -- Each call takes a desk that stands and agrees with the ledger to one that does, too. Assumes nothing.
 use mathlib.Core.Path.{_≡_, refl, sym, ap, _∙_, subst}
-use mathlib.Core.Bool.{Bool, true, false, not, _&&_}
+use mathlib.Core.Bool.{Bool, true, false, not, _&&_, _||_}
 use mathlib.Core.Logic.{⊎-elim}
 use mathlib.Core.List.{List, [], _∷_, _++_}
 use Prim.Native.Nat.{ℕ, _+_, _-_, _≤_, _<_}
 use borrow.Author.Tests.{ltb-true, le-leb, leb-false, not-false}
-use lib.Dec.{leb}
+use lib.Dec.{eqb, leb}
 use Rattle.ground.specs.Cases.{pick}
 use Rattle.ground.proofs.Cases.{le-or}
 use Rattle.ground.proofs.Rows.{NoneApplies, none-of, state-of}
@@ -21,22 +21,24 @@ use Rattle.player_moves.proofs.Ready.{shaped}
 use Rattle.player_moves.proofs.Kept.{kept-deactivated, kept-renamed, kept-advanced, kept-activated}
 use Rattle.desk_slots.specs.Slots.{slotCount, clientCount, slotOf, hasSlot}
 use Rattle.ground.specs.Refusals.{Row, row, accepted, Left}
+use Rattle.desk_client.specs.declared.Account.{Account}
 use Rattle.desk_client.specs.declared.Client.{Client}
 use Rattle.desk_client.specs.Client.{mtuRight, startClient, connectedClient, clientRule}
+use Rattle.desk_client.specs.Setters.{withAccount}
 use Rattle.desk_client.specs.Duties.{joined, dropped}
 use Rattle.desk_client.proofs.Laws.{start-stands, connected-stands}
-use Rattle.desk_client.proofs.Rule.{Sound, connected-sound, sound-connected}
+use Rattle.desk_client.proofs.Rule.{Sound, Linked, connected-linked, linked-connected, account-kept}
 use Rattle.desk_client.proofs.Kept.{kept-joined, kept-dropped}
 use Rattle.desk_state.specs.declared.Desk.{Desk}
-use Rattle.desk_state.specs.Desk.{clientAt, withClient}
+use Rattle.desk_state.specs.Desk.{clientAt, withClient, withAccountOf}
 use Rattle.desk_state.proofs.Laws.{player-stands, client-stands}
 use Rattle.desk_notices.specs.declared.Cause.{Cause}
 use Rattle.desk_notices.specs.Owed.{settled, noWriter}
 use Rattle.desk_replies.specs.Replies.{stateRight, fronted, ofClient, ofCharacteristic, asked, caller}
 use Rattle.desk_links.specs.Links.{connectRows, connectCall, disconnectCall, slotRows, slotCall, subscribeCall, unsubscribeCall}
 use Rattle.desk_console.specs.Console.{nameRows, nameCall, activateRows, activateCall, deactivateCall, quietAdvance, advanceCall}
-use Rattle.desk_history.specs.Ledger.{Side, Ledger, linked, nobody, changing, becoming, joining, leaving, mayConnect, asks, mayJoin}
-use Rattle.desk_history.proofs.Likeness.{Like, like-start, like-connected, like-joined, like-dropped}
+use Rattle.desk_history.specs.Ledger.{Claims, Side, Ledger, linked, nobody, changing, onAccount, becoming, joining, leaving, mayConnect, asks, mayJoin}
+use Rattle.desk_history.proofs.Likeness.{Like, LikeAccount, like-start, like-connected, like-joined, like-dropped}
 use Rattle.player_values.specs.Values.{sourceOf}
 use Rattle.desk_history.proofs.Agreement.{Agrees, agree-changing, agree-becoming, settled-stands, client-kept}
 
@@ -80,7 +82,7 @@ module _ (k : Tables) (right : catalogueRule k ≡ true) (L : Ledger) (d : Desk)
       → Ok k (changing who f L) (withClient who c d)
   ok-changing who h c f like rule = (agree-changing L d (ok .0) who h c f like, client-kept k d (ok .1) (ok .0 .long) who h c rule)
 
-  -- a client that asks: its record, which is sound
+  -- a client that asks: its record, which keeps the rule
   module _ (who : ℕ) (h : who < clientCount) where
     abbrev own : Client
     own = clientAt (d .clients) who
@@ -91,8 +93,15 @@ module _ (k : Tables) (right : catalogueRule k ≡ true) (L : Ledger) (d : Desk)
     pub rule : clientRule own ≡ true
     rule = client-stands (k .groups) (k .tracks) d (ok .1) who h
 
-    pub sound-of : L .side who .on ≡ true → Sound own
-    sound-of e = connected-sound own rule (like .on ∙ e)
+    pub linked-of : L .side who .link .on ≡ true → Linked own
+    linked-of e = connected-linked own rule (like .link .on ∙ e)
+
+    -- its account is another, which asks for nothing where the link is not encrypted
+    pub ok-account : L .side who .link .on ≡ true → (a : Account) (f : Claims → Claims) → LikeAccount (f (L .side who .account)) a → Sound a
+        → (own .link .encrypted || eqb (a .subscribed) 0) ≡ true → Ok k (changing who (onAccount f) L) (withAccountOf who a d)
+    ok-account on a f alike sound safe =
+        ok-changing who h (withAccount a own) (onAccount f) (record { link = like .link; account = alike })
+        (linked-connected (withAccount a own) (like .link .on ∙ on) (account-kept own a (linked-of on) sound safe))
 
   -- ---- the calls of the desk itself
   pub name-step : (name : List ℕ) → Ok k (pick (accepted (nameRows name)) (becoming k (noWriter false) (renamed name (L .player)) L) L) (nameCall k d name .state)
@@ -139,10 +148,10 @@ module _ (k : Tables) (right : catalogueRule k ≡ true) (L : Ledger) (d : Desk)
       → Ok k (pick (mayConnect L who mtu) (changing who (λ x. linked true encrypted mtu) L) L) (connectCall k d who mtu encrypted .state)
   unfolding connectCall
   connect-step who mtu encrypted =
-      ok-call false (mayConnect L who mtu) (connectRows who (caller d who .connected) mtu) _ (changing who (λ x. linked true encrypted mtu) L)
-      (same-rows who (rest (caller d who .connected)) (rest (L .side who .on)) (λ h i. accepted (rest (like who h .on i))))
+      ok-call false (mayConnect L who mtu) (connectRows who (caller d who .link .connected) mtu) _ (changing who (λ x. linked true encrypted mtu) L)
+      (same-rows who (rest (caller d who .link .connected)) (rest (L .side who .link .on)) (λ h i. accepted (rest (like who h .link .on i))))
       (λ e.
-      let n = none-of (connectRows who (L .side who .on) mtu) e in
+      let n = none-of (connectRows who (L .side who .link .on) mtu) e in
       ok-changing who (leb-false clientCount who (n .0)) (connectedClient mtu encrypted) (λ x. linked true encrypted mtu) (like-connected mtu encrypted)
       (connected-stands mtu encrypted (not-false _ (n .1 .1 .0))))
     where
@@ -152,21 +161,21 @@ module _ (k : Tables) (right : catalogueRule k ≡ true) (L : Ledger) (d : Desk)
   pub disconnect-step : (who : ℕ) → Ok k (pick (asks L who) (changing who (λ x. nobody) L) L) (disconnectCall k d who .state)
   unfolding disconnectCall
   disconnect-step who =
-      ok-call false (asks L who) (ofClient who (caller d who .connected)) _ (changing who (λ x. nobody) L)
-      (same-rows who (row 203 (not (caller d who .connected)) ∷ []) (row 203 (not (L .side who .on)) ∷ []) (λ h i. accepted (row 203 (not (like who h .on i)) ∷ [])))
-      (λ e. ok-changing who (leb-false clientCount who (none-of (ofClient who (L .side who .on)) e .0)) startClient (λ x. nobody) like-start start-stands)
+      ok-call false (asks L who) (ofClient who (caller d who .link .connected)) _ (changing who (λ x. nobody) L)
+      (same-rows who (row 203 (not (caller d who .link .connected)) ∷ []) (row 203 (not (L .side who .link .on)) ∷ []) (λ h i. accepted (row 203 (not (like who h .link .on i)) ∷ [])))
+      (λ e. ok-changing who (leb-false clientCount who (none-of (ofClient who (L .side who .link .on)) e .0)) startClient (λ x. nobody) like-start start-stands)
 
-  join-rows : (who c : ℕ) → accepted (slotRows who (caller d who .connected) (caller d who .encrypted) c) ≡ mayJoin L who c
+  join-rows : (who c : ℕ) → accepted (slotRows who (caller d who .link .connected) (caller d who .link .encrypted) c) ≡ mayJoin L who c
   join-rows who c =
-      same-rows who (rest (caller d who .connected) (caller d who .encrypted)) (rest (L .side who .on) (L .side who .safe))
-      (λ h i. accepted (rest (like who h .on i) (like who h .safe i)))
+      same-rows who (rest (caller d who .link .connected) (caller d who .link .encrypted)) (rest (L .side who .link .on) (L .side who .link .safe))
+      (λ h i. accepted (rest (like who h .link .on i) (like who h .link .safe i)))
     where
       rest : Bool → Bool → List Row
       rest on safe = row 203 (not on) ∷ ofCharacteristic safe c 209 (hasSlot c)
 
   module _ (who c : ℕ) (may : mayJoin L who c ≡ true) where
-    passed : NoneApplies (slotRows who (L .side who .on) (L .side who .safe) c)
-    passed = none-of (slotRows who (L .side who .on) (L .side who .safe) c) may
+    passed : NoneApplies (slotRows who (L .side who .link .on) (L .side who .link .safe) c)
+    passed = none-of (slotRows who (L .side who .link .on) (L .side who .link .safe) c) may
 
     there : who < clientCount
     there = leb-false clientCount who (passed .0)
@@ -174,29 +183,32 @@ module _ (k : Tables) (right : catalogueRule k ≡ true) (L : Ledger) (d : Desk)
     may-slot : slotOf c < slotCount
     may-slot = ltb-true (slotOf c) slotCount (not-false _ (passed .1 .1 .1 .0))
 
-    may-safe : caller d who .encrypted ≡ true
-    may-safe = like who there .safe ∙ not-false _ (passed .1 .1 .1 .1 .0)
+    may-safe : caller d who .link .encrypted ≡ true
+    may-safe = like who there .link .safe ∙ not-false _ (passed .1 .1 .1 .1 .0)
 
-    may-sound : Sound (caller d who)
-    may-sound = sound-of who there (not-false _ (passed .1 .0))
+    may-linked : Linked (caller d who)
+    may-linked = linked-of who there (not-false _ (passed .1 .0))
 
-    may-connected : caller d who .connected ≡ true
-    may-connected = like who there .on ∙ not-false _ (passed .1 .0)
+    may-on : L .side who .link .on ≡ true
+    may-on = not-false _ (passed .1 .0)
 
-  pub subscribe-step : (who c : ℕ) → Ok k (pick (mayJoin L who c) (changing who (joining (slotOf c)) L) L) (subscribeCall k d who c .state)
-  unfolding slotCall joined
-  subscribe-step who c =
+  -- what becomes of the account, by the slot
+  slot-step : (who c : ℕ) (f : ℕ → Claims → Claims) (g : ℕ → Account → Account)
+      → ((s : ℕ) (x : Claims) (a : Account) → LikeAccount x a → LikeAccount (f s x) (g s a))
+      → ((s : ℕ) (a : Account) → Sound a → s < slotCount → Sound (g s a))
+      → Ok k (pick (mayJoin L who c) (changing who (onAccount (f (slotOf c))) L) L) (slotCall k d who c g .state)
+  unfolding slotCall
+  slot-step who c f g alike kept =
       let own = caller d who in
-      ok-call false (mayJoin L who c) (slotRows who (own .connected) (own .encrypted) c) _ (changing who (joining (slotOf c)) L) (join-rows who c)
+      ok-call false (mayJoin L who c) (slotRows who (own .link .connected) (own .link .encrypted) c) _ (changing who (onAccount (f (slotOf c))) L) (join-rows who c)
       (λ e.
-      ok-changing who (there who c e) (joined (slotOf c) own) (joining (slotOf c)) (like-joined (L .side who) own (like who (there who c e)) (slotOf c))
-      (sound-connected (joined (slotOf c) own) (may-connected who c e) (kept-joined own (may-sound who c e) (slotOf c) (may-slot who c e) (may-safe who c e))))
+      let h = there who c e in
+      ok-account who h (may-on who c e) (g (slotOf c) (own .account)) (f (slotOf c)) (alike (slotOf c) (L .side who .account) (own .account) (like who h .account))
+      (kept (slotOf c) (own .account) (may-linked who c e .account) (may-slot who c e))
+      (ap (λ (b : Bool). b || eqb (g (slotOf c) (own .account) .subscribed) 0) (may-safe who c e)))
 
-  pub unsubscribe-step : (who c : ℕ) → Ok k (pick (mayJoin L who c) (changing who (leaving (slotOf c)) L) L) (unsubscribeCall k d who c .state)
-  unfolding slotCall dropped
-  unsubscribe-step who c =
-      let own = caller d who in
-      ok-call false (mayJoin L who c) (slotRows who (own .connected) (own .encrypted) c) _ (changing who (leaving (slotOf c)) L) (join-rows who c)
-      (λ e.
-      ok-changing who (there who c e) (dropped (slotOf c) own) (leaving (slotOf c)) (like-dropped (L .side who) own (like who (there who c e)) (slotOf c))
-      (sound-connected (dropped (slotOf c) own) (may-connected who c e) (kept-dropped own (may-sound who c e) (slotOf c) (may-slot who c e) (may-safe who c e))))
+  pub subscribe-step : (who c : ℕ) → Ok k (pick (mayJoin L who c) (changing who (onAccount (joining (slotOf c))) L) L) (subscribeCall k d who c .state)
+  subscribe-step who c = slot-step who c joining joined (λ s x a l. like-joined x a l s) (λ s a sound h. kept-joined a sound s h)
+
+  pub unsubscribe-step : (who c : ℕ) → Ok k (pick (mayJoin L who c) (changing who (onAccount (leaving (slotOf c))) L) L) (unsubscribeCall k d who c .state)
+  unsubscribe-step who c = slot-step who c leaving dropped (λ s x a l. like-dropped x a l s) (λ s a sound h. kept-dropped a sound s)

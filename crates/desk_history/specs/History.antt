@@ -15,7 +15,7 @@ use Rattle.player_state.specs.Player.{startedPlayer}
 use Rattle.player_values.specs.Values.{sourceOf, valueOf}
 use Rattle.desk_slots.specs.Slots.{clientCount, slotOf, characteristicOf}
 use Rattle.desk_client.specs.declared.Entry.{Entry}
-use Rattle.desk_client.specs.Client.{controlSlot}
+use Rattle.desk_client.specs.Client.{controlSlot, isControl}
 use Rattle.desk_state.specs.declared.Desk.{Desk}
 use Rattle.desk_console.specs.Console.{startCall}
 use Rattle.desk_take.specs.Serving.{resultOctets}
@@ -30,7 +30,7 @@ oldest [] = []
 oldest (e ∷ l) = resultOctets e
 
 abbrev pub octetsIn : Tables → Player → Side → ℕ → List ℕ
-octetsIn k p x s = firsts (x .mtu - 3) (pick (eqb s controlSlot) (oldest (x .waiting)) (valueOf (sourceOf k) p (characteristicOf s)))
+octetsIn k p x s = firsts (x .link .mtu - 3) (pick (isControl s) (oldest (x .account .waiting)) (valueOf (sourceOf k) p (characteristicOf s)))
 
 abbrev pub answerIn : Tables → Ledger → ℕ → Handout
 answerIn k L who =
@@ -107,8 +107,8 @@ module _ (k : Tables) (name : List ℕ) (mask ccid : ℕ) where
 
   -- client who is subscribed to slot s at h and after each of the calls ks; who is subscribed is connected
   abbrev pub Stays : ℕ → ℕ → List Call → List Call → Type 0
-  Stays who s h [] = ledgerAt h .side who .wants s ≡ true
-  Stays who s h (c ∷ ks) = (ledgerAt h .side who .wants s ≡ true) × Stays who s (c ∷ h) ks
+  Stays who s h [] = ledgerAt h .side who .account .wants s ≡ true
+  Stays who s h (c ∷ ks) = (ledgerAt h .side who .account .wants s ≡ true) × Stays who s (c ∷ h) ks
 
   -- the results of all accepted control writes of client who, and all results that it was handed, oldest first
   abbrev pub allWritten : ℕ → List Call → List (List ℕ)

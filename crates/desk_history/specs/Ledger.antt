@@ -16,10 +16,10 @@ use Rattle.player_state.specs.Player.{renamed, deactivated, withOrder, withSpee
 use Rattle.player_moves.specs.declared.Controlled.{Controlled}
 use Rattle.player_moves.specs.Control.{controlled}
 use Rattle.player_moves.specs.Clock.{advanced, positioned, activated}
-use Rattle.desk_slots.specs.Slots.{slotCount, clientCount, slotOf, characteristicOf}
+use Rattle.desk_slots.specs.Slots.{placeCount, clientCount, slotOf, characteristicOf}
 use Rattle.desk_slots.specs.Round.{next}
 use Rattle.desk_client.specs.declared.Entry.{Entry}
-use Rattle.desk_client.specs.Client.{controlSlot}
+use Rattle.desk_client.specs.Client.{controlSlot, isControl}
 use Rattle.desk_notices.specs.Changes.{changed, trackChanged}
 use Rattle.desk_notices.specs.declared.Cause.{Cause}
 use Rattle.desk_notices.specs.Owed.{fallsDue, spared, noWriter, byWriter}
@@ -30,16 +30,22 @@ use Rattle.desk_exchange.specs.Write.{firstOctet, writeRows, numberOf}
 use Rattle.player_values.specs.Values.{sourceOf}
 use Rattle.desk_history.specs.Calls.{Call, setName, activate, deactivate, advance, connect, disconnect, subscribe, unsubscribe, read, write, take}
 
--- of a client: whether it is connected, encrypted, its ATT_MTU, the slots that it is subscribed to, the values that are owed, the results that wait,
--- oldest first, and the slot that was served last
-pub record Side : Type 0 where
+-- of a client's link: whether it is connected, encrypted, its ATT_MTU, and the place of its round that was served last
+pub record Line : Type 0 where
   pub on : Bool
   pub safe : Bool
   pub mtu : ℕ
+  pub last : ℕ
+
+-- of its account: the slots that it is subscribed to, the values that are owed, and the results that wait, oldest first
+pub record Claims : Type 0 where
   pub wants : ℕ → Bool
   pub due : ℕ → Bool
   pub waiting : List Entry
-  pub last : ℕ
+
+pub record Side : Type 0 where
+  pub link : Line
+  pub account : Claims
 
 -- of the whole: the player, the clients by number, and the client that was served last
 pub record Ledger : Type 0 where
@@ -47,10 +53,13 @@ pub record Ledger : Type 0 where
   pub side : ℕ → Side
   pub turn : ℕ
 
--- a client that is not connected; one that has just connected: the slot round begins at the lowest
+-- a client that is not connected; one that has just connected: the round begins at the lowest place
 abbrev pub linked : Bool → Bool → ℕ → Side
 linked on safe mtu =
-    record { on = on; safe = safe; mtu = mtu; wants = λ s. false; due = λ s. false; waiting = []; last = slotCount - 1 }
+    record {
+      link = record { on = on; safe = safe; mtu = mtu; last = placeCount - 1 };
+      account = record { wants = λ s. false; due = λ s. false; waiting = [] };
+    }
 
 abbrev pub nobody : Side
 nobody = linked false false 23
@@ -64,62 +73,46 @@ abbrev pub changing : ℕ → (Side → Side) → Ledger → Ledger
 changing who f L =
     record { player = L .player; side = λ c. pick (eqb c who) (f (L .side c)) (L .side c); turn = L .turn }
 
+-- the account becomes f of it, the link stays
+abbrev pub onAccount : (Claims → Claims) → Side → Side
+onAccount f x = record { link = x .link; account = f (x .account) }
+
 -- "A slot is owed to a subscribed client when a call changes its value": whatever was owed stays owed
-abbrev pub noticing : Tables → Player → Player → Cause → ℕ → Side → Side
-noticing k p q cause who x =
+abbrev pub noticing : Tables → Player → Player → Cause → ℕ → Claims → Claims
+noticing k p q cause who a =
     record {
-      on = x .on;
-      safe = x .safe;
-      mtu = x .mtu;
-      wants = x .wants;
+      wants = a .wants;
       due = λ s.
-          x .due s
-          || (x .wants s
+          a .due s
+          || (a .wants s
           && (fallsDue (changed (sourceOf k) p q (characteristicOf s)) (trackChanged p q) (characteristicOf s)
           && not (spared cause who (characteristicOf s))));
-      waiting = x .waiting;
-      last = x .last;
+      waiting = a .waiting;
     }
 
 abbrev pub becoming : Tables → Cause → Player → Ledger → Ledger
-becoming k cause q L = record { player = q; side = λ c. noticing k (L .player) q cause c (L .side c); turn = L .turn }
+becoming k cause q L =
+    record { player = q; side = λ c. onAccount (noticing k (L .player) q cause c) (L .side c); turn = L .turn }
 
 -- subscribing and unsubscribing: "Unsubscribing drops what the slot owes"
-abbrev pub joining : ℕ → Side → Side
-joining s x =
-    record {
-      on = x .on;
-      safe = x .safe;
-      mtu = x .mtu;
-      wants = λ t. x .wants t || eqb s t;
-      due = x .due;
-      waiting = x .waiting;
-      last = x .last;
-    }
+abbrev pub joining : ℕ → Claims → Claims
+joining s a = record { wants = λ t. a .wants t || eqb s t; due = a .due; waiting = a .waiting }
 
-abbrev pub leaving : ℕ → Side → Side
-leaving s x =
+abbrev pub leaving : ℕ → Claims → Claims
+leaving s a =
     record {
-      on = x .on;
-      safe = x .safe;
-      mtu = x .mtu;
-      wants = λ t. x .wants t && not (eqb s t);
-      due = λ t. x .due t && not (eqb s t);
-      waiting = pick (eqb s controlSlot) [] (x .waiting);
-      last = x .last;
+      wants = λ t. a .wants t && not (eqb s t);
+      due = λ t. a .due t && not (eqb s t);
+      waiting = pick (isControl s) [] (a .waiting);
     }
 
 -- "one for each accepted control write by a client subscribed to 18 at the time"
-abbrev pub resulting : Entry → Side → Side
-resulting e x =
+abbrev pub resulting : Entry → Claims → Claims
+resulting e a =
     record {
-      on = x .on;
-      safe = x .safe;
-      mtu = x .mtu;
-      wants = x .wants;
-      due = x .due;
-      waiting = pick (x .wants controlSlot) (x .waiting ++ (e ∷ [])) (x .waiting);
-      last = x .last;
+      wants = a .wants;
+      due = a .due;
+      waiting = pick (a .wants controlSlot) (a .waiting ++ (e ∷ [])) (a .waiting);
     }
 
 -- the oldest goes
@@ -127,17 +120,20 @@ abbrev pub behind : {A : Type 0} → List A → List A
 behind [] = []
 behind (e ∷ l) = l
 
--- a slot is served
-abbrev pub serving : ℕ → Side → Side
-serving s x =
+-- a slot is served, and the client's round goes on behind it
+abbrev pub serving : ℕ → Claims → Claims
+serving s a =
     record {
-      on = x .on;
-      safe = x .safe;
-      mtu = x .mtu;
-      wants = x .wants;
-      due = λ u. x .due u && not (eqb s u);
-      waiting = pick (eqb s controlSlot) (behind (x .waiting)) (x .waiting);
-      last = s;
+      wants = a .wants;
+      due = λ u. a .due u && not (eqb s u);
+      waiting = pick (isControl s) (behind (a .waiting)) (a .waiting);
+    }
+
+abbrev pub passing : ℕ → Side → Side
+passing s x =
+    record {
+      link = record { on = x .link .on; safe = x .link .safe; mtu = x .link .mtu; last = s };
+      account = serving s (x .account);
     }
 
 -- a slot is owed: 18 when results wait, another when its value is
@@ -146,14 +142,14 @@ anyWaits [] = false
 anyWaits (e ∷ l) = true
 
 abbrev pub owes : Side → ℕ → Bool
-owes x s = pick (eqb s controlSlot) (anyWaits (x .waiting)) (x .due s)
+owes x s = pick (isControl s) (anyWaits (x .account .waiting)) (x .account .due s)
 
 unfoldable pub anyBelow : ℕ → (ℕ → Bool) → Bool
 anyBelow zero test = false
 anyBelow (suc n) test = anyBelow n test || test n
 
 unfoldable pub owedAny : Side → Bool
-owedAny x = anyBelow slotCount (owes x)
+owedAny x = anyBelow placeCount (owes x)
 
 -- "Take starts after the client last served, in number order round the four, and serves the first that is owed something; within it, the first owed
 -- slot after its last served, round the ten."
@@ -161,13 +157,13 @@ unfoldable pub nextIn : Ledger → ℕ
 nextIn L = next clientCount (λ c. owedAny (L .side c)) (L .turn)
 
 unfoldable pub slotIn : Side → ℕ
-slotIn x = next slotCount (owes x) (x .last)
+slotIn x = next placeCount (owes x) (x .link .last)
 
 abbrev pub servingNext : Ledger → ℕ → Ledger
 servingNext L who =
     record {
       player = L .player;
-      side = λ c. pick (eqb c who) (serving (slotIn (L .side c)) (L .side c)) (L .side c);
+      side = λ c. pick (eqb c who) (passing (slotIn (L .side c)) (L .side c)) (L .side c);
       turn = who;
     }
 
@@ -176,16 +172,16 @@ taking L who = pick (leb clientCount who) L (servingNext L who)
 
 -- which calls are accepted: by the same rows as the desk's, with what the ledger knows of the client
 abbrev pub mayConnect : Ledger → ℕ → ℕ → Bool
-mayConnect L who mtu = accepted (connectRows who (L .side who .on) mtu)
+mayConnect L who mtu = accepted (connectRows who (L .side who .link .on) mtu)
 
 abbrev pub asks : Ledger → ℕ → Bool
-asks L who = accepted (ofClient who (L .side who .on))
+asks L who = accepted (ofClient who (L .side who .link .on))
 
 abbrev pub mayJoin : Ledger → ℕ → ℕ → Bool
-mayJoin L who c = accepted (slotRows who (L .side who .on) (L .side who .safe) c)
+mayJoin L who c = accepted (slotRows who (L .side who .link .on) (L .side who .link .safe) c)
 
 abbrev pub mayWrite : Ledger → ℕ → ℕ → List ℕ → Bool
-mayWrite L who c value = accepted (writeRows who (L .side who .on) (L .side who .safe) (length (L .side who .waiting)) c value)
+mayWrite L who c value = accepted (writeRows who (L .side who .link .on) (L .side who .link .safe) (length (L .side who .account .waiting)) c value)
 
 abbrev pub mayTake : ℕ → Bool
 mayTake room = accepted (row 205 (ltb room leastOutput) ∷ [])
@@ -199,7 +195,7 @@ resultOf k L value = record { opcode = firstOctet value; code = outcome k L valu
 
 abbrev pub controlWriting : Tables → Ledger → ℕ → List ℕ → Ledger
 controlWriting k L who value =
-    changing who (resulting (resultOf k L value)) (becoming k (byWriter who 18) (outcome k L value .player) L)
+    changing who (onAccount (resulting (resultOf k L value))) (becoming k (byWriter who 18) (outcome k L value .player) L)
 
 -- "7, 8, 15, 18 may be written"
 abbrev pub writing : Tables → Ledger → ℕ → ℕ → List ℕ → Ledger
@@ -219,8 +215,8 @@ after k (advance step) L =
 after k (connect who mtu encrypted) L =
     pick (mayConnect L who mtu) (changing who (λ x. linked true encrypted mtu) L) L
 after k (disconnect who) L = pick (asks L who) (changing who (λ x. nobody) L) L
-after k (subscribe who c) L = pick (mayJoin L who c) (changing who (joining (slotOf c)) L) L
-after k (unsubscribe who c) L = pick (mayJoin L who c) (changing who (leaving (slotOf c)) L) L
+after k (subscribe who c) L = pick (mayJoin L who c) (changing who (onAccount (joining (slotOf c))) L) L
+after k (unsubscribe who c) L = pick (mayJoin L who c) (changing who (onAccount (leaving (slotOf c))) L) L
 after k (read who c offset room) L = L
 after k (write who c value) L = pick (mayWrite L who c value) (writing k L who c value) L
 after k (take room) L = pick (mayTake room) (taking L (nextIn L)) L

@@ -30,7 +30,7 @@ pub fn connect(
         return desk_replies::refuse(ground::NO_CLIENT, d);
     }
     let c = desk_state::client_at(d, who);
-    if c.connected {
+    if c.link.connected {
         return desk_replies::refuse(ground::ALREADY_CONNECTED, d);
     }
     if !desk_client::mtu_right(mtu) {
@@ -61,15 +61,15 @@ pub fn disconnect(
     desk_replies::left(desk_replies::Answer::Done, e)
 }
 
-// A record that subscribes to a slot, or unsubscribes from it.
-fn with_slot(c: desk_client::Client, s: u32, on: bool) -> desk_client::Client
+// An account that subscribes to a slot, or unsubscribes from it.
+fn with_slot(a: desk_client::Account, s: u32, on: bool) -> desk_client::Account
     requires { ⌜ s < slotCount ⌝ }
-    ensures { λ r. ⌜ r ≡ pick on joined dropped s c ⌝ }
+    ensures { λ r. ⌜ r ≡ pick on joined dropped s a ⌝ }
 {
     if on {
-        return desk_client::join(c, s);
+        return desk_client::join(a, s);
     }
-    desk_client::leave(c, s)
+    desk_client::leave(a, s)
 }
 
 // Subscribe, where `on` says so, and unsubscribe else.
@@ -101,9 +101,9 @@ fn set_slot(
     if !g.passes {
         return desk_replies::shut(g, d);
     }
-    let c = desk_state::client_at(d, who);
-    let next = with_slot(c, s, on);
-    let e = desk_state::with_client(d, who, next);
+    let a = desk_state::account_at(d, who);
+    let next = with_slot(a, s, on);
+    let e = desk_state::with_account(d, who, next);
     desk_replies::left(desk_replies::Answer::Done, e)
 }
 

@@ -1,7 +1,6 @@
 -- What falls due when a call has changed the player (document 01, "What is owed").
 -- Assumes nothing.
 use mathlib.Core.Bool.{Bool, false, not, _&&_, _||_}
-use mathlib.Core.List.{List}
 use Prim.Native.Nat.{ℕ}
 use lib.Dec.{eqb}
 use Rattle.ground.specs.Cases.{has}
@@ -11,6 +10,7 @@ use Rattle.player_values.specs.Values.{Source}
 use Rattle.desk_slots.specs.Slots.{slotCount, clientCount, characteristicOf}
 use Rattle.desk_slots.specs.Characteristics.{writerKnows, isIn, setOf}
 use Rattle.desk_client.specs.declared.Client.{Client}
+use Rattle.desk_client.specs.Setters.{withAccount}
 use Rattle.desk_client.specs.Duties.{noted}
 use Rattle.desk_notices.specs.Changes.{changed, trackChanged}
 use Rattle.desk_state.specs.declared.Desk.{Desk}
@@ -39,18 +39,18 @@ falls altered track cause who s =
 
 -- a record is told what changed
 abbrev pub noticed : ℕ → Bool → Cause → ℕ → Client → Client
-noticed altered track cause who c = noted (setOf slotCount (falls altered track cause who)) altered c
+noticed altered track cause who c = withAccount (noted (setOf slotCount (falls altered track cause who)) altered (c .account)) c
 
 -- "some call changed the value": for the changed marks, whoever is spared
 unfoldable pub alteredOf : Source → Player → Player → ℕ
 alteredOf from p q = setOf 32 (changed from p q)
 
--- the state after a call that leaves the player q: each client record is noted, the round stays
+-- the state after a call that leaves the player q: each account is noted, links and round stay
 unfoldable pub settled : Source → Cause → Player → Desk → Desk
 settled from cause q d =
     record {
       player = q;
-      clients = mapFrom (λ who c. noted (dueTo from (d .player) q cause who) (alteredOf from (d .player) q) c) 0 (d .clients);
+      clients = mapFrom (λ who c. withAccount (noted (dueTo from (d .player) q cause who) (alteredOf from (d .player) q) (c .account)) c) 0 (d .clients);
       turn = d .turn;
     }
 

@@ -183,9 +183,10 @@ fn note_all(
     while i < 4 {
         let who = i as u32;
         let due = due_to(altered, track, cause, who);
-        let c = out[i];
-        let next = desk_client::note(c, due, altered);
-        out[i] = next;
+        let mut c = out[i];
+        let a = c.account;
+        c.account = desk_client::note(a, due, altered);
+        out[i] = c;
         i += 1;
     }
     out

@@ -126,7 +126,7 @@ pub fn client_gate(
     d: desk_state::Desk,
     who: u32,
 ) -> Gate
-    ensures { λ r. ⌜ Gated (fronted (tables (now (groups .entry)) (now (tracks .entry)) (now (segments .entry)) (now (text .entry))) small d ++ ofClient who (caller d who .connected)) r ⌝ }
+    ensures { λ r. ⌜ Gated (fronted (tables (now (groups .entry)) (now (tracks .entry)) (now (segments .entry)) (now (text .entry))) small d ++ ofClient who (caller d who .link .connected)) r ⌝ }
 {
     let g = front_gate(groups, tracks, segments, text, small, d);
     if !g.passes {
@@ -136,7 +136,7 @@ pub fn client_gate(
         return gate_shut(ground::NO_CLIENT);
     }
     let c = desk_state::client_at(d, who);
-    if !c.connected {
+    if !c.link.connected {
         return gate_shut(ground::NOT_CONNECTED);
     }
     g
@@ -155,7 +155,7 @@ pub fn characteristic_gate(
     number: u32,
     allowed: bool,
 ) -> Gate
-    ensures { λ r. ⌜ Gated (fronted (tables (now (groups .entry)) (now (tracks .entry)) (now (segments .entry)) (now (text .entry))) small d ++ (ofClient who (caller d who .connected) ++ ofCharacteristic (caller d who .encrypted) characteristic number allowed)) r ⌝ }
+    ensures { λ r. ⌜ Gated (fronted (tables (now (groups .entry)) (now (tracks .entry)) (now (segments .entry)) (now (text .entry))) small d ++ (ofClient who (caller d who .link .connected) ++ ofCharacteristic (caller d who .link .encrypted) characteristic number allowed)) r ⌝ }
 {
     let g = client_gate(groups, tracks, segments, text, small, d, who);
     if !g.passes {
@@ -168,7 +168,7 @@ pub fn characteristic_gate(
         return gate_shut(number);
     }
     let c = desk_state::client_at(d, who);
-    if !c.encrypted {
+    if !c.link.encrypted {
         return gate_shut(ground::NOT_ENCRYPTED);
     }
     g

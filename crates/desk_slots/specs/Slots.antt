@@ -13,6 +13,10 @@ use Rattle.desk_slots.specs.Table.{characteristics, numbersOf}
 abbrev pub slotCount : ℕ
 slotCount = 10
 
+-- the places of a client's round: "the first owed slot after its last served, round the ten"; a place for each slot
+abbrev pub placeCount : ℕ
+placeCount = slotCount
+
 -- "the layer of four clients (0 to 3)"
 abbrev pub clientCount : ℕ
 clientCount = 4

@@ -7,10 +7,12 @@ ghost use lib.Dec.{ltb};
 ghost use Rattle.desk_slots.specs.Characteristics.{thirteen, readables, writables, writerKnows, isIn};
 ghost use Rattle.desk_slots.specs.Table.{sizeOf};
 ghost use Rattle.desk_slots.specs.Round.{next};
-ghost use Rattle.desk_slots.specs.Slots.{slotCount, clientCount, slotOf, characteristicOf, onlySlots, insert, remove, union, inter, minus, owing};
+ghost use Rattle.desk_slots.specs.Slots.{slotCount, placeCount, clientCount, slotOf, characteristicOf, onlySlots, insert, remove, union, inter, minus, owing};
 
 // The same numbers stand in specs/Slots.antt.
 pub const SLOTS: u32 = 10;
+
+pub const PLACES: u32 = 10;
 
 pub const CLIENTS: u32 = 4;
 
@@ -161,14 +163,14 @@ pub fn difference(w: u32, v: u32) -> u32
     w & !v
 }
 
-// The first slot of the set w after the slot `after`, round the slots: the trailing zeros of the word turned so that it begins behind `after`.
-pub fn next_slot(w: u32, after: u32) -> u32
-    requires { ⌜ (0 < w) × (w < 2 ^ slotCount) × (after < slotCount) ⌝ }
-    ensures { λ r. ⌜ (r < slotCount) × (r ≡ next slotCount (has w) after) ⌝ }
+// The first place of the set w after the place `after`, round the places: the trailing zeros of the word turned so that it begins behind `after`.
+pub fn next_place(w: u32, after: u32) -> u32
+    requires { ⌜ (0 < w) × (w < 2 ^ placeCount) × (after < placeCount) ⌝ }
+    ensures { λ r. ⌜ (r < placeCount) × (r ≡ next placeCount (has w) after) ⌝ }
 {
-    let start = (after + 1) % SLOTS;
-    let turned = (w >> start) | (w << (SLOTS - start));
-    (start + u32::trailing_zeros(turned)) % SLOTS
+    let start = (after + 1) % PLACES;
+    let turned = (w >> start) | (w << (PLACES - start));
+    (start + u32::trailing_zeros(turned)) % PLACES
 }
 
 // The first client after the client `after`, round them, that is owed something; CLIENTS where none is.

@@ -9,17 +9,25 @@ use Rattle.ground.specs.Lists.{allBelow}
 use Rattle.player_state.specs.declared.Player.{Player}
 use Rattle.player_check.specs.Standing.{playerRule}
 use Rattle.desk_slots.specs.Slots.{clientCount}
+use Rattle.desk_client.specs.declared.Account.{Account}
 use Rattle.desk_client.specs.declared.Client.{Client}
 use Rattle.desk_client.specs.Client.{clientRule, startClient}
+use Rattle.desk_client.specs.Setters.{withAccount}
 use Rattle.desk_state.specs.declared.Desk.{Desk}
 
 -- what stands behind the end of the clients
 abbrev pub noClient : Client
 noClient =
-    record { connected = false; encrypted = false; mtu = 0; subscribed = 0; owed = 0; fresh = 0; mark = 0; waiting = 0; results = [] }
+    record {
+      link = record { connected = false; encrypted = false; mtu = 0; mark = 0 };
+      account = record { subscribed = 0; owed = 0; fresh = 0; waiting = 0; results = [] };
+    }
 
 abbrev pub clientAt : List Client → ℕ → Client
 clientAt clients i = getD clients i noClient
+
+abbrev pub accountAt : List Client → ℕ → Account
+accountAt clients i = clientAt clients i .account
 
 unfoldable pub clientsRule : List Client → Bool
 clientsRule clients = allBelow clientCount (λ i. clientRule (clientAt clients i))
@@ -33,9 +41,12 @@ deskRule groups tracks d =
 unfoldable pub startedDesk : Player → Desk
 startedDesk p = record { player = p; clients = replicate clientCount startClient; turn = clientCount - 1 }
 
--- one client's record is another; one player is another
+-- one client's record is another; of one client's record the account is another; one player is another
 unfoldable pub withClient : ℕ → Client → Desk → Desk
 withClient i c d = record { player = d .player; clients = set (d .clients) i c; turn = d .turn }
+
+abbrev pub withAccountOf : ℕ → Account → Desk → Desk
+withAccountOf i a d = withClient i (withAccount a (clientAt (d .clients) i)) d
 
 unfoldable pub withPlayer : Player → Desk → Desk
 withPlayer p d = record { player = p; clients = d .clients; turn = d .turn }

@@ -2,7 +2,7 @@
 ghost use mathlib.Core.Path.{_≡_};
 ghost use Prim.Native.Nat.{_<_};
 ghost use Rattle.desk_slots.specs.Slots.{clientCount};
-ghost use Rattle.desk_state.specs.Desk.{clientAt, clientsRule, deskRule, startedDesk, withClient, withPlayer};
+ghost use Rattle.desk_state.specs.Desk.{clientAt, accountAt, clientsRule, deskRule, startedDesk, withClient, withAccountOf, withPlayer};
 
 pub struct Desk {
     pub player: player_state::Player,
@@ -57,6 +57,15 @@ pub fn client_at(d: Desk, who: u32) -> desk_client::Client
     clients[at]
 }
 
+// The account of a client.
+pub fn account_at(d: Desk, who: u32) -> desk_client::Account
+    requires { ⌜ who < clientCount ⌝ }
+    ensures { λ r. ⌜ r ≡ accountAt (d .clients) who ⌝ }
+{
+    let c = client_at(d, who);
+    c.account
+}
+
 pub fn with_client(d: Desk, who: u32, c: desk_client::Client) -> Desk
     requires { ⌜ who < clientCount ⌝ }
     ensures { λ r. ⌜ r ≡ withClient who c d ⌝ }
@@ -65,6 +74,16 @@ pub fn with_client(d: Desk, who: u32, c: desk_client::Client) -> Desk
     let mut e = d;
     e.clients[at] = c;
     e
+}
+
+// The client's link stays as it is.
+pub fn with_account(d: Desk, who: u32, a: desk_client::Account) -> Desk
+    requires { ⌜ who < clientCount ⌝ }
+    ensures { λ r. ⌜ r ≡ withAccountOf who a d ⌝ }
+{
+    let mut c = client_at(d, who);
+    c.account = a;
+    with_client(d, who, c)
 }
 
 pub fn with_player(d: Desk, p: player_state::Player) -> Desk

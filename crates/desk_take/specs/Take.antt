@@ -16,7 +16,7 @@ use Rattle.desk_replies.specs.Replies.{asked, caller}
 use Rattle.desk_take.specs.Serving.{handedOctets, handedValues, afterServing}
 
 abbrev pub owedSets : List Client → List ℕ
-owedSets clients = map (λ c. c .owed) clients
+owedSets clients = map (λ c. c .account .owed) clients
 
 -- "Take starts after the client last served, in number order round the four, and serves the first that is owed something"; clientCount where none is
 unfoldable pub nextClient : Desk → ℕ

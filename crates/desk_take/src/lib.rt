@@ -40,15 +40,16 @@ fn hand_out(
 ) -> Serving
     requires { ⌜ Right (tables (now groups) (now tracks) (now segments) (now text)) ⌝ }
     requires { ⌜ playerRule (now groups) (now tracks) p ≡ true ⌝ }
-    requires { ⌜ (clientRule c ≡ true) × (0 < c .owed) × (128 ≤ length (now out)) ⌝ }
+    requires { ⌜ (clientRule c ≡ true) × (0 < c .account .owed) × (128 ≤ length (now out)) ⌝ }
     ensures { λ r. ⌜ (r .characteristic ∷ r .len ∷ [] ≡ handedValues (tables (now (groups .entry)) (now (tracks .entry)) (now (segments .entry)) (now (text .entry))) p c) × (r .client ≡ afterServing c) ⌝ }
     ensures { λ _. ⌜ now (out .exit) ≡ filled (handedOctets (tables (now (groups .entry)) (now (tracks .entry)) (now (segments .entry)) (now (text .entry))) p c) (now (out .entry)) ⌝ }
 {
-    let s = desk_slots::next_slot(c.owed, c.mark);
+    let a = c.account;
+    let s = desk_slots::next_place(a.owed, c.link.mark);
     let characteristic = desk_slots::characteristic_of(s);
     let next = desk_client::serve(c, s);
-    if s == desk_client::CONTROL_SLOT {
-        let results = c.results;
+    if desk_client::is_control(s) {
+        let results = a.results;
         let e = results[0];
         let octets = [e.opcode, e.code];
         let n = player_values::put(out, &octets);
@@ -59,7 +60,7 @@ fn hand_out(
         };
     }
     let h = player_values::hold(tracks, text, p, characteristic);
-    let most = ground::wide_word(c.mtu - 3);
+    let most = ground::wide_word(c.link.mtu - 3);
     let n = player_values::hand(out, h, 0, most);
     Serving {
         characteristic: characteristic,
@@ -103,7 +104,7 @@ pub fn take_own(
             client: c,
         };
     }
-    if c.owed == 0 {
+    if c.account.owed == 0 {
         return Own {
             answer: desk_replies::Answer::Done,
             client: c,
@@ -141,7 +142,12 @@ fn owed_sets(clients: [desk_client::Client; 4]) -> [u32; 4]
     let b = clients[1];
     let c = clients[2];
     let d = clients[3];
-    [a.owed, b.owed, c.owed, d.owed]
+    [
+        a.account.owed,
+        b.account.owed,
+        c.account.owed,
+        d.account.owed,
+    ]
 }
 
 // The next client after the one served last that is owed something; CLIENTS where none is.

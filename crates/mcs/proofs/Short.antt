@@ -27,7 +27,7 @@ use Rattle.desk_replies.specs.Replies.{fronted, caller}
 use Rattle.desk_replies.proofs.Gates.{right, player}
 use Rattle.desk_exchange.specs.Read.{valueNow, readRows, readOctets, readCall}
 use Rattle.desk_take.specs.Serving.{nextSlot, resultOctets, handedOctets, handedValues, afterServing}
-use Rattle.desk_take.specs.Take.{nextClient, withServed, takenBy, takeCall}
+use Rattle.desk_take.specs.Take.{nextClient, withServed, takeCall}
 use Rattle.mcs.specs.Calls.{lowWord, toldOf, toldAfter, saidWords, wordsAfter}
 
 -- each of them is below 2^32
@@ -112,7 +112,7 @@ module _ (k : Tables) (d : Desk) where
       let small = ltb room leastOutput in
       behind-rows (λ (l : Left Desk). l .said) (keeping d) (λ said. refl) (fronted k small d ++ rows) (refl, (refl, (refl, (refl, (refl, (refl, (refl, (refl, (refl, (refl, tt)))))))))) _ (λ n.
       let short : length (valueNow k d characteristic) ≤ 128 = value-fits k (right k small d rows n) (d .player) (player k small d rows n) characteristic in
-      (part-short (caller d who .mtu - 1) offset (valueNow k d characteristic) short, tt))
+      (part-short (caller d who .link .mtu - 1) offset (valueNow k d characteristic) short, tt))
     where
       part-short : (most from : ℕ) (value : List ℕ) → length value ≤ 128 → length (take most (drop from value)) < 4294967296
       part-short most from value h = simp (length-take, length-drop) (omega arith)
@@ -125,7 +125,7 @@ module _ (k : Tables) (d : Desk) where
   unfolding handedOctets
   handed-short c h = simp length-take (omega (arith, either (eqb (nextSlot c) controlSlot) (valueOf (sourceOf k) (d .player) (characteristicOf (nextSlot c))) (h (characteristicOf (nextSlot c)))))
     where
-      either : (t : Bool) (value : List ℕ) → length value ≤ 128 → length (pick t (resultOctets (getD (c .results) 0 blankEntry)) value) ≤ 128
+      either : (t : Bool) (value : List ℕ) → length value ≤ 128 → length (pick t (resultOctets (getD (c .account .results) 0 blankEntry)) value) ≤ 128
       either true value e = lit≤ tt
       either false value e = e
 

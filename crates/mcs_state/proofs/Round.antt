@@ -4,7 +4,7 @@ use mathlib.Core.List.{List, [], _∷_, _++_}
 use mathlib.Core.Bool.{Bool, true, false, _&&_}
 use Prim.Native.Nat.{ℕ, _+_, _*_, _/_, _%_, _≤_}
 use native.Mathlib.Omega.{arith}
-use lib.ListN.{length, getD, take, drop, length-append, length-drop}
+use lib.ListN.{length, take, drop, length-append, length-drop}
 use lib.Seq.{take-all, take-append-le, drop-append-le, drop-at}
 use Rattle.ground.specs.Cases.{pick}
 use Rattle.ground.specs.Lists.{part}
@@ -21,10 +21,10 @@ use Rattle.mcs_state.specs.Codec.{flag, bitOf, isBit, mtuOf, clientOf, c
 pub record Whole (d : Desk) : Type 0 where
   pub name : length (d .player .name .octets) ≡ 128
   pub clients : length (d .clients) ≡ 4
-  pub results0 : length (clientAt (d .clients) 0 .results) ≡ 8
-  pub results1 : length (clientAt (d .clients) 1 .results) ≡ 8
-  pub results2 : length (clientAt (d .clients) 2 .results) ≡ 8
-  pub results3 : length (clientAt (d .clients) 3 .results) ≡ 8
+  pub results0 : length (clientAt (d .clients) 0 .account .results) ≡ 8
+  pub results1 : length (clientAt (d .clients) 1 .account .results) ≡ 8
+  pub results2 : length (clientAt (d .clients) 2 .account .results) ≡ 8
+  pub results3 : length (clientAt (d .clients) 3 .account .results) ≡ 8
 
 flag-bit : (b : Bool) → flag (bitOf b) ≡ b
 flag-bit true = refl
@@ -74,26 +74,32 @@ bit-bit : (b : Bool) → isBit (bitOf b) ≡ true
 bit-bit true = refl
 bit-bit false = refl
 
-mtu-again : (c : Client) → mtuOf (clientOctets c) ≡ c .mtu
+mtu-again : (c : Client) → mtuOf (clientOctets c) ≡ c .link .mtu
 unfolding mtuOf clientOctets wordAt
 mtu-again c =
-    let x = c .mtu in
-    (λ i. pick (bit-bit (c .connected) i && bit-bit (c .encrypted) i) (x % 256 + x / 256 % 256 * 256 + x / 65536 % 256 * 65536 + x / 16777216 * 16777216) 0) ∙ word x
+    let x = c .link .mtu in
+    (λ i. pick (bit-bit (c .link .connected) i && bit-bit (c .link .encrypted) i) (x % 256 + x / 256 % 256 * 256 + x / 65536 % 256 * 65536 + x / 16777216 * 16777216) 0) ∙ word x
 
-pub client-again : (c : Client) → length (c .results) ≡ 8 → clientOf (clientOctets c) ≡ c
+pub client-again : (c : Client) → length (c .account .results) ≡ 8 → clientOf (clientOctets c) ≡ c
 unfolding clientOf clientOctets wordAt
 client-again c h =
     λ i.
     record {
-      connected = flag-bit (c .connected) i;
-      encrypted = flag-bit (c .encrypted) i;
-      mtu = mtu-again c i;
-      subscribed = word (c .subscribed) i;
-      owed = word (c .owed) i;
-      fresh = word (c .fresh) i;
-      mark = word (c .mark) i;
-      waiting = wide (c .waiting) i;
-      results = spelled blankEntry (c .results) 0 8 h i;
+      link =
+          record {
+            connected = flag-bit (c .link .connected) i;
+            encrypted = flag-bit (c .link .encrypted) i;
+            mtu = mtu-again c i;
+            mark = word (c .link .mark) i;
+          };
+      account =
+          record {
+            subscribed = word (c .account .subscribed) i;
+            owed = word (c .account .owed) i;
+            fresh = word (c .account .fresh) i;
+            waiting = wide (c .account .waiting) i;
+            results = spelled blankEntry (c .account .results) 0 8 h i;
+          };
     }
 
 pub player-again : (p : Player) (turn : ℕ) → playerOf (p .name .octets) (headOctets p turn) ≡ p

@@ -49,28 +49,28 @@ entryOctets rs i (suc n) = getD rs i blankEntry .opcode ∷ getD rs i blankEntry
 unfoldable pub mtuOf : List ℕ → ℕ
 mtuOf s = pick (isBit (getD s 0 0) && isBit (getD s 1 0)) (wordAt s 2) 0
 
--- a client record: flags at 0 and 1, ATT_MTU at 2, subscribed at 6, owed at 10, changed marks at 14, slot mark at 18, number of results at 22, results
+-- a client record: flags at 0 and 1, ATT_MTU at 2, subscribed at 6, owed at 10, changed marks at 14, round mark at 18, number of results at 22, results
 -- at 30
 unfoldable pub clientOf : List ℕ → Client
 clientOf s =
     record {
-      connected = flag (getD s 0 0);
-      encrypted = flag (getD s 1 0);
-      mtu = mtuOf s;
-      subscribed = wordAt s 6;
-      owed = wordAt s 10;
-      fresh = wordAt s 14;
-      mark = wordAt s 18;
-      waiting = wideAt s 22;
-      results = entriesAt s 30 8;
+      link = record { connected = flag (getD s 0 0); encrypted = flag (getD s 1 0); mtu = mtuOf s; mark = wordAt s 18 };
+      account =
+          record {
+            subscribed = wordAt s 6;
+            owed = wordAt s 10;
+            fresh = wordAt s 14;
+            waiting = wideAt s 22;
+            results = entriesAt s 30 8;
+          };
     }
 
 unfoldable pub clientOctets : Client → List ℕ
 clientOctets c =
-    bitOf (c .connected)
-    ∷ bitOf (c .encrypted)
-    ∷ wordThen (c .mtu) (wordThen (c .subscribed) (wordThen (c .owed) (wordThen (c .fresh) (wordThen (c .mark)
-    (wideThen (c .waiting) (entryOctets (c .results) 0 8))))))
+    bitOf (c .link .connected)
+    ∷ bitOf (c .link .encrypted)
+    ∷ wordThen (c .link .mtu) (wordThen (c .account .subscribed) (wordThen (c .account .owed) (wordThen (c .account .fresh) (wordThen (c .link .mark)
+    (wideThen (c .account .waiting) (entryOctets (c .account .results) 0 8))))))
 
 -- the player: its name's octets; the name's length at 0, Content Control ID, state, order, playback speed, seeking speed at 1 to 5, the mask at 6, group,
 -- track and position at 10, 14, 18; the turn at 22

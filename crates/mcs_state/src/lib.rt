@@ -6,8 +6,10 @@ ghost use Prim.Native.Nat.{_+_, _≤_};
 ghost use lib.ListN.{length, drop};
 ghost use lib.Seq.{paste};
 ghost use Rattle.mcs_state.specs.Codec.{wideAt, mtuOf, clientOf, clientOctets, playerOf, headOctets, deskOf, deskOctets};
+use desk_client::Account;
 use desk_client::Client;
 use desk_client::Entry;
+use desk_client::Link;
 use desk_state::Desk;
 use player_state::Mode;
 use player_state::Name;
@@ -74,32 +76,40 @@ pub fn client_of(s: &[u8]) -> Client
         opcode: s[44],
         code: s[45],
     };
-    Client {
+    let link = Link {
         connected: s[0] != 0,
         encrypted: s[1] != 0,
         mtu: mtu_of(s),
+        mark: ground::word_at(s, 18),
+    };
+    let account = Account {
         subscribed: ground::word_at(s, 6),
         owed: ground::word_at(s, 10),
         fresh: ground::word_at(s, 14),
-        mark: ground::word_at(s, 18),
         waiting: wide_at(s, 22),
         results: [e0, e1, e2, e3, e4, e5, e6, e7],
+    };
+    Client {
+        link: link,
+        account: account,
     }
 }
 
 pub fn client_octets(c: Client) -> [u8; 46]
     ensures { λ r. ⌜ r ≡ clientOctets c ⌝ }
 {
-    let mtu = c.mtu;
-    let subscribed = c.subscribed;
-    let owed = c.owed;
-    let fresh = c.fresh;
-    let mark = c.mark;
-    let waiting = c.waiting;
-    let rs = c.results;
+    let link = c.link;
+    let account = c.account;
+    let mtu = link.mtu;
+    let subscribed = account.subscribed;
+    let owed = account.owed;
+    let fresh = account.fresh;
+    let mark = link.mark;
+    let waiting = account.waiting;
+    let rs = account.results;
     [
-        c.connected as u8,
-        c.encrypted as u8,
+        link.connected as u8,
+        link.encrypted as u8,
         (mtu % 256) as u8,
         (mtu / 256 % 256) as u8,
         (mtu / 65536 % 256) as u8,
@@ -239,6 +249,7 @@ pub fn decode(s: &[u8]) -> Desk
     ensures { λ r. ⌜ r ≡ deskOf (now (s .entry)) ⌝ }
 {
     let h = &s[128..154];
+    let turn = ground::word_at(h, 22);
     let player = player_of(&s[0..128], h);
     let a = client_of(&s[154..200]);
     let b = client_of(&s[200..246]);
@@ -247,7 +258,7 @@ pub fn decode(s: &[u8]) -> Desk
     Desk {
         player: player,
         clients: [a, b, c, d],
-        turn: ground::word_at(h, 22),
+        turn: turn,
     }
 }
 
@@ -278,9 +289,9 @@ fn put_head(s: &mut [u8], p: Player, turn: u32)
 fn put_client(s: &mut [u8], at: usize, c: Client)
     requires { ⌜ at + 46 ≤ length (now s) ⌝ }
     ensures { λ _. ⌜ now (s .exit) ≡ paste (now (s .entry)) at (clientOctets c) 46 ⌝ }
-    ensures { λ _. ⌜ length (c .results) ≡ 8 ⌝ }
+    ensures { λ _. ⌜ length (c .account .results) ≡ 8 ⌝ }
 {
-    let rs = c.results;
+    let rs = c.account.results;
     eight(rs);
     let octets = client_octets(c);
     put(s, at, &octets);

@@ -206,17 +206,17 @@ fn write_set(w: u32) {
 
 fn write_client(c: desk_client::Client) {
     io::write_all(1, b" |");
-    if !c.connected {
+    if !c.link.connected {
         io::write_all(1, b" -");
         return;
     }
-    write_number(c.mtu);
+    write_number(c.link.mtu);
     io::write_all(1, b":");
-    write_set(c.subscribed);
+    write_set(c.account.subscribed);
     io::write_all(1, b";");
-    write_set(c.owed);
+    write_set(c.account.owed);
     io::write_all(1, b"; ");
-    io::print_decimal(1, c.waiting as u64);
+    io::print_decimal(1, c.account.waiting as u64);
 }
 
 fn write_state(d: desk_state::Desk) {
@@ -437,52 +437,70 @@ fn damage_player(p: player_state::Player, part: u8, number: u32) -> player_state
 }
 
 // The code of the result at a place: the place is the second octet of the number, the code its first.
-fn with_code(c: desk_client::Client, number: u32) -> desk_client::Client {
-    let mut results = c.results;
+fn with_code(a: desk_client::Account, number: u32) -> desk_client::Account {
+    let mut results = a.results;
     let at = ground::wide_word(number / 256 % 8);
     let e = results[at];
     results[at] = desk_client::Entry {
         opcode: e.opcode,
         code: low(number),
     };
-    let mut d = c;
-    d.results = results;
-    d
+    let mut b = a;
+    b.results = results;
+    b
 }
 
-// Sets one part of a client's record to anything.
-fn damage_client(c: desk_client::Client, part: u8, number: u32) -> desk_client::Client {
-    let mut d = c;
+// Sets one part of a client's link to anything.
+fn damage_link(l: desk_client::Link, part: u8, number: u32) -> desk_client::Link {
+    let mut m = l;
     match part {
         10 => {
-            d.connected = number != 0;
+            m.connected = number != 0;
         }
         11 => {
-            d.encrypted = number != 0;
+            m.encrypted = number != 0;
         }
         12 => {
-            d.mtu = number;
-        }
-        13 => {
-            d.subscribed = number;
-        }
-        14 => {
-            d.owed = number;
-        }
-        15 => {
-            d.fresh = number;
+            m.mtu = number;
         }
         16 => {
-            d.mark = number;
-        }
-        17 => {
-            d.waiting = ground::wide_word(number);
-        }
-        18 => {
-            return with_code(c, number);
+            m.mark = number;
         }
         _ => {}
     }
+    m
+}
+
+// Sets one part of a client's account to anything.
+fn damage_account(a: desk_client::Account, part: u8, number: u32) -> desk_client::Account {
+    let mut b = a;
+    match part {
+        13 => {
+            b.subscribed = number;
+        }
+        14 => {
+            b.owed = number;
+        }
+        15 => {
+            b.fresh = number;
+        }
+        17 => {
+            b.waiting = ground::wide_word(number);
+        }
+        18 => {
+            return with_code(a, number);
+        }
+        _ => {}
+    }
+    b
+}
+
+fn damage_client(c: desk_client::Client, part: u8, number: u32) -> desk_client::Client {
+    let link = c.link;
+    let account = c.account;
+    let mut d = c;
+    d.link = damage_link(link, part, number);
+    d.account = damage_account(account, part, number);
     d
 }
 

@@ -1,78 +1,27 @@
 -- `desk_client::connected_right`: a test for each part of the rule.
-use mathlib.Core.Path.{_≡_, sym, ap, _∙_}
-use mathlib.Core.Bool.{Bool, false, _&&_, _||_}
-use borrow.Author.Tests.{leb-true, not-true, not-false}
-use lib.Bits.{bitAnd}
-use lib.Dec.{eqb, ltb, leb}
-use Rattle.ground.specs.Cases.{has}
-use Rattle.ground.proofs.Cases.{and-fails}
-use Rattle.desk_slots.specs.Slots.{slotCount, onlySlots, inter}
-use Rattle.desk_slots.proofs.SetLaws.{readable-word}
-use Rattle.desk_client.specs.Client.{mtuRight, onlyReadable, alike, controlSlot, codesRight, connectedRule}
-use Rattle.desk_client.specs.declared.Client.{Client}
+use mathlib.Core.Bool.{_&&_, _||_}
+use lib.Dec.{eqb, ltb}
+use Rattle.desk_slots.specs.Slots.{placeCount}
+use Rattle.desk_client.specs.Client.{connectedRule}
 use borrow.Author.Needs.{needs}
 use Rattle.desk_client.proofs.connected_right.Statement.{statement}
 use Rattle.desk_client.proofs.connected_right.Tie as tie
 
--- too many results fail the rule, whatever else holds
-many : (c : Client) → leb (c .waiting) 8 ≡ false → false ≡ connectedRule c
-unfolding connectedRule
-many c e =
-    let front = mtuRight (c .mtu) && onlySlots (c .subscribed) && onlySlots (c .owed) && onlyReadable (c .fresh)
-    && eqb (inter (c .owed) (c .subscribed)) (c .owed) && alike (has (c .owed) controlSlot) (ltb 0 (c .waiting)) in
-    sym (ap (λ (t : Bool). t && codesRight (c .waiting) (c .results) && ltb (c .mark) slotCount && (c .encrypted || eqb (c .subscribed) 0)) (and-fails front e))
-
-returns : tie.Need-returns
-unfolding connectedRule
-returns c = many (c .before .before .args .c) (not-true _ (c .if1 .taken))
-
 mtu-right-requires : tie.Need-mtu-right-requires
 mtu-right-requires c κs = search needs
 
-only-slots-requires : tie.Need-only-slots-requires
-only-slots-requires c κs = search needs
+account-right-requires : tie.Need-account-right-requires
+account-right-requires c κs = search needs
 
-only-slots-requires-2 : tie.Need-only-slots-requires-2
-only-slots-requires-2 c κs = search needs
-
-has-bit-requires : tie.Need-has-bit-requires
-has-bit-requires c κs = search needs
-
-agree-requires : tie.Need-agree-requires
-agree-requires c κs = search needs
-
-codes-right-requires : tie.Need-codes-right-requires
-codes-right-requires c κs = leb-true _ _ (not-false _ (c .before .before .before .before .before .before .before .before .before .before .before .if1 .left))
-
-returns-2 : tie.Need-returns-2
-unfolding connectedRule inter
-returns-2 c =
-    let k = c .before .before .before in
-    let a = k .before .before in
-    let h = a .before .before in
-    let o = h .before .before .before .before .before in
-    let x = o .before .before .before .before .before .args .c in
+returns : tie.Need-returns
+unfolding connectedRule
+returns c =
+    let x = c .before .before .before .before .before .before .before .args .c in
     λ i.
-    o .before .before .mtu-right .ensures i
-    && o .before .only-slots .ensures i
-    && o .only-slots2 .ensures i
-    && eqb (bitAnd (x .fresh) (sym readable-word i)) (x .fresh)
-    && eqb (bitAnd (x .owed) (x .subscribed)) (x .owed)
-    && (a .agree .ensures ∙ ap (λ (t : Bool). alike t (ltb 0 (x .waiting))) (h .has-bit .ensures)) i
-    && leb (x .waiting) 8
-    && k .codes-right .ensures i
-    && ltb (x .mark) slotCount
-    && (x .encrypted || eqb (x .subscribed) 0)
+    c .before .before .before .before .mtu-right .ensures i
+    && ltb (x .link .mark) placeCount
+    && c .before .before .account-right .ensures i
+    && (x .link .encrypted || eqb (x .account .subscribed) 0)
 
 pub connected-right-spec : {M : Type 1} → statement M
-connected-right-spec =
-    tie.close
-    (tie.spec
-    returns
-    mtu-right-requires
-    only-slots-requires
-    only-slots-requires-2
-    has-bit-requires
-    agree-requires
-    codes-right-requires
-    returns-2)
+connected-right-spec = tie.close (tie.spec mtu-right-requires account-right-requires returns)

@@ -12,12 +12,12 @@ returns c = simp (eq-eqb _ _ (c .if1 .taken))
 shifted-requires : tie.Need-shifted-requires
 shifted-requires c κs = search needs
 
-sub-d : tie.Need-sub-d
-sub-d c = search needs
+sub-b : tie.Need-sub-b
+sub-b c = search needs
 
 returns-2 : tie.Need-returns-2
 unfolding popped
 returns-2 c = rw (c .shifted .ensures) (simp (ne-eqb _ _ (c .before .before .if1 .left)))
 
 pub pop-result-spec : {M : Type 1} → statement M
-pop-result-spec = tie.close (tie.spec returns shifted-requires sub-d returns-2)
+pop-result-spec = tie.close (tie.spec returns shifted-requires sub-b returns-2)

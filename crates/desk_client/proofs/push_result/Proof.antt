@@ -15,12 +15,12 @@ mul-e c = search needs
 element-set-from-e : tie.Need-element-set-from-e
 element-set-from-e c = search needs
 
-add-d : tie.Need-add-d
-add-d c = search needs
+add-b : tie.Need-add-b
+add-b c = search needs
 
 returns-2 : tie.Need-returns-2
 unfolding pushed
 returns-2 c = simp (lt-ltb _ _ (c .if1 .left))
 
 pub push-result-spec : {M : Type 1} → statement M
-push-result-spec = tie.close (tie.spec returns mul-e element-set-from-e add-d returns-2)
+push-result-spec = tie.close (tie.spec returns mul-e element-set-from-e add-b returns-2)

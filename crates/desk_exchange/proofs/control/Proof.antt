@@ -6,7 +6,7 @@ use Rattle.player_moves.specs.Control.{controlled}
 use Rattle.player_moves.proofs.Ready.{shaped}
 use Rattle.desk_client.specs.Duties.{resulted}
 use Rattle.desk_state.specs.declared.Desk.{Desk}
-use Rattle.desk_state.specs.Desk.{clientAt, withClient}
+use Rattle.desk_state.specs.Desk.{accountAt, withAccountOf}
 use Rattle.desk_notices.specs.Owed.{settled}
 use Rattle.desk_exchange.specs.Write.{controlWritten}
 use borrow.Author.Needs.{needs}
@@ -34,14 +34,14 @@ by-writer-requires c κs = search needs
 settle-requires : tie.Need-settle-requires
 settle-requires c κs = search needs
 
-client-at-requires : tie.Need-client-at-requires
-client-at-requires c κs = omega (arith, c .before .before .before .before .before .before .before .before .before .before .before .before .pre .1 .1)
+account-at-requires : tie.Need-account-at-requires
+account-at-requires c κs = omega (arith, c .before .before .before .before .before .before .before .before .before .before .before .before .pre .1 .1)
 
 note-result-requires : tie.Need-note-result-requires
 note-result-requires c κs = search needs
 
-with-client-requires : tie.Need-with-client-requires
-with-client-requires c κs = c .before .before .before .before .before .before .before .before .before .before .before .before .before .before .pre .1 .1
+with-account-requires : tie.Need-with-account-requires
+with-account-requires c κs = c .before .before .before .before .before .before .before .before .before .before .before .before .before .before .pre .1 .1
 
 returns : tie.Need-returns
 unfolding controlWritten
@@ -50,8 +50,8 @@ returns c =
     let opcode = c .before .before .before .before .before .before .before .before .octet-or-zero .ensures in
     let done = c .before .before .before .before .before .before .control .ensures ∙ (λ k. controlled (s .args .groups .now) (s .args .tracks .now) (s .args .segments .now) (opcode k) (c .before .before .before .before .before .before .before .number-of .ensures k) (s .args .d .player)) in
     let told = c .before .before .before .settle .ensures ∙ (λ k. settled (source (s .args .tracks .now) (s .args .text .now)) (c .before .before .before .before .by-writer .ensures k) (done k .player) (s .args .d)) in
-    let note = c .before .note-result .ensures ∙ (λ k. resulted (opcode k) (done k .result) ((c .before .before .client-at .ensures ∙ ap (λ (e : Desk). clientAt (e .clients) (s .args .who)) told) k)) in
-    c .with-client .ensures ∙ (λ k. withClient (s .args .who) (note k) (told k))
+    let note = c .before .note-result .ensures ∙ (λ k. resulted (opcode k) (done k .result) ((c .before .before .account-at .ensures ∙ ap (λ (e : Desk). accountAt (e .clients) (s .args .who)) told) k)) in
+    c .with-account .ensures ∙ (λ k. withAccountOf (s .args .who) (note k) (told k))
 
 pub control-spec : {M : Type 1} → statement M
 control-spec =
@@ -62,7 +62,7 @@ control-spec =
     control-requires
     by-writer-requires
     settle-requires
-    client-at-requires
+    account-at-requires
     note-result-requires
-    with-client-requires
+    with-account-requires
     returns)

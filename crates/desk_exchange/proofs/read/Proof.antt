@@ -21,10 +21,11 @@ use Rattle.player_values.specs.declared.Held.{Held}
 use Rattle.player_values.specs.Handing.{partFrom}
 use Rattle.player_values.proofs.Fits.{name-short, title-fits, value-fits}
 use Rattle.ground.proofs.Rows.{NoneApplies, through}
+use Rattle.desk_client.specs.declared.Account.{Account}
 use Rattle.desk_client.specs.declared.Client.{Client}
 use Rattle.desk_client.proofs.Rule.{mtu-least}
 use Rattle.desk_state.specs.declared.Desk.{Desk}
-use Rattle.desk_state.specs.Desk.{withClient}
+use Rattle.desk_state.specs.Desk.{withAccountOf}
 use Rattle.desk_state.proofs.Laws.{client-stands}
 use Rattle.desk_replies.specs.Replies.{fronted, caller}
 use Rattle.desk_replies.proofs.Gates.{refuses, none, right, stands, player, as-it-was, shown}
@@ -66,7 +67,7 @@ module _ (s : tie.Start) (n : NoneApplies (rows s)) where
   abbrev own : Client
   own = caller (s .args .d) (s .args .who)
 
-  mtu : 23 ≤ own .mtu
+  mtu : 23 ≤ own .link .mtu
   mtu = mtu-least own (client-stands (s .args .groups .now) (s .args .tracks .now) (s .args .d) (stands (lent s) (ltb (room s) leastOutput) (s .args .d) (mine s) n) (s .args .who) there)
 
   abbrev value : List ℕ
@@ -108,7 +109,7 @@ wide-word-requires : tie.Need-wide-word-requires
 wide-word-requires c κs = search needs
 
 sub-wide-word : tie.Need-sub-wide-word
-sub-wide-word c = omega (arith, mtu (begin (c .before .before .before .before .before .before .before)) (passed (c .before .before .before .before .before .before .before) (c .before .before .before .before .before .if1 .left)), ap (λ (r : Client). r .mtu) (c .before .before .before .client-at .ensures))
+sub-wide-word c = omega (arith, mtu (begin (c .before .before .before .before .before .before .before)) (passed (c .before .before .before .before .before .before .before) (c .before .before .before .before .before .if1 .left)), ap (λ (r : Client). r .link .mtu) (c .before .before .before .client-at .ensures))
 
 wide-word-requires-2 : tie.Need-wide-word-requires-2
 wide-word-requires-2 c κs = search needs
@@ -121,11 +122,18 @@ hand-requires c κs =
     let from = c .before .before .before .wide-word .ensures .0 in
     (ltb-false _ _ (n .1 .0), (omega (arith, within-value s n, held, from), omega (arith, short s n, held)))
 
-after-read-requires : tie.Need-after-read-requires
-after-read-requires c κs = in-below 32 readables refl _ (not-false _ (passed (c .before .before .before .before .before .before .before .before .before .before .before .before) (c .before .before .before .before .before .before .before .before .before .before .if1 .left) .1 .1 .1 .1 .1 .1 .0))
+-- from the client's account on, the way back to the gate
+abbrev gate : tie.After-a → tie.After-read-gate
+gate a = a .before .before .before .before .before .before .before .before .before .before .before .before .before
 
-with-client-requires : tie.Need-with-client-requires
-with-client-requires c κs = there (begin (c .before .before .before .before .before .before .before .before .before .before .before .before .before)) (passed (c .before .before .before .before .before .before .before .before .before .before .before .before .before) (c .before .before .before .before .before .before .before .before .before .before .before .if1 .left))
+reached : (a : tie.After-a) → NoneApplies (rows (begin (gate a)))
+reached a = passed (gate a) (a .before .before .before .before .before .before .before .before .before .before .before .if1 .left)
+
+after-read-requires : tie.Need-after-read-requires
+after-read-requires c κs = in-below 32 readables refl _ (not-false _ (reached c .1 .1 .1 .1 .1 .1 .0))
+
+with-account-requires : tie.Need-with-account-requires
+with-account-requires c κs = there (begin (gate (c .before))) (reached (c .before))
 
 left-requires : tie.Need-left-requires
 left-requires c κs = search needs
@@ -136,24 +144,28 @@ same-length c = search needs
 returns-2 : tie.Need-returns-2
 unfolding readCall readOctets
 returns-2 c =
-    let g = c .before .before .before .before .before .before .before .before .before .before .before .before .before .before .before in
-    let s = begin g in
-    let n = passed (c .before .before .before .before .before .before .before .before .before .before .before .before .before .before .before) (c .before .before .before .before .before .before .before .before .before .before .before .before .before .if1 .left) in
-    let hold = c .before .before .before .before .before .before .before .before .before .before .hold .ensures in
-    let own = c .before .before .before .before .before .before .before .before .before .before .before .client-at .ensures in
-    let from = c .before .before .before .before .before .before .before .before .before .wide-word .ensures .0 in
-    let most = c .before .before .before .before .before .before .before .wide-word2 .ensures .0 ∙ ap (λ (r : Client). r .mtu - 1) own in
-    let part : partFrom (c .before .before .before .before .before .before .before .before .before .wide-word .result) (c .before .before .before .before .before .before .before .wide-word2 .result) (take (c .before .before .before .before .before .before .before .before .before .before .hold .result .len) (c .before .before .before .before .before .before .before .before .before .before .hold .result .octets)) ≡ readOctets (lent s) (s .args .d) (s .args .who) (s .args .characteristic) (s .args .offset) =
+    let a = c .before .before .before in
+    let s = begin (gate a) in
+    let n = reached a in
+    let hand = a .before .before .before in
+    let wide2 = hand .before .before in
+    let wide = wide2 .before .before in
+    let held = wide .before in
+    let hold = held .hold .ensures in
+    let own = held .before .client-at .ensures in
+    let from = wide .wide-word .ensures .0 in
+    let most = wide2 .wide-word2 .ensures .0 ∙ ap (λ (r : Client). r .link .mtu - 1) own in
+    let octets = readOctets (lent s) (s .args .d) (s .args .who) (s .args .characteristic) (s .args .offset) in
+    let part : partFrom (wide .wide-word .result) (wide2 .wide-word2 .result) (take (held .hold .result .len) (held .hold .result .octets)) ≡ octets =
     (λ k. partFrom (from k) (most k) (take (hold k .len) (hold k .octets)))
-    ∙ ap (partFrom (s .args .offset) (caller (s .args .d) (s .args .who) .mtu - 1)) (take-append-seam (value s n) (drop (length (value s n)) (replicate mostTitle 0))) in
-    let hand = c .before .before .before .before .before .hand in
-    let next = c .before .before .after-read .ensures ∙ ap (afterRead (s .args .characteristic) (s .args .offset)) own in (
+    ∙ ap (partFrom (s .args .offset) (caller (s .args .d) (s .args .who) .link .mtu - 1)) (take-append-seam (value s n) (drop (length (value s n)) (replicate mostTitle 0))) in
+    let next = c .before .before .after-read .ensures ∙ ap (λ (r : Client). afterRead (s .args .characteristic) (s .args .offset) (r .account)) own in (
       through (keeping (s .args .d)) (rows s) n
           (c .left .ensures
-          ∙ (λ k. leaves (granted ((hand .ensures .0 ∙ ap length part) k ∷ [])) ((c .before .with-client .ensures ∙ ap (λ (r : Client). withClient (s .args .who) r (s .args .d)) next) k))),
-      hand .ensures .1
-          ∙ ap (λ (octets : List ℕ). filled octets (s .args .out .now)) part
-          ∙ shown _ _ (readOctets (lent s) (s .args .d) (s .args .who) (s .args .characteristic) (s .args .offset)) (s .args .out .now) (ap (λ (l : Left Desk). l .said) (c .left .ensures)),
+          ∙ (λ k. leaves (granted ((hand .hand .ensures .0 ∙ ap length part) k ∷ [])) ((c .before .with-account .ensures ∙ ap (λ (r : Account). withAccountOf (s .args .who) r (s .args .d)) next) k))),
+      hand .hand .ensures .1
+          ∙ ap (λ (front : List ℕ). filled front (s .args .out .now)) part
+          ∙ shown _ _ octets (s .args .out .now) (ap (λ (l : Left Desk). l .said) (c .left .ensures)),
     )
 
 pub read-spec : {M : Type 1} → statement M
@@ -170,7 +182,7 @@ read-spec =
     wide-word-requires-2
     hand-requires
     after-read-requires
-    with-client-requires
+    with-account-requires
     left-requires
     same-length
     returns-2)

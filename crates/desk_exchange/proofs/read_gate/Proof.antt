@@ -1,6 +1,6 @@
 -- `desk_exchange::read_gate`: the rows of a read, the first that applies.
 use mathlib.Core.Path.{_≡_, refl, sym, ap, subst, _∙_}
-use mathlib.Core.Bool.{Bool, false, not, _&&_}
+use mathlib.Core.Bool.{Bool, not, _&&_}
 use mathlib.Core.List.{List, [], _∷_, _++_}
 use borrow.Author.Tests.{leb-false, lt-ltb, le-ltb, not-true, not-false}
 use lib.Dec.{ltb}
@@ -14,6 +14,7 @@ use Rattle.catalogue_tables.specs.Tables.{Tables, tables}
 use Rattle.player_values.proofs.Fits.{name-short, title-fits}
 use Rattle.desk_slots.specs.Characteristics.{readables, isIn}
 use Rattle.desk_slots.proofs.SetLaws.{in-below}
+use Rattle.desk_client.specs.declared.Account.{Account}
 use Rattle.desk_client.specs.declared.Client.{Client}
 use Rattle.desk_replies.specs.Replies.{Gated, fronted, ofClient, ofCharacteristic, caller}
 use Rattle.desk_replies.proofs.Gates.{says, none, stays-shut, stays-open, right, player}
@@ -30,7 +31,7 @@ own s = caller (s .args .d) (s .args .who)
 
 -- the rows that the gate asked, and those behind them
 abbrev mine : tie.Start → List Row
-mine s = ofClient (s .args .who) (own s .connected) ++ ofCharacteristic (own s .encrypted) (s .args .characteristic) 0x02 (isIn readables (s .args .characteristic))
+mine s = ofClient (s .args .who) (own s .link .connected) ++ ofCharacteristic (own s .link .encrypted) (s .args .characteristic) 0x02 (isIn readables (s .args .characteristic))
 
 abbrev asked : tie.Start → List Row
 asked s = fronted (lent s) (ltb (s .args .room) leastOutput) (s .args .d) ++ mine s
@@ -40,7 +41,7 @@ marked s read = ltb 0 (s .args .offset) && not read
 
 abbrev behind : tie.Start → List Row
 behind s =
-    row 0x80 (marked s (has (own s .fresh) (s .args .characteristic)))
+    row 0x80 (marked s (has (own s .account .fresh) (s .args .characteristic)))
     ∷ row 0x07 (ltb (length (valueNow (lent s) (s .args .d) (s .args .characteristic))) (s .args .offset))
     ∷ []
 
@@ -51,7 +52,7 @@ gated : (g : tie.After-characteristic-gate) → Gated (asked (begun g)) (g .char
 gated g =
     let s = begun g in
     subst
-    (λ (allowed : Bool). Gated (fronted (lent s) (ltb (s .args .room) leastOutput) (s .args .d) ++ (ofClient (s .args .who) (own s .connected) ++ ofCharacteristic (own s .encrypted) (s .args .characteristic) 0x02 allowed)) (g .characteristic-gate .result))
+    (λ (allowed : Bool). Gated (fronted (lent s) (ltb (s .args .room) leastOutput) (s .args .d) ++ (ofClient (s .args .who) (own s .link .connected) ++ ofCharacteristic (own s .link .encrypted) (s .args .characteristic) 0x02 allowed)) (g .characteristic-gate .result))
     (g .before .may-read .ensures) (g .characteristic-gate .ensures)
 
 passed : (e : tie.Else1) → NoneApplies (asked (begun (e .before .before)))
@@ -60,10 +61,10 @@ passed e = none (asked (begun (e .before .before))) (e .before .before .characte
 -- the changed mark, and the value's length as it is held
 mark : (h : tie.After-has-bit)
     → let s = begun (h .before .before .before .before) in
-    marked s (h .has-bit .result) ≡ marked s (has (own s .fresh) (s .args .characteristic))
+    marked s (h .has-bit .result) ≡ marked s (has (own s .account .fresh) (s .args .characteristic))
 mark h =
     let s = begun (h .before .before .before .before) in
-    ap (marked s) (h .has-bit .ensures ∙ ap (λ (r : Client). has (r .fresh) (s .args .characteristic)) (h .before .client-at .ensures))
+    ap (marked s) (h .has-bit .ensures ∙ ap (λ (r : Account). has (r .fresh) (s .args .characteristic)) (h .before .account-at .ensures))
 
 length-is : (w : tie.After-wide-word)
     → let s = begun (w .before .before .before .before .before .before .before .before) in
@@ -82,8 +83,8 @@ returns c =
     let s = begun g in
     stays-shut (asked s) (g .characteristic-gate .result) (gated g) (not-true _ (c .if1 .taken)) (behind s)
 
-client-at-requires : tie.Need-client-at-requires
-client-at-requires c κs = leb-false _ _ (passed c .1 .1 .1 .0)
+account-at-requires : tie.Need-account-at-requires
+account-at-requires c κs = leb-false _ _ (passed c .1 .1 .1 .0)
 
 has-bit-requires : tie.Need-has-bit-requires
 has-bit-requires c κs = in-below 32 readables refl _ (not-false _ (passed (c .before) .1 .1 .1 .1 .1 .1 .0))
@@ -140,7 +141,7 @@ read-gate-spec =
     may-read-requires
     characteristic-gate-requires
     returns
-    client-at-requires
+    account-at-requires
     has-bit-requires
     gate-shut-requires
     returns-2

@@ -26,7 +26,7 @@ begin g = g .before .before .before .before .before .before
 abbrev mine : tie.Start → List Row
 mine s =
     let c = caller (s .args .d) (s .args .who) in
-    writeRows (s .args .who) (c .connected) (c .encrypted) (c .waiting) (s .args .characteristic) (s .args .value .now)
+    writeRows (s .args .who) (c .link .connected) (c .link .encrypted) (c .account .waiting) (s .args .characteristic) (s .args .value .now)
 
 abbrev rows : tie.Start → List Row
 rows s = fronted (lent s) false (s .args .d) ++ mine s

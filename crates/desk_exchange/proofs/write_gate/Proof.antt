@@ -11,6 +11,7 @@ use Rattle.ground.proofs.Cases.{past, here}
 use Rattle.ground.proofs.Rows.{NoneApplies, beyond}
 use Rattle.catalogue_tables.specs.Tables.{Tables, tables}
 use Rattle.desk_slots.specs.Characteristics.{writables, isIn}
+use Rattle.desk_client.specs.declared.Account.{Account}
 use Rattle.desk_client.specs.declared.Client.{Client}
 use Rattle.desk_client.specs.Client.{mostResults}
 use Rattle.desk_replies.specs.Replies.{Gated, fronted, ofClient, ofCharacteristic, caller}
@@ -30,7 +31,7 @@ own s = caller (s .args .d) (s .args .who)
 abbrev asked : tie.Start → List Row
 asked s =
     fronted (lent s) false (s .args .d)
-    ++ (ofClient (s .args .who) (own s .connected) ++ ofCharacteristic (own s .encrypted) (s .args .characteristic) 0x03 (isIn writables (s .args .characteristic)))
+    ++ (ofClient (s .args .who) (own s .link .connected) ++ ofCharacteristic (own s .link .encrypted) (s .args .characteristic) 0x03 (isIn writables (s .args .characteristic)))
 
 abbrev badOrder : tie.Start → ℕ → Bool
 badOrder s first = eqb (s .args .characteristic) 15 && not (within 1 8 first)
@@ -42,7 +43,7 @@ abbrev behind : tie.Start → List Row
 behind s =
     row 0x0D (not (lengthRight (s .args .characteristic) (s .args .value .now)))
     ∷ row 0x13 (badOrder s (firstOctet (s .args .value .now)))
-    ∷ row 0x11 (tooMany s (own s .waiting))
+    ∷ row 0x11 (tooMany s (own s .account .waiting))
     ∷ []
 
 abbrev begun : tie.After-characteristic-gate → tie.Start
@@ -52,7 +53,7 @@ gated : (g : tie.After-characteristic-gate) → Gated (asked (begun g)) (g .char
 gated g =
     let s = begun g in
     subst
-    (λ (allowed : Bool). Gated (fronted (lent s) false (s .args .d) ++ (ofClient (s .args .who) (own s .connected) ++ ofCharacteristic (own s .encrypted) (s .args .characteristic) 0x03 allowed)) (g .characteristic-gate .result))
+    (λ (allowed : Bool). Gated (fronted (lent s) false (s .args .d) ++ (ofClient (s .args .who) (own s .link .connected) ++ ofCharacteristic (own s .link .encrypted) (s .args .characteristic) 0x03 allowed)) (g .characteristic-gate .result))
     (g .before .may-write .ensures) (g .characteristic-gate .ensures)
 
 passed : (e : tie.Else1) → NoneApplies (asked (begun (e .before .before)))
@@ -69,10 +70,10 @@ order-is : (o : tie.After-octet-or-zero)
     badOrder s (o .octet-or-zero .result) ≡ badOrder s (firstOctet (s .args .value .now))
 order-is o = ap (badOrder (begun (o .before .before .before .before .before))) (o .octet-or-zero .ensures)
 
-many-is : (a : tie.After-client-at)
+many-is : (a : tie.After-account-at)
     → let s = begun (a .before .before .before .before .before .before .before) in
-    tooMany s (a .client-at .result .waiting) ≡ tooMany s (own s .waiting)
-many-is a = let s = begun (a .before .before .before .before .before .before .before) in ap (λ (r : Client). tooMany s (r .waiting)) (a .client-at .ensures)
+    tooMany s (a .account-at .result .waiting) ≡ tooMany s (own s .account .waiting)
+many-is a = let s = begun (a .before .before .before .before .before .before .before) in ap (λ (r : Account). tooMany s (r .waiting)) (a .account-at .ensures)
 
 may-write-requires : tie.Need-may-write-requires
 may-write-requires c κs = search needs
@@ -115,8 +116,8 @@ returns-3 c =
     says (asked s ++ behind s) (c .gate-shut2 .result) (refused 0x13) (c .gate-shut2 .ensures .0) (c .gate-shut2 .ensures .1)
     (beyond (asked s) (behind s) (passed e) (past _ (long l ∙ o .before .if2 .left) (here _ (sym (order-is o) ∙ c .before .if3 .taken) refl)))
 
-client-at-requires : tie.Need-client-at-requires
-client-at-requires c κs = leb-false _ _ (passed (c .before .before .before .before) .1 .1 .1 .0)
+account-at-requires : tie.Need-account-at-requires
+account-at-requires c κs = leb-false _ _ (passed (c .before .before .before .before) .1 .1 .1 .0)
 
 gate-shut-requires-3 : tie.Need-gate-shut-requires-3
 gate-shut-requires-3 c κs = search needs
@@ -156,7 +157,7 @@ write-gate-spec =
     octet-or-zero-requires
     gate-shut-requires-2
     returns-3
-    client-at-requires
+    account-at-requires
     gate-shut-requires-3
     returns-4
     returns-5)

@@ -24,7 +24,7 @@ abbrev front : tie.Start → List Row
 front s = fronted (lent s) false (s .args .d)
 
 abbrev own : tie.Start → List Row
-own s = connectRows (s .args .who) (caller (s .args .d) (s .args .who) .connected) (s .args .mtu)
+own s = connectRows (s .args .who) (caller (s .args .d) (s .args .who) .link .connected) (s .args .mtu)
 
 abbrev begun : tie.Else1 → tie.Start
 begun e = e .before .before .before .before .before .before .before
@@ -33,8 +33,8 @@ passed : (e : tie.Else1) → NoneApplies (front (begun e))
 passed e = let g = e .before .before in none (front (begun e)) (g .front-gate .result) (g .front-gate .ensures) (not-false _ (e .if1 .left))
 
 -- the record that is looked at is the caller's
-linked : (a : tie.After-client-at) → let s = begun (a .before .before) in caller (s .args .d) (s .args .who) .connected ≡ a .client-at .result .connected
-linked a = sym (ap (λ (r : Client). r .connected) (a .client-at .ensures))
+linked : (a : tie.After-client-at) → let s = begun (a .before .before) in caller (s .args .d) (s .args .who) .link .connected ≡ a .client-at .result .link .connected
+linked a = sym (ap (λ (r : Client). r .link .connected) (a .client-at .ensures))
 
 fits : (m : tie.After-mtu-right) → let s = begun (m .before .before .before .before) in not (mtuRight (s .args .mtu)) ≡ not (m .mtu-right .result)
 fits m = sym (ap not (m .mtu-right .ensures))

@@ -19,7 +19,7 @@ abbrev lent : tie.Start → Tables
 lent s = tables (s .args .groups .now) (s .args .tracks .now) (s .args .segments .now) (s .args .text .now)
 
 abbrev rows : tie.Start → List Row
-rows s = fronted (lent s) false (s .args .d) ++ ofClient (s .args .who) (caller (s .args .d) (s .args .who) .connected)
+rows s = fronted (lent s) false (s .args .d) ++ ofClient (s .args .who) (caller (s .args .d) (s .args .who) .link .connected)
 
 abbrev begun : tie.Else1 → tie.Start
 begun e = e .before .before .before .before .before .before .before

@@ -1,6 +1,6 @@
--- `desk_links::set_slot`: 200, 201, 202, 203, 0x01, 209, 0x0F, then the caller's record with or without the slot.
-use mathlib.Core.Path.{_≡_, sym, ap, subst, _∙_}
-use mathlib.Core.Bool.{Bool, false, not}
+-- `desk_links::set_slot`: 200, 201, 202, 203, 0x01, 209, 0x0F, then the caller's account with or without the slot.
+use mathlib.Core.Path.{ap, subst, _∙_}
+use mathlib.Core.Bool.{false}
 use mathlib.Core.List.{List, [], _++_}
 use Prim.Native.Nat.{ℕ, _<_}
 use lib.Dec.{ltb}
@@ -9,11 +9,10 @@ use Rattle.ground.specs.Cases.{pick}
 use Rattle.ground.specs.Refusals.{granted, Row, leaves, keeping}
 use Rattle.ground.proofs.Rows.{NoneApplies, through}
 use Rattle.catalogue_tables.specs.Tables.{Tables, tables}
-use Rattle.desk_slots.specs.Slots.{slotCount, slotOf, hasSlot}
-use Rattle.desk_client.specs.declared.Client.{Client}
+use Rattle.desk_slots.specs.Slots.{slotCount}
+use Rattle.desk_client.specs.declared.Account.{Account}
 use Rattle.desk_client.specs.Duties.{joined, dropped}
-use Rattle.desk_state.specs.Desk.{withClient}
-use Rattle.desk_replies.specs.declared.Gate.{Gate}
+use Rattle.desk_state.specs.Desk.{withAccountOf}
 use Rattle.desk_replies.specs.Replies.{Gated, fronted, ofClient, ofCharacteristic, caller}
 use Rattle.desk_replies.proofs.Gates.{refuses, none}
 use Rattle.desk_links.specs.Links.{slotRows, slotCall}
@@ -27,7 +26,7 @@ lent s = tables (s .args .groups .now) (s .args .tracks .now) (s .args .segments
 abbrev rows : tie.Start → List Row
 rows s =
     fronted (lent s) false (s .args .d)
-    ++ slotRows (s .args .who) (caller (s .args .d) (s .args .who) .connected) (caller (s .args .d) (s .args .who) .encrypted) (s .args .characteristic)
+    ++ slotRows (s .args .who) (caller (s .args .d) (s .args .who) .link .connected) (caller (s .args .d) (s .args .who) .link .encrypted) (s .args .characteristic)
 
 -- the gate was asked whether there is a slot
 gated : (g : tie.After-characteristic-gate) → Gated (rows (g .before .before .before .before .before .before)) (g .characteristic-gate .result)
@@ -35,7 +34,7 @@ gated g =
     let s = g .before .before .before .before .before .before in
     let c = caller (s .args .d) (s .args .who) in
     subst
-    (λ (x : ℕ). Gated (fronted (lent s) false (s .args .d) ++ (ofClient (s .args .who) (c .connected) ++ ofCharacteristic (c .encrypted) (s .args .characteristic) 209 (ltb x slotCount))) (g .characteristic-gate .result))
+    (λ (x : ℕ). Gated (fronted (lent s) false (s .args .d) ++ (ofClient (s .args .who) (c .link .connected) ++ ofCharacteristic (c .link .encrypted) (s .args .characteristic) 209 (ltb x slotCount))) (g .characteristic-gate .result))
     (g .before .slot-of .ensures .1) (g .characteristic-gate .ensures)
 
 abbrev begun : tie.Else1 → tie.Start
@@ -65,14 +64,14 @@ returns c =
     let s = g .before .before .before .before .before .before in
     c .shut .ensures ∙ refuses (rows s) (g .characteristic-gate .result) (gated g) (not-true _ (c .before .if1 .taken)) (keeping (s .args .d)) [] _
 
-client-at-requires : tie.Need-client-at-requires
-client-at-requires c κs = leb-false _ _ (passed c .1 .1 .1 .0)
+account-at-requires : tie.Need-account-at-requires
+account-at-requires c κs = leb-false _ _ (passed c .1 .1 .1 .0)
 
 with-slot-requires : tie.Need-with-slot-requires
 with-slot-requires c κs = inside (c .before)
 
-with-client-requires : tie.Need-with-client-requires
-with-client-requires c κs = leb-false _ _ (passed (c .before .before) .1 .1 .1 .0)
+with-account-requires : tie.Need-with-account-requires
+with-account-requires c κs = leb-false _ _ (passed (c .before .before) .1 .1 .1 .0)
 
 left-requires : tie.Need-left-requires
 left-requires c κs = search needs
@@ -86,9 +85,9 @@ returns-2 c =
     through (keeping (s .args .d)) (rows s) (passed e)
     (c .left .ensures
     ∙ ap (leaves (granted []))
-    (c .before .with-client .ensures
-    ∙ ap (λ (r : Client). withClient (s .args .who) r (s .args .d))
-    (w .with-slot .ensures ∙ (λ k. pick (s .args .on) joined dropped (e .before .before .before .slot-of .ensures .1 k) (w .before .client-at .ensures k)))))
+    (c .before .with-account .ensures
+    ∙ ap (λ (r : Account). withAccountOf (s .args .who) r (s .args .d))
+    (w .with-slot .ensures ∙ (λ k. pick (s .args .on) joined dropped (e .before .before .before .slot-of .ensures .1 k) (w .before .account-at .ensures k)))))
 
 pub set-slot-spec : {M : Type 1} → statement M
 set-slot-spec =
@@ -98,8 +97,8 @@ set-slot-spec =
     characteristic-gate-requires
     shut-requires
     returns
-    client-at-requires
+    account-at-requires
     with-slot-requires
-    with-client-requires
+    with-account-requires
     left-requires
     returns-2)

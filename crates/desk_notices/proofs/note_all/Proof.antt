@@ -4,6 +4,8 @@ use Prim.Native.Nat.{ℕ, _≤_, _-_}
 use native.Mathlib.Omega.{arith}
 use lib.ListN.{length}
 use Rattle.ground.proofs.Sweep.{upTo, turn, swept}
+use Rattle.desk_client.specs.declared.Account.{Account}
+use Rattle.desk_client.specs.Setters.{withAccount}
 use Rattle.desk_client.specs.Duties.{noted}
 use Rattle.desk_state.specs.Desk.{noClient, clientAt}
 use Rattle.desk_notices.specs.Owed.{noticed}
@@ -49,10 +51,10 @@ loop-less c = search needs
 
 loop-again : tie.Need-loop-again Inv-loop μ-loop
 loop-again c =
-    let d = c .before .before in
+    let d = c .before .before .before in
     let l = d .before .before .loop in
     let a = d .before .before .before .args in
-    (omega arith, l .inv .1, turn (noticed (a .altered) (a .track) (a .cause)) (l .i) _ (l .out) noClient _ (omega arith) (l .inv .2) (c .note .ensures ∙ ap (λ (due : ℕ). noted due (a .altered) (clientAt (l .out) (l .i))) (d .due-to .ensures)))
+    (omega arith, l .inv .1, turn (noticed (a .altered) (a .track) (a .cause)) (l .i) _ (l .out) noClient _ (omega arith) (l .inv .2) (ap (λ (x : Account). withAccount x (clientAt (l .out) (l .i))) (c .note .ensures ∙ ap (λ (due : ℕ). noted due (a .altered) (clientAt (l .out) (l .i) .account)) (d .due-to .ensures))))
 
 returns : tie.Need-returns Inv-loop μ-loop
 returns c =

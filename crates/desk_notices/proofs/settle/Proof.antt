@@ -1,6 +1,7 @@
 -- `desk_notices::settle`: what the two players differ in is what each record is told.
 use mathlib.Core.Path.{_≡_, _∙_}
 use Rattle.ground.specs.Lists.{mapFrom}
+use Rattle.desk_client.specs.Setters.{withAccount}
 use Rattle.desk_client.specs.Duties.{noted}
 use Rattle.desk_notices.specs.Owed.{noticed, dueTo, alteredOf, settled}
 use Rattle.desk_notices.proofs.Laws.{due-is}
@@ -27,10 +28,10 @@ returns c =
     let altered = w .changed-word .ensures in
     let track = t .track-changed .ensures in
     let p = a .d .player in
-    let records : c .note-all .result ≡ mapFrom (λ who r. noted (dueTo (source (a .tracks .now) (a .text .now)) p (a .q) (a .cause) who) (alteredOf (source (a .tracks .now) (a .text .now)) p (a .q)) r) 0 (a .d .clients) =
+    let records : c .note-all .result ≡ mapFrom (λ who r. withAccount (noted (dueTo (source (a .tracks .now) (a .text .now)) p (a .q) (a .cause) who) (alteredOf (source (a .tracks .now) (a .text .now)) p (a .q)) (r .account)) r) 0 (a .d .clients) =
     c .note-all .ensures
     ∙ (λ k. mapFrom (noticed (altered k) (track k) (a .cause)) 0 (a .d .clients))
-    ∙ (λ k. mapFrom (λ who r. noted (due-is (a .tracks .now) (a .text .now) p (a .q) (a .cause) who k) (alteredOf (source (a .tracks .now) (a .text .now)) p (a .q)) r) 0 (a .d .clients)) in
+    ∙ (λ k. mapFrom (λ who r. withAccount (noted (due-is (a .tracks .now) (a .text .now) p (a .q) (a .cause) who k) (alteredOf (source (a .tracks .now) (a .text .now)) p (a .q)) (r .account)) r) 0 (a .d .clients)) in
     λ k. record { player = a .q; clients = records k; turn = a .d .turn }
 
 pub settle-spec : {M : Type 1} → statement M

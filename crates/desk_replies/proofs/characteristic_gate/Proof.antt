@@ -1,6 +1,6 @@
 -- `desk_replies::characteristic_gate`: the rows of a client, and then 0x01, the number, 0x0F, the first that applies.
 use mathlib.Core.Path.{_≡_, refl, sym, ap, _∙_}
-use mathlib.Core.Bool.{false, not}
+use mathlib.Core.Bool.{not}
 use mathlib.Core.List.{List, _++_}
 use borrow.Author.Tests.{leb-false, not-true, not-false}
 use Rattle.ground.specs.Refusals.{refused, Row}
@@ -19,10 +19,10 @@ abbrev lent : tie.Start → Tables
 lent s = tables (s .args .groups .now) (s .args .tracks .now) (s .args .segments .now) (s .args .text .now)
 
 abbrev front : tie.Start → List Row
-front s = fronted (lent s) (s .args .small) (s .args .d) ++ ofClient (s .args .who) (caller (s .args .d) (s .args .who) .connected)
+front s = fronted (lent s) (s .args .small) (s .args .d) ++ ofClient (s .args .who) (caller (s .args .d) (s .args .who) .link .connected)
 
 abbrev own : tie.Start → List Row
-own s = ofCharacteristic (caller (s .args .d) (s .args .who) .encrypted) (s .args .characteristic) (s .args .number) (s .args .allowed)
+own s = ofCharacteristic (caller (s .args .d) (s .args .who) .link .encrypted) (s .args .characteristic) (s .args .number) (s .args .allowed)
 
 passed : (i : tie.After-is-characteristic) → NoneApplies (front (i .before .before .before .before .before .before .before .before))
 passed i =
@@ -37,8 +37,8 @@ known i = sym (ap not (i .is-characteristic .ensures))
 -- the record that is looked at is the caller's
 safe : (a : tie.After-client-at)
     → let s = a .before .before .before .before .before .before .before .before .before .before .before in
-    not (caller (s .args .d) (s .args .who) .encrypted) ≡ not (a .client-at .result .encrypted)
-safe a = sym (ap (λ (r : Client). not (r .encrypted)) (a .client-at .ensures))
+    not (caller (s .args .d) (s .args .who) .link .encrypted) ≡ not (a .client-at .result .link .encrypted)
+safe a = sym (ap (λ (r : Client). not (r .link .encrypted)) (a .client-at .ensures))
 
 client-gate-requires : tie.Need-client-gate-requires
 client-gate-requires c κs = search needs

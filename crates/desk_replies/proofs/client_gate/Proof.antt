@@ -1,6 +1,6 @@
 -- `desk_replies::client_gate`: 200, 205, 201, 202, 203, the first that applies.
 use mathlib.Core.Path.{_≡_, refl, sym, ap, _∙_}
-use mathlib.Core.Bool.{Bool, false, not}
+use mathlib.Core.Bool.{not}
 use mathlib.Core.List.{List, _++_}
 use borrow.Author.Tests.{le-leb, lt-leb, not-true, not-false}
 use Rattle.ground.specs.Refusals.{refused, Row}
@@ -21,13 +21,13 @@ abbrev front : tie.Start → List Row
 front s = fronted (lent s) (s .args .small) (s .args .d)
 
 abbrev own : tie.Start → List Row
-own s = ofClient (s .args .who) (caller (s .args .d) (s .args .who) .connected)
+own s = ofClient (s .args .who) (caller (s .args .d) (s .args .who) .link .connected)
 
 -- the record that is looked at is the caller's
 linked : (a : tie.After-client-at)
     → let s = a .before .before .before .before .before .before .before .before .before in
-    not (caller (s .args .d) (s .args .who) .connected) ≡ not (a .client-at .result .connected)
-linked a = sym (ap (λ (r : Client). not (r .connected)) (a .client-at .ensures))
+    not (caller (s .args .d) (s .args .who) .link .connected) ≡ not (a .client-at .result .link .connected)
+linked a = sym (ap (λ (r : Client). not (r .link .connected)) (a .client-at .ensures))
 
 front-gate-requires : tie.Need-front-gate-requires
 front-gate-requires c κs = search needs

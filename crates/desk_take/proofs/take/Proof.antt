@@ -97,7 +97,7 @@ hand-out-requires c κs =
         player (lent s) (small s) (s .args .d) [] n,
         (
           ap clientRule own ∙ record-stands s n (w .result) there,
-          subst (λ (r : Client). 0 < r .owed) (sym own) (owed-there (s .args .d) (turn-there (s .args .groups .now) (s .args .tracks .now) (s .args .d) (stands (lent s) (small s) (s .args .d) [] n)) (w .result) (w .ensures) there),
+          subst (λ (r : Client). 0 < r .account .owed) (sym own) (owed-there (s .args .d) (turn-there (s .args .groups .now) (s .args .tracks .now) (s .args .d) (stands (lent s) (small s) (s .args .d) [] n)) (w .result) (w .ensures) there),
           ltb-false _ _ (n .1 .0),
         ),
       ),

@@ -1,6 +1,6 @@
 -- `desk_take::take_own`: 200, 205, 201, then what the record owes.
 use mathlib.Core.Path.{_≡_, refl, sym, ap, _∙_}
-use mathlib.Core.Bool.{Bool, true, false, not, _&&_}
+use mathlib.Core.Bool.{not, _&&_}
 use mathlib.Core.List.{List, [], _∷_}
 use mathlib.Core.Logic.{⊎-elim}
 use Prim.Native.Nat.{ℕ, _<_}
@@ -100,7 +100,7 @@ hand-out-requires c κs =
         and-left (playerRule (s .args .groups .now) (s .args .tracks .now) (s .args .p)) (clientRule (s .args .c)) stand,
         (
           and-right (playerRule (s .args .groups .now) (s .args .tracks .now) (s .args .p)) (clientRule (s .args .c)) stand,
-          above (s .args .c .owed) (c .before .if3 .left),
+          above (s .args .c .account .owed) (c .before .if3 .left),
           ltb-false _ _ (n .1 .0),
         ),
       ),

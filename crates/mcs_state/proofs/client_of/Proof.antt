@@ -1,65 +1,63 @@
 -- `mcs_state::client_of`: each part at its place.
-use lib.Dec.{eqb}
 use lib.ListN.{getD}
-use mathlib.Core.Bool.{not}
 use Rattle.mcs_state.specs.Codec.{flag, entriesAt, clientOf}
 use borrow.Author.Needs.{needs}
 use Rattle.mcs_state.proofs.client_of.Statement.{statement}
 use Rattle.mcs_state.proofs.client_of.Tie as tie
 
-shared-slice-read-t11 : tie.Need-shared-slice-read-t11
-shared-slice-read-t11 c = search needs
-
 shared-slice-read-t13 : tie.Need-shared-slice-read-t13
 shared-slice-read-t13 c = search needs
 
-shared-slice-read-t11-2 : tie.Need-shared-slice-read-t11-2
-shared-slice-read-t11-2 c = search needs
+shared-slice-read-t15 : tie.Need-shared-slice-read-t15
+shared-slice-read-t15 c = search needs
 
 shared-slice-read-t13-2 : tie.Need-shared-slice-read-t13-2
 shared-slice-read-t13-2 c = search needs
 
-shared-slice-read-t11-3 : tie.Need-shared-slice-read-t11-3
-shared-slice-read-t11-3 c = search needs
+shared-slice-read-t15-2 : tie.Need-shared-slice-read-t15-2
+shared-slice-read-t15-2 c = search needs
 
 shared-slice-read-t13-3 : tie.Need-shared-slice-read-t13-3
 shared-slice-read-t13-3 c = search needs
 
-shared-slice-read-t11-4 : tie.Need-shared-slice-read-t11-4
-shared-slice-read-t11-4 c = search needs
+shared-slice-read-t15-3 : tie.Need-shared-slice-read-t15-3
+shared-slice-read-t15-3 c = search needs
 
 shared-slice-read-t13-4 : tie.Need-shared-slice-read-t13-4
 shared-slice-read-t13-4 c = search needs
 
-shared-slice-read-t11-5 : tie.Need-shared-slice-read-t11-5
-shared-slice-read-t11-5 c = search needs
+shared-slice-read-t15-4 : tie.Need-shared-slice-read-t15-4
+shared-slice-read-t15-4 c = search needs
 
 shared-slice-read-t13-5 : tie.Need-shared-slice-read-t13-5
 shared-slice-read-t13-5 c = search needs
 
-shared-slice-read-t11-6 : tie.Need-shared-slice-read-t11-6
-shared-slice-read-t11-6 c = search needs
+shared-slice-read-t15-5 : tie.Need-shared-slice-read-t15-5
+shared-slice-read-t15-5 c = search needs
 
 shared-slice-read-t13-6 : tie.Need-shared-slice-read-t13-6
 shared-slice-read-t13-6 c = search needs
 
-shared-slice-read-t11-7 : tie.Need-shared-slice-read-t11-7
-shared-slice-read-t11-7 c = search needs
+shared-slice-read-t15-6 : tie.Need-shared-slice-read-t15-6
+shared-slice-read-t15-6 c = search needs
 
 shared-slice-read-t13-7 : tie.Need-shared-slice-read-t13-7
 shared-slice-read-t13-7 c = search needs
 
-shared-slice-read-t11-8 : tie.Need-shared-slice-read-t11-8
-shared-slice-read-t11-8 c = search needs
+shared-slice-read-t15-7 : tie.Need-shared-slice-read-t15-7
+shared-slice-read-t15-7 c = search needs
 
 shared-slice-read-t13-8 : tie.Need-shared-slice-read-t13-8
 shared-slice-read-t13-8 c = search needs
 
-shared-slice-read-t11-9 : tie.Need-shared-slice-read-t11-9
-shared-slice-read-t11-9 c = search needs
+shared-slice-read-t15-8 : tie.Need-shared-slice-read-t15-8
+shared-slice-read-t15-8 c = search needs
 
 shared-slice-read-t13-9 : tie.Need-shared-slice-read-t13-9
 shared-slice-read-t13-9 c = search needs
+
+shared-slice-read-t15-9 : tie.Need-shared-slice-read-t15-9
+shared-slice-read-t15-9 c = search needs
 
 mtu-of-requires : tie.Need-mtu-of-requires
 mtu-of-requires c κs = search needs
@@ -85,39 +83,45 @@ returns c =
     let s = c .before .before .before .before .before .before .before .before .before .before .before .before .before .before .before .before .before .before .before .before .before .before .before .before .before .args .s .now in
     λ i.
     record {
-      connected = flag (getD s 0 0);
-      encrypted = flag (getD s 1 0);
-      mtu = c .before .before .before .before .before .mtu-of .ensures i;
-      subscribed = c .before .before .before .before .word-at .ensures i;
-      owed = c .before .before .before .word-at2 .ensures i;
-      fresh = c .before .before .word-at3 .ensures i;
-      mark = c .before .word-at4 .ensures i;
-      waiting = c .wide-at .ensures i;
-      results = entriesAt s 30 8;
+      link =
+          record {
+            connected = flag (getD s 0 0);
+            encrypted = flag (getD s 1 0);
+            mtu = c .before .before .before .before .before .mtu-of .ensures i;
+            mark = c .before .before .before .before .word-at .ensures i;
+          };
+      account =
+          record {
+            subscribed = c .before .before .before .word-at2 .ensures i;
+            owed = c .before .before .word-at3 .ensures i;
+            fresh = c .before .word-at4 .ensures i;
+            waiting = c .wide-at .ensures i;
+            results = entriesAt s 30 8;
+          };
     }
 
 pub client-of-spec : {M : Type 1} → statement M
 client-of-spec =
     tie.close
     (tie.spec
-    shared-slice-read-t11
     shared-slice-read-t13
-    shared-slice-read-t11-2
+    shared-slice-read-t15
     shared-slice-read-t13-2
-    shared-slice-read-t11-3
+    shared-slice-read-t15-2
     shared-slice-read-t13-3
-    shared-slice-read-t11-4
+    shared-slice-read-t15-3
     shared-slice-read-t13-4
-    shared-slice-read-t11-5
+    shared-slice-read-t15-4
     shared-slice-read-t13-5
-    shared-slice-read-t11-6
+    shared-slice-read-t15-5
     shared-slice-read-t13-6
-    shared-slice-read-t11-7
+    shared-slice-read-t15-6
     shared-slice-read-t13-7
-    shared-slice-read-t11-8
+    shared-slice-read-t15-7
     shared-slice-read-t13-8
-    shared-slice-read-t11-9
+    shared-slice-read-t15-8
     shared-slice-read-t13-9
+    shared-slice-read-t15-9
     mtu-of-requires
     word-at-requires
     word-at-requires-2

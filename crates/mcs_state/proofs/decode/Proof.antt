@@ -14,6 +14,9 @@ part-h-start c = search needs
 part-h-end : tie.Need-part-h-end
 part-h-end c = search needs
 
+word-at-requires : tie.Need-word-at-requires
+word-at-requires c κs = search needs
+
 sub-player-of : tie.Need-sub-player-of
 sub-player-of c = search needs
 
@@ -74,17 +77,18 @@ part-client-of-end-4 c = search needs
 client-of-requires-4 : tie.Need-client-of-requires-4
 client-of-requires-4 c κs = search needs
 
-word-at-requires : tie.Need-word-at-requires
-word-at-requires c κs = search needs
-
 returns : tie.Need-returns
 unfolding deskOf
 returns c =
+    let three = c .before .before in
+    let two = three .before .before in
+    let one = two .before .before in
+    let player = one .before .before in
     λ i.
     record {
-      player = c .before .before .before .before .before .before .before .before .before .player-of .ensures i;
-      clients = c .before .before .before .before .before .before .before .client-of .ensures i ∷ c .before .before .before .before .before .client-of2 .ensures i ∷ c .before .before .before .client-of3 .ensures i ∷ c .before .client-of4 .ensures i ∷ [];
-      turn = c .word-at .ensures i;
+      player = player .player-of .ensures i;
+      clients = one .client-of .ensures i ∷ two .client-of2 .ensures i ∷ three .client-of3 .ensures i ∷ c .client-of4 .ensures i ∷ [];
+      turn = player .before .before .word-at .ensures i;
     }
 
 pub decode-spec : {M : Type 1} → statement M
@@ -94,6 +98,7 @@ decode-spec =
     sub-h
     part-h-start
     part-h-end
+    word-at-requires
     sub-player-of
     part-player-of-start
     part-player-of-end
@@ -114,5 +119,4 @@ decode-spec =
     part-client-of-start-4
     part-client-of-end-4
     client-of-requires-4
-    word-at-requires
     returns)

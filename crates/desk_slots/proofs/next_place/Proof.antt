@@ -1,13 +1,13 @@
--- `desk_slots::next_slot`: the trailing zeros of the turned word are the places passed over.
+-- `desk_slots::next_place`: the trailing zeros of the turned word are the places passed over.
 use Prim.Native.Nat.{ℕ, _+_, _^_, _<_}
 use borrow.Author.Needs.{needs}
 use native.Mathlib.Omega.{arith}
 use lib.Count.{trailingZeros, trailing-le}
 use lib.Dec.{lit≤}
-use Rattle.desk_slots.specs.Slots.{slotCount}
+use Rattle.desk_slots.specs.Slots.{placeCount}
 use Rattle.desk_slots.proofs.Turned.{next-code}
-use Rattle.desk_slots.proofs.next_slot.Statement.{statement}
-use Rattle.desk_slots.proofs.next_slot.Tie as tie
+use Rattle.desk_slots.proofs.next_place.Statement.{statement}
+use Rattle.desk_slots.proofs.next_place.Tie as tie
 
 add-start : tie.Need-add-start
 add-start c = search needs
@@ -29,7 +29,7 @@ add-result : tie.Need-add-result
 add-result c = record { fits = sum-fits _ _ (omega arith) }
 
 returns : tie.Need-returns
-returns c = (omega arith, next-code slotCount 32 (c .args .w) (c .args .after) (lit≤ tt) (c .pre .2) (c .pre .0) (c .pre .1))
+returns c = (omega arith, next-code placeCount 32 (c .args .w) (c .args .after) (lit≤ tt) (c .pre .2) (c .pre .0) (c .pre .1))
 
-pub next-slot-spec : {M : Type 1} → statement M
-next-slot-spec = tie.close (tie.spec add-start shr-turned sub-turned shl-turned add-result returns)
+pub next-place-spec : {M : Type 1} → statement M
+next-place-spec = tie.close (tie.spec add-start shr-turned sub-turned shl-turned add-result returns)
