@@ -13,7 +13,7 @@ use lib.Seq.{take-all}
 use Rattle.ground.specs.Cases.{pick, has}
 use Rattle.ground.proofs.Cases.{clash, and-left, and-right, and-both, le-or, true-or}
 use Rattle.player_state.specs.declared.Player.{Player}
-use Rattle.player_values.specs.Values.{source, wordOctets, valueOf}
+use Rattle.player_values.specs.Values.{Source, source, wordOctets, valueOf}
 use Rattle.player_values.proofs.Laws.{word-apart, value-none}
 use Rattle.desk_slots.specs.Slots.{insert}
 use Rattle.desk_slots.proofs.Bits.{has-zero}
@@ -70,6 +70,11 @@ module _ (tracks text : List ℕ) (p q : Player) (c : ℕ) where
     (λ e. same-eq (valueOf (source tracks text) p c) (valueOf (source tracks text) q c) (not-false (sameOctets (valueOf (source tracks text) p c) (valueOf (source tracks text) q c)) e)),
     (λ e. ap not (eq-same (valueOf (source tracks text) p c) (valueOf (source tracks text) q c) e)),
   )
+
+-- a change is told by what the two values are
+pub by-values : (from : Source) (p q : Player) (c : ℕ) {x y : List ℕ} → valueOf from p c ≡ x → valueOf from q c ≡ y → not (sameOctets x y) ≡ changed from p q c
+unfolding changed
+by-values from p q c e f = λ i. not (sameOctets (sym e i) (sym f i))
 
 -- of a state with itself
 pub unchanged-self : (tracks text : List ℕ) (p : Player) (c : ℕ) → (changed (source tracks text) p p c ≡ false) × (trackChanged p p ≡ false)

@@ -15,6 +15,15 @@ ghost use Rattle.player_moves.specs.Moves.{endNow, segmentAfter, trackAf
 ghost use Rattle.player_moves.specs.Control.{success, failed, onward, entered, acted, controlled};
 ghost use Rattle.player_moves.specs.Clock.{staysBelow, playedOn, soughtOn, advanced, positioned, activated};
 
+// The result codes of the control point (document 01, "Player rules").
+const SUCCESS: u8 = 1;
+
+const NOT_SUPPORTED: u8 = 2;
+
+const PLAYER_INACTIVE: u8 = 3;
+
+const CANNOT_COMPLETE: u8 = 4;
+
 // A result code, and the player afterwards.
 pub struct Controlled {
     pub result: u8,
@@ -25,7 +34,7 @@ fn done(p: player_state::Player) -> Controlled
     ensures { λ r. ⌜ r ≡ success p ⌝ }
 {
     Controlled {
-        result: 1,
+        result: SUCCESS,
         player: p,
     }
 }
@@ -58,7 +67,7 @@ fn move_segment(
             let q = player_state::at_position(p, to);
             done(q)
         }
-        player_segments::NearPosition::None => undone(p, 4),
+        player_segments::NearPosition::None => undone(p, CANNOT_COMPLETE),
     }
 }
 
@@ -94,7 +103,7 @@ fn move_track(
             let q = player_state::move_to(p, g, t);
             done(q)
         }
-        player_orders::NearTrack::None => undone(p, 4),
+        player_orders::NearTrack::None => undone(p, CANNOT_COMPLETE),
     }
 }
 
@@ -128,7 +137,7 @@ fn enter(
             let q = player_state::move_to(p, g, t);
             done(q)
         }
-        player_orders::NearTrack::None => undone(p, 4),
+        player_orders::NearTrack::None => undone(p, CANNOT_COMPLETE),
     }
 }
 
@@ -146,7 +155,7 @@ fn move_group(
     let near = player_groups::group_after(groups, g, step);
     match near {
         player_groups::NearGroup::Found(h) => enter(groups, tracks, p, h),
-        player_groups::NearGroup::None => undone(p, 4),
+        player_groups::NearGroup::None => undone(p, CANNOT_COMPLETE),
     }
 }
 
@@ -201,7 +210,7 @@ fn act(
         player_opcodes::Action::Segment(step) => move_segment(tracks, segments, p, step),
         player_opcodes::Action::Track(step) => move_track(groups, tracks, p, step),
         player_opcodes::Action::Group(step) => move_group(groups, tracks, p, step),
-        player_opcodes::Action::Unknown => undone(p, 2),
+        player_opcodes::Action::Unknown => undone(p, NOT_SUPPORTED),
     }
 }
 
@@ -219,10 +228,10 @@ pub fn control(
     ensures { λ r. ⌜ r ≡ controlled (now (groups .entry)) (now (tracks .entry)) (now (segments .entry)) opcode number p ⌝ }
 {
     if !player_opcodes::is_offered(p.offer.mask, opcode) {
-        return undone(p, 2);
+        return undone(p, NOT_SUPPORTED);
     }
     if p.mode.media == player_state::INACTIVE {
-        return undone(p, 3);
+        return undone(p, PLAYER_INACTIVE);
     }
     let action = player_opcodes::action_of(opcode, number);
     act(groups, tracks, segments, p, action)

@@ -1,7 +1,7 @@
--- How long each value is, on what it depends, and that its octets tell a word. Assumes nothing.
+-- What each value is, how long, and that its octets tell a word. Assumes nothing.
 use mathlib.Core.Path.{_≡_, refl, ap, sym, _∙_}
 use mathlib.Core.Bool.{Bool, true, false}
-use mathlib.Core.List.{List, []}
+use mathlib.Core.List.{List, [], _∷_}
 use Prim.Native.Nat.{ℕ, _/_, _%_, _^_, _≤_, _<_}
 use native.Mathlib.Omega.{arith}
 use borrow.Author.Tests.{ne-eqb}
@@ -9,7 +9,8 @@ use lib.Dec.{eqb}
 use lib.ListN.{length, getD, length-take}
 use Rattle.ground.specs.Cases.{pick}
 use Rattle.player_state.specs.declared.Player.{Player}
-use Rattle.player_values.specs.Values.{source, wordOctets, titleValue, durationValue, positionValue, opcodesValue, valueOf}
+use Rattle.player_state.specs.Player.{nameOf}
+use Rattle.player_values.specs.Values.{Source, source, wordOctets, titleValue, durationValue, positionValue, opcodesValue, valueOf}
 
 pub word-long : (w : ℕ) → length (wordOctets w) ≡ 4
 unfolding wordOctets
@@ -37,51 +38,38 @@ word-apart a b h k e =
     wider : (x : ℕ) → x / 65536 / 256 ≡ x / 16777216
     wider x = omega arith
 
+-- each characteristic's value: which depend on the player alone, and which are a word, of four octets
+pub record Values (from : Source) (p : Player) : Type 0 where
+  pub name : valueOf from p 1 ≡ nameOf p
+  pub title : valueOf from p 5 ≡ titleValue from p
+  pub duration : valueOf from p 6 ≡ durationValue (from .tracks) p
+  pub position : valueOf from p 7 ≡ positionValue p
+  pub speed : valueOf from p 8 ≡ p .mode .speed ∷ []
+  pub seeking : valueOf from p 9 ≡ p .mode .seeking ∷ []
+  pub order : valueOf from p 15 ≡ p .mode .order ∷ []
+  pub orders : valueOf from p 16 ≡ 0xFF ∷ 0x00 ∷ []
+  pub media : valueOf from p 17 ≡ p .mode .media ∷ []
+  pub opcodes : valueOf from p 19 ≡ wordOctets (p .offer .mask % 2 ^ 21)
+  pub ccid : valueOf from p 22 ≡ p .offer .ccid ∷ []
+
+pub values : (from : Source) (p : Player) → Values from p
+unfolding valueOf opcodesValue
+values from p =
+    record {
+      name = refl;
+      title = refl;
+      duration = refl;
+      position = refl;
+      speed = refl;
+      seeking = refl;
+      order = refl;
+      orders = refl;
+      media = refl;
+      opcodes = refl;
+      ccid = refl;
+    }
+
 module _ (tracks text : List ℕ) (p : Player) where
-  pub long-4 : length (valueOf (source tracks text) p 4) ≡ 0
-  unfolding valueOf
-  long-4 = refl
-
-  pub long-6 : length (valueOf (source tracks text) p 6) ≡ 4
-  unfolding valueOf durationValue
-  long-6 = word-long _
-
-  pub long-7 : length (valueOf (source tracks text) p 7) ≡ 4
-  unfolding valueOf positionValue
-  long-7 = word-long _
-
-  pub long-8 : length (valueOf (source tracks text) p 8) ≡ 1
-  unfolding valueOf
-  long-8 = refl
-
-  pub long-9 : length (valueOf (source tracks text) p 9) ≡ 1
-  unfolding valueOf
-  long-9 = refl
-
-  pub long-15 : length (valueOf (source tracks text) p 15) ≡ 1
-  unfolding valueOf
-  long-15 = refl
-
-  pub long-16 : length (valueOf (source tracks text) p 16) ≡ 2
-  unfolding valueOf
-  long-16 = refl
-
-  pub long-17 : length (valueOf (source tracks text) p 17) ≡ 1
-  unfolding valueOf
-  long-17 = refl
-
-  pub long-18 : length (valueOf (source tracks text) p 18) ≡ 0
-  unfolding valueOf
-  long-18 = refl
-
-  pub long-19 : length (valueOf (source tracks text) p 19) ≡ 4
-  unfolding valueOf opcodesValue
-  long-19 = word-long _
-
-  pub long-22 : length (valueOf (source tracks text) p 22) ≡ 1
-  unfolding valueOf
-  long-22 = refl
-
   -- a number that is none of those with a value has none
   pub value-none : (c : ℕ) → (c ≡ 1 → ⊥) → (c ≡ 5 → ⊥) → (c ≡ 6 → ⊥) → (c ≡ 7 → ⊥) → (c ≡ 8 → ⊥) → (c ≡ 9 → ⊥) → (c ≡ 15 → ⊥) → (c ≡ 16 → ⊥) → (c ≡ 17 → ⊥)
       → (c ≡ 19 → ⊥) → (c ≡ 22 → ⊥) → valueOf (source tracks text) p c ≡ []
@@ -111,37 +99,3 @@ module _ (tracks text : List ℕ) (p : Player) where
 
       word-short : (w : ℕ) → length (wordOctets w) ≤ 128
       word-short w = rw (word-long w) (omega arith)
-
--- what depends on the player alone
-module _ (tracks text tracks′ text′ : List ℕ) (p : Player) where
-  pub alone-1 : valueOf (source tracks text) p 1 ≡ valueOf (source tracks′ text′) p 1
-  unfolding valueOf
-  alone-1 = refl
-
-  pub alone-8 : valueOf (source tracks text) p 8 ≡ valueOf (source tracks′ text′) p 8
-  unfolding valueOf
-  alone-8 = refl
-
-  pub alone-9 : valueOf (source tracks text) p 9 ≡ valueOf (source tracks′ text′) p 9
-  unfolding valueOf
-  alone-9 = refl
-
-  pub alone-15 : valueOf (source tracks text) p 15 ≡ valueOf (source tracks′ text′) p 15
-  unfolding valueOf
-  alone-15 = refl
-
-  pub alone-16 : valueOf (source tracks text) p 16 ≡ valueOf (source tracks′ text′) p 16
-  unfolding valueOf
-  alone-16 = refl
-
-  pub alone-17 : valueOf (source tracks text) p 17 ≡ valueOf (source tracks′ text′) p 17
-  unfolding valueOf
-  alone-17 = refl
-
-  pub alone-19 : valueOf (source tracks text) p 19 ≡ valueOf (source tracks′ text′) p 19
-  unfolding valueOf
-  alone-19 = refl
-
-  pub alone-22 : valueOf (source tracks text) p 22 ≡ valueOf (source tracks′ text′) p 22
-  unfolding valueOf
-  alone-22 = refl

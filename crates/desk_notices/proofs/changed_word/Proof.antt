@@ -1,8 +1,9 @@
 -- `desk_notices::changed_word`: each bit is put for the characteristic whose value differs, from the last to the first.
-use mathlib.Core.Path.{refl}
-use Rattle.player_values.specs.Values.{source, valueOf, opcodesValue}
-use Rattle.desk_notices.specs.Changes.{sameOctets, changed}
-use Rattle.desk_notices.proofs.Differing.{gathered, gathers-none, gathers-bit, gathers-past}
+use mathlib.Core.Path.{sym, _∙_}
+use Rattle.player_values.specs.Values.{source}
+use Rattle.player_values.proofs.Laws.{values}
+use Rattle.desk_notices.specs.Changes.{changed}
+use Rattle.desk_notices.proofs.Differing.{changed-not, by-values, gathered, gathers-none, gathers-bit, gathers-past}
 use borrow.Author.Needs.{needs}
 use Rattle.desk_notices.proofs.changed_word.Statement.{statement}
 use Rattle.desk_notices.proofs.changed_word.Tie as tie
@@ -68,7 +69,6 @@ with-if-requires-10 : tie.Need-with-if-requires-10
 with-if-requires-10 c κs = search needs
 
 returns : tie.Need-returns
-unfolding changed valueOf opcodesValue sameOctets
 returns c =
     let w5 = c .before in
     let w6 = w5 .before in
@@ -90,18 +90,21 @@ returns c =
     let duration = name .before in
     let title = duration .before in
     let a = title .before .before .before .args in
-    let f = changed (source (a .tracks .now) (a .text .now)) (a .p) (a .q) in
-    let g22 = gathers-bit f 22 (gathers-none f) (ccid .octets-differ5 .ensures) (w22 .with-if .ensures) in
-    let g19 = gathers-bit f 19 g22 (opcodes .words-differ .ensures) (w19 .with-if2 .ensures) in
-    let g17 = gathers-bit f 17 g19 (media .octets-differ4 .ensures) (w17 .with-if3 .ensures) in
-    let g16 = gathers-past f 16 g17 refl in
-    let g15 = gathers-bit f 15 g16 (order .octets-differ3 .ensures) (w15 .with-if4 .ensures) in
-    let g9 = gathers-bit f 9 g15 (seeking .octets-differ2 .ensures) (w9 .with-if5 .ensures) in
-    let g8 = gathers-bit f 8 g9 (speed .octets-differ .ensures) (w8 .with-if6 .ensures) in
-    let g7 = gathers-bit f 7 g8 (position .position-changed .ensures) (w7 .with-if7 .ensures) in
-    let g6 = gathers-bit f 6 g7 (duration .duration-changed .ensures) (w6 .with-if8 .ensures) in
+    let from = source (a .tracks .now) (a .text .now) in
+    let f = changed from (a .p) (a .q) in
+    let x = values from (a .p) in
+    let y = values from (a .q) in
+    let g22 = gathers-bit f 22 (gathers-none f) (ccid .octets-differ5 .ensures ∙ by-values from (a .p) (a .q) 22 (x .ccid) (y .ccid)) (w22 .with-if .ensures) in
+    let g19 = gathers-bit f 19 g22 (opcodes .words-differ .ensures ∙ by-values from (a .p) (a .q) 19 (x .opcodes) (y .opcodes)) (w19 .with-if2 .ensures) in
+    let g17 = gathers-bit f 17 g19 (media .octets-differ4 .ensures ∙ by-values from (a .p) (a .q) 17 (x .media) (y .media)) (w17 .with-if3 .ensures) in
+    let g16 = gathers-past f 16 g17 (changed-not (a .tracks .now) (a .text .now) (a .p) (a .q) 16 .1 (x .orders ∙ sym (y .orders))) in
+    let g15 = gathers-bit f 15 g16 (order .octets-differ3 .ensures ∙ by-values from (a .p) (a .q) 15 (x .order) (y .order)) (w15 .with-if4 .ensures) in
+    let g9 = gathers-bit f 9 g15 (seeking .octets-differ2 .ensures ∙ by-values from (a .p) (a .q) 9 (x .seeking) (y .seeking)) (w9 .with-if5 .ensures) in
+    let g8 = gathers-bit f 8 g9 (speed .octets-differ .ensures ∙ by-values from (a .p) (a .q) 8 (x .speed) (y .speed)) (w8 .with-if6 .ensures) in
+    let g7 = gathers-bit f 7 g8 (position .position-changed .ensures ∙ by-values from (a .p) (a .q) 7 (x .position) (y .position)) (w7 .with-if7 .ensures) in
+    let g6 = gathers-bit f 6 g7 (duration .duration-changed .ensures ∙ by-values from (a .p) (a .q) 6 (x .duration) (y .duration)) (w6 .with-if8 .ensures) in
     let g5 = gathers-bit f 5 g6 (title .title-changed .ensures) (w5 .with-if9 .ensures) in
-    gathered (a .tracks .now) (a .text .now) (a .p) (a .q) _ (search needs) (gathers-bit f 1 g5 (name .name-changed .ensures) (c .with-if10 .ensures))
+    gathered (a .tracks .now) (a .text .now) (a .p) (a .q) _ (search needs) (gathers-bit f 1 g5 (name .name-changed .ensures ∙ by-values from (a .p) (a .q) 1 (x .name) (y .name)) (c .with-if10 .ensures))
 
 pub changed-word-spec : {M : Type 1} → statement M
 changed-word-spec =

@@ -19,8 +19,10 @@ entry-track-requires c κs = search needs
 returns : tie.Need-returns
 unfolding entryOf
 returns c =
-    let a = c .before .before .before .before .before .args in
-    let f = c .before .before .first-track .ensures in
+    let after-first-track = c .before .before in
+    let start = after-first-track .before .before .before in
+    let a = start .args in
+    let f = after-first-track .first-track .ensures in
     let n = c .before .tracks-in .ensures in
     c .entry-track .ensures ∙ (λ k. firstOf (tracksInOrder (a .order) (a .tracks .now) (f k) (n k) (f k)))
 

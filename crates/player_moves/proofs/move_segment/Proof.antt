@@ -16,7 +16,9 @@ starts-requires : tie.Need-starts-requires
 starts-requires c κs = search needs
 
 segment-after-requires : tie.Need-segment-after-requires
-segment-after-requires c κs = rw (c .starts .ensures, c .before .end .ensures) (c .before .before .before .before .before .before .pre)
+segment-after-requires c κs =
+    let start = c .before .before .before .before .before .before in
+    rw (c .starts .ensures, c .before .end .ensures) (start .pre)
 
 enum-known-near : tie.Need-enum-known-near
 enum-known-near c = search needs

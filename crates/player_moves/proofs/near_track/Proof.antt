@@ -19,8 +19,10 @@ track-after-requires c κs = search needs
 returns : tie.Need-returns
 unfolding trackAfter
 returns c =
-    let a = c .before .before .before .before .before .before .before .args in
-    let f = c .before .before .first-track .ensures in
+    let after-first-track = c .before .before in
+    let start = after-first-track .before .before .before .before .before in
+    let a = start .args in
+    let f = after-first-track .first-track .ensures in
     let n = c .before .tracks-in .ensures in
     let t = a .p .place .track .0 in
     c .track-after .ensures ∙ (λ k. moveIn (a .step) (repeats (a .p .mode .order)) (tracksInOrder (a .p .mode .order) (a .tracks .now) (f k) (n k) t) t)

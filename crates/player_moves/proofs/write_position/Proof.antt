@@ -28,9 +28,12 @@ at-position-requires c κs = search needs
 returns-2 : tie.Need-returns-2
 unfolding positioned
 returns-2 c =
-    let a = c .before .before .before .before .before .before .args in
-    let d = c .before .before .end .ensures in
-    here _ (ap not (ne-eqb _ _ (c .before .before .before .if1 .left)))
+    let after-end = c .before .before in
+    let test1 = after-end .before in
+    let start = test1 .before .before .before in
+    let a = start .args in
+    let d = after-end .end .ensures in
+    here _ (ap not (ne-eqb _ _ (test1 .if1 .left)))
     (c .at-position .ensures
     ∙ ap (λ (x : ℕ). atPosition x (a .p)) (c .before .written-position .ensures ∙ ap (λ (n : ℕ). written n (signedWord (a .number))) d))
 
