@@ -1,6 +1,6 @@
 -- What a granted load tells: the rules hold, so each table has room for what is gathered for it. Assumes nothing.
-use mathlib.Core.Path.{_≡_, refl, sym, ap}
-use mathlib.Core.Bool.{Bool, true, false, _&&_, not}
+use mathlib.Core.Path.{_≡_, sym, ap}
+use mathlib.Core.Bool.{true, _&&_}
 use mathlib.Core.List.{List}
 use Prim.Native.Nat.{ℕ, _*_, _/_, _≤_}
 use native.Mathlib.Omega.{arith}
@@ -13,7 +13,7 @@ use Rattle.ground.specs.Words.{words}
 use Rattle.ground.proofs.Cases.{and-left, and-right}
 use Rattle.card_block.specs.Block.{recordSize}
 use Rattle.card_block.proofs.Records.{records-words, records-octets}
-use Rattle.card_load.specs.Card.{lengthRule, blocksOf, blocksRule, recordCount, gather, octets, CountsFit}
+use Rattle.card_load.specs.Card.{blocksOf, blocksRule, recordCount, gather, octets, CountsFit}
 use Rattle.ground.proofs.Rows.{kept}
 use Rattle.card_load.specs.Load.{fits, roomRule, loadRows, loadSaid}
 use Rattle.card_load.proofs.Lengths.{counts-fit, gather-length}

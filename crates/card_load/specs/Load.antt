@@ -3,7 +3,7 @@
 use mathlib.Core.Bool.{Bool, _&&_, not}
 use mathlib.Core.List.{List, [], _∷_}
 use Prim.Native.Nat.{ℕ, _/_}
-use lib.Dec.{eqb, leb}
+use lib.Dec.{leb}
 use Rattle.ground.specs.Refusals.{Said, granted, refusalOf, Row, row, saidThrough}
 use Rattle.ground.specs.Limits.{mostGroups, mostTracks, mostSegments, mostText, groupWords, trackWords}
 use Rattle.card_load.specs.Card.{lengthRule, blocksRule, blocksOf, recordCount}

@@ -9,7 +9,7 @@ use Rattle.ground.specs.Lists.{filled, tableAfter}
 use Rattle.ground.proofs.Cases.{past, here}
 use Rattle.ground.proofs.Rows.{NoneApplies, shut, kept, more, beyond, all-of}
 use Rattle.catalogue_tables.specs.Tables.{Tables}
-use Rattle.catalogue_check.specs.Catalogue.{catalogueRule, Right}
+use Rattle.catalogue_check.specs.Catalogue.{Right}
 use Rattle.catalogue_check.proofs.Laws.{is-right}
 use Rattle.player_check.specs.Standing.{playerRule}
 use Rattle.desk_state.specs.declared.Desk.{Desk}

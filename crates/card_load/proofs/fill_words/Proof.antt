@@ -79,7 +79,9 @@ sub-m : tie.Need-sub-m Inv-loop μ-loop
 sub-m c = search needs
 
 copy-words-requires : tie.Need-copy-words-requires Inv-loop μ-loop
-copy-words-requires c κs = (room-here (c .before), omega (arith, long (c .before .before .before .before .before)))
+copy-words-requires c κs =
+    let earlier = c .before .before .before .before .before in
+    (room-here (c .before), omega (arith, long earlier))
 
 add-at : tie.Need-add-at Inv-loop μ-loop
 add-at c = search needs

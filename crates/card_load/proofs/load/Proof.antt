@@ -42,13 +42,19 @@ fill-words-requires : tie.Need-fill-words-requires
 fill-words-requires c κs = let z = good (c .before) in (z .long, (z .fit, z .groups-room))
 
 fill-words-requires-2 : tie.Need-fill-words-requires-2
-fill-words-requires-2 c κs = let z = good (c .before .before .before .before .before) in (z .long, (z .fit, z .tracks-room))
+fill-words-requires-2 c κs =
+    let earlier = c .before .before .before .before .before in
+    let z = good earlier in (z .long, (z .fit, z .tracks-room))
 
 fill-words-requires-3 : tie.Need-fill-words-requires-3
-fill-words-requires-3 c κs = let z = good (c .before .before .before .before .before .before .before .before .before) in (z .long, (z .fit, z .segments-room))
+fill-words-requires-3 c κs =
+    let earlier = c .before .before .before .before .before .before .before .before .before in
+    let z = good earlier in (z .long, (z .fit, z .segments-room))
 
 fill-octets-requires : tie.Need-fill-octets-requires
-fill-octets-requires c κs = let z = good (c .before .before .before .before .before .before .before .before .before .before .before .before .before) in (z .long, (z .fit, z .text-room))
+fill-octets-requires c κs =
+    let earlier = c .before .before .before .before .before .before .before .before .before .before .before .before .before in
+    let z = good earlier in (z .long, (z .fit, z .text-room))
 
 returns : tie.Need-returns
 returns c = (answered (c .before .before .before .survey .ensures) (c .before .v .given .1), (refl, (refl, (refl, refl))))

@@ -15,56 +15,78 @@ use Rattle.catalogue_check.proofs.rules_right.Tie as tie
 abbrev lent : tie.Start → Tables
 lent c = tables (c .args .groups .now) (c .args .tracks .now) (c .args .segments .now) (c .args .text .now)
 
+-- the catalogue, from behind each test
+abbrev lent1 : tie.Else1 → Tables
+lent1 e = lent (e .before .before .before .before .before .before)
+
+abbrev lent2 : tie.Else2 → Tables
+lent2 e = lent1 (e .before .before)
+
+abbrev lent3 : tie.Else3 → Tables
+lent3 e = lent2 (e .before .before)
+
+abbrev lent4 : tie.Else4 → Tables
+lent4 e = lent3 (e .before .before)
+
+abbrev lent5 : tie.Else5 → Tables
+lent5 e = lent4 (e .before .before)
+
+abbrev lent6 : tie.Else6 → Tables
+lent6 e = lent5 (e .before .before)
+
+abbrev lent7 : tie.Else7 → Tables
+lent7 e = lent6 (e .before .before)
+
 sizes-holds : (c : tie.Else1) → let k = lent (c .before .before .before .before .before .before) in sizesRule (length (k .groups)) (length (k .tracks)) (length (k .segments)) (length (k .text)) ≡ true
 sizes-holds c = sym (c .before .sizes-right .ensures) ∙ not-false _ (c .if1 .left)
 
 sizes-fails : (c : tie.Then1) → let k = lent (c .before .before .before .before .before .before) in sizesRule (length (k .groups)) (length (k .tracks)) (length (k .segments)) (length (k .text)) ≡ false
 sizes-fails c = sym (c .before .sizes-right .ensures) ∙ not-true _ (c .if1 .taken)
 
-parents-holds : (c : tie.Else2) → let k = lent (c .before .before .before .before .before .before .before .before) in parentsRule (k .groups) ≡ true
+parents-holds : (c : tie.Else2) → let k = lent1 (c .before .before) in parentsRule (k .groups) ≡ true
 parents-holds c = sym (c .before .parents-right .ensures) ∙ not-false _ (c .if2 .left)
 
-parents-fails : (c : tie.Then2) → let k = lent (c .before .before .before .before .before .before .before .before) in parentsRule (k .groups) ≡ false
+parents-fails : (c : tie.Then2) → let k = lent1 (c .before .before) in parentsRule (k .groups) ≡ false
 parents-fails c = sym (c .before .parents-right .ensures) ∙ not-true _ (c .if2 .taken)
 
-track-runs-holds : (c : tie.Else3) → let k = lent (c .before .before .before .before .before .before .before .before .before .before) in trackRunsRule (k .groups) (trackCount (k .tracks)) ≡ true
+track-runs-holds : (c : tie.Else3) → let k = lent2 (c .before .before) in trackRunsRule (k .groups) (trackCount (k .tracks)) ≡ true
 unfolding trackRunsRule
 track-runs-holds c = sym (c .before .runs-right .ensures) ∙ not-false _ (c .if3 .left)
 
-track-runs-fails : (c : tie.Then3) → let k = lent (c .before .before .before .before .before .before .before .before .before .before) in trackRunsRule (k .groups) (trackCount (k .tracks)) ≡ false
+track-runs-fails : (c : tie.Then3) → let k = lent2 (c .before .before) in trackRunsRule (k .groups) (trackCount (k .tracks)) ≡ false
 unfolding trackRunsRule
 track-runs-fails c = sym (c .before .runs-right .ensures) ∙ not-true _ (c .if3 .taken)
 
-segment-runs-holds : (c : tie.Else4) → let k = lent (c .before .before .before .before .before .before .before .before .before .before .before .before) in segmentRunsRule (k .tracks) (length (k .segments)) ≡ true
+segment-runs-holds : (c : tie.Else4) → let k = lent3 (c .before .before) in segmentRunsRule (k .tracks) (length (k .segments)) ≡ true
 unfolding segmentRunsRule
 segment-runs-holds c = sym (c .before .runs-right2 .ensures) ∙ not-false _ (c .if4 .left)
 
-segment-runs-fails : (c : tie.Then4) → let k = lent (c .before .before .before .before .before .before .before .before .before .before .before .before) in segmentRunsRule (k .tracks) (length (k .segments)) ≡ false
+segment-runs-fails : (c : tie.Then4) → let k = lent3 (c .before .before) in segmentRunsRule (k .tracks) (length (k .segments)) ≡ false
 unfolding segmentRunsRule
 segment-runs-fails c = sym (c .before .runs-right2 .ensures) ∙ not-true _ (c .if4 .taken)
 
-durations-holds : (c : tie.Else5) → let k = lent (c .before .before .before .before .before .before .before .before .before .before .before .before .before .before) in durationsRule (k .tracks) ≡ true
+durations-holds : (c : tie.Else5) → let k = lent4 (c .before .before) in durationsRule (k .tracks) ≡ true
 durations-holds c = sym (c .before .durations-right .ensures) ∙ not-false _ (c .if5 .left)
 
-durations-fails : (c : tie.Then5) → let k = lent (c .before .before .before .before .before .before .before .before .before .before .before .before .before .before) in durationsRule (k .tracks) ≡ false
+durations-fails : (c : tie.Then5) → let k = lent4 (c .before .before) in durationsRule (k .tracks) ≡ false
 durations-fails c = sym (c .before .durations-right .ensures) ∙ not-true _ (c .if5 .taken)
 
-starts-holds : (c : tie.Else6) → let k = lent (c .before .before .before .before .before .before .before .before .before .before .before .before .before .before .before .before) in startsRule (k .tracks) (k .segments) ≡ true
+starts-holds : (c : tie.Else6) → let k = lent5 (c .before .before) in startsRule (k .tracks) (k .segments) ≡ true
 starts-holds c = sym (c .before .starts-right .ensures) ∙ not-false _ (c .if6 .left)
 
-starts-fails : (c : tie.Then6) → let k = lent (c .before .before .before .before .before .before .before .before .before .before .before .before .before .before .before .before) in startsRule (k .tracks) (k .segments) ≡ false
+starts-fails : (c : tie.Then6) → let k = lent5 (c .before .before) in startsRule (k .tracks) (k .segments) ≡ false
 starts-fails c = sym (c .before .starts-right .ensures) ∙ not-true _ (c .if6 .taken)
 
-placed-holds : (c : tie.Else7) → let k = lent (c .before .before .before .before .before .before .before .before .before .before .before .before .before .before .before .before .before .before) in titlesPlacedRule (k .tracks) (length (k .text)) ≡ true
+placed-holds : (c : tie.Else7) → let k = lent6 (c .before .before) in titlesPlacedRule (k .tracks) (length (k .text)) ≡ true
 placed-holds c = sym (c .before .titles-placed .ensures) ∙ not-false _ (c .if7 .left)
 
-placed-fails : (c : tie.Then7) → let k = lent (c .before .before .before .before .before .before .before .before .before .before .before .before .before .before .before .before .before .before) in titlesPlacedRule (k .tracks) (length (k .text)) ≡ false
+placed-fails : (c : tie.Then7) → let k = lent6 (c .before .before) in titlesPlacedRule (k .tracks) (length (k .text)) ≡ false
 placed-fails c = sym (c .before .titles-placed .ensures) ∙ not-true _ (c .if7 .taken)
 
-utf8-holds : (c : tie.Else8) → let k = lent (c .before .before .before .before .before .before .before .before .before .before .before .before .before .before .before .before .before .before .before .before) in titlesTextRule (k .tracks) (k .text) ≡ true
+utf8-holds : (c : tie.Else8) → let k = lent7 (c .before .before) in titlesTextRule (k .tracks) (k .text) ≡ true
 utf8-holds c = sym (c .before .titles-text .ensures) ∙ not-false _ (c .if8 .left)
 
-utf8-fails : (c : tie.Then8) → let k = lent (c .before .before .before .before .before .before .before .before .before .before .before .before .before .before .before .before .before .before .before .before) in titlesTextRule (k .tracks) (k .text) ≡ false
+utf8-fails : (c : tie.Then8) → let k = lent7 (c .before .before) in titlesTextRule (k .tracks) (k .text) ≡ false
 utf8-fails c = sym (c .before .titles-text .ensures) ∙ not-true _ (c .if8 .taken)
 
 sizes-right-requires : tie.Need-sizes-right-requires
@@ -104,10 +126,13 @@ runs-right-requires-2 c κs = omega (arith, few-tracks _ _ _ _ (sizes-holds (c .
 returns-4 : tie.Need-returns-4
 unfolding catalogueRule
 returns-4 c =
+    let e3 = c .before .before in
+    let e2 = e3 .before .before in
+    let e1 = e2 .before .before in
     simp (
-      sizes-holds (c .before .before .before .before .before .before),
-      parents-holds (c .before .before .before .before),
-      track-runs-holds (c .before .before),
+      sizes-holds e1,
+      parents-holds e2,
+      track-runs-holds e3,
       segment-runs-fails c,
     )
 
@@ -117,11 +142,15 @@ durations-right-requires c κs = search needs
 returns-5 : tie.Need-returns-5
 unfolding catalogueRule
 returns-5 c =
+    let e4 = c .before .before in
+    let e3 = e4 .before .before in
+    let e2 = e3 .before .before in
+    let e1 = e2 .before .before in
     simp (
-      sizes-holds (c .before .before .before .before .before .before .before .before),
-      parents-holds (c .before .before .before .before .before .before),
-      track-runs-holds (c .before .before .before .before),
-      segment-runs-holds (c .before .before),
+      sizes-holds e1,
+      parents-holds e2,
+      track-runs-holds e3,
+      segment-runs-holds e4,
       durations-fails c,
     )
 
@@ -131,12 +160,17 @@ starts-right-requires c κs = runs-inside _ _ (segment-runs-holds (c .before .be
 returns-6 : tie.Need-returns-6
 unfolding catalogueRule
 returns-6 c =
+    let e5 = c .before .before in
+    let e4 = e5 .before .before in
+    let e3 = e4 .before .before in
+    let e2 = e3 .before .before in
+    let e1 = e2 .before .before in
     simp (
-      sizes-holds (c .before .before .before .before .before .before .before .before .before .before),
-      parents-holds (c .before .before .before .before .before .before .before .before),
-      track-runs-holds (c .before .before .before .before .before .before),
-      segment-runs-holds (c .before .before .before .before),
-      durations-holds (c .before .before),
+      sizes-holds e1,
+      parents-holds e2,
+      track-runs-holds e3,
+      segment-runs-holds e4,
+      durations-holds e5,
       starts-fails c,
     )
 
@@ -146,13 +180,19 @@ titles-placed-requires c κs = search needs
 returns-7 : tie.Need-returns-7
 unfolding catalogueRule
 returns-7 c =
+    let e6 = c .before .before in
+    let e5 = e6 .before .before in
+    let e4 = e5 .before .before in
+    let e3 = e4 .before .before in
+    let e2 = e3 .before .before in
+    let e1 = e2 .before .before in
     simp (
-      sizes-holds (c .before .before .before .before .before .before .before .before .before .before .before .before),
-      parents-holds (c .before .before .before .before .before .before .before .before .before .before),
-      track-runs-holds (c .before .before .before .before .before .before .before .before),
-      segment-runs-holds (c .before .before .before .before .before .before),
-      durations-holds (c .before .before .before .before),
-      starts-holds (c .before .before),
+      sizes-holds e1,
+      parents-holds e2,
+      track-runs-holds e3,
+      segment-runs-holds e4,
+      durations-holds e5,
+      starts-holds e6,
       placed-fails c,
     )
 
@@ -162,28 +202,42 @@ titles-text-requires c κs = titles-inside _ _ (placed-holds c)
 returns-8 : tie.Need-returns-8
 unfolding catalogueRule
 returns-8 c =
+    let e7 = c .before .before in
+    let e6 = e7 .before .before in
+    let e5 = e6 .before .before in
+    let e4 = e5 .before .before in
+    let e3 = e4 .before .before in
+    let e2 = e3 .before .before in
+    let e1 = e2 .before .before in
     simp (
-      sizes-holds (c .before .before .before .before .before .before .before .before .before .before .before .before .before .before),
-      parents-holds (c .before .before .before .before .before .before .before .before .before .before .before .before),
-      track-runs-holds (c .before .before .before .before .before .before .before .before .before .before),
-      segment-runs-holds (c .before .before .before .before .before .before .before .before),
-      durations-holds (c .before .before .before .before .before .before),
-      starts-holds (c .before .before .before .before),
-      placed-holds (c .before .before),
+      sizes-holds e1,
+      parents-holds e2,
+      track-runs-holds e3,
+      segment-runs-holds e4,
+      durations-holds e5,
+      starts-holds e6,
+      placed-holds e7,
       utf8-fails c,
     )
 
 returns-9 : tie.Need-returns-9
 unfolding catalogueRule
 returns-9 c =
+    let e7 = c .before .before in
+    let e6 = e7 .before .before in
+    let e5 = e6 .before .before in
+    let e4 = e5 .before .before in
+    let e3 = e4 .before .before in
+    let e2 = e3 .before .before in
+    let e1 = e2 .before .before in
     simp (
-      sizes-holds (c .before .before .before .before .before .before .before .before .before .before .before .before .before .before),
-      parents-holds (c .before .before .before .before .before .before .before .before .before .before .before .before),
-      track-runs-holds (c .before .before .before .before .before .before .before .before .before .before),
-      segment-runs-holds (c .before .before .before .before .before .before .before .before),
-      durations-holds (c .before .before .before .before .before .before),
-      starts-holds (c .before .before .before .before),
-      placed-holds (c .before .before),
+      sizes-holds e1,
+      parents-holds e2,
+      track-runs-holds e3,
+      segment-runs-holds e4,
+      durations-holds e5,
+      starts-holds e6,
+      placed-holds e7,
       utf8-holds c,
     )
 

@@ -51,7 +51,9 @@ abbrev own : tie.After-skim-line Inv-loop μ-loop → List ℕ
 own c = startsOf (c .skim-line .result .line ∷ [])
 
 abbrev behind : tie.After-skim-line Inv-loop μ-loop → List ℕ
-behind c = startsOf (map lineOf (linesFrom (c .before .before .before .before .before .args .sheet .now) (c .skim-line .result .next)))
+behind c =
+    let start = c .before .before .before .before .before in
+    startsOf (map lineOf (linesFrom (start .args .sheet .now) (c .skim-line .result .next)))
 
 next : (c : tie.After-skim-line Inv-loop μ-loop)
     → let l = c .before .before in
@@ -78,7 +80,10 @@ put-requires : tie.Need-put-requires Inv-loop μ-loop
 put-requires c κs = fits (c .before)
 
 loop-less : tie.Need-loop-less Inv-loop μ-loop
-loop-less c = omega (arith, within (c .before .before .before .before .before), c .before .before .before .before .skim-line .ensures .onward)
+loop-less c =
+    let after-skim-line = c .before .before .before .before in
+    let earlier = after-skim-line .before in
+    omega (arith, within earlier, after-skim-line .skim-line .ensures .onward)
 
 loop-again : tie.Need-loop-again Inv-loop μ-loop
 loop-again c =

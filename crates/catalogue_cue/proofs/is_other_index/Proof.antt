@@ -36,10 +36,14 @@ digits-at-requires c κs = search needs
 
 returns-2 : tie.Need-returns-2
 unfolding isOtherIndex
-returns-2 c = sym (ap (λ (t : Bool). t && not (eqb (numberAt (c .before .before .before .before .before .before .args .line .now) 6) 1)) (sym (both (c .before)) ∙ not-true _ (c .if2 .taken)))
+returns-2 c =
+    let start = c .before .before .before .before .before .before in
+    sym (ap (λ (t : Bool). t && not (eqb (numberAt (start .args .line .now) 6) 1)) (sym (both (c .before)) ∙ not-true _ (c .if2 .taken)))
 
 number-at-requires : tie.Need-number-at-requires
-number-at-requires c κs = (omega arith, and-right (begins (octets "INDEX ") (c .before .before .before .before .before .before .args .line .now)) _ (right c))
+number-at-requires c κs =
+    let start = c .before .before .before .before .before .before in
+    (omega arith, and-right (begins (octets "INDEX ") (start .args .line .now)) _ (right c))
 
 returns-3 : tie.Need-returns-3
 unfolding isOtherIndex

@@ -14,7 +14,9 @@ use Rattle.catalogue_cue.proofs.is_start.Tie as tie
 
 -- length and word are right
 abbrev lineOf : tie.After-shared-slice-known3 → List ℕ
-lineOf c = c .before .before .before .before .before .before .before .before .before .args .line .now
+lineOf c =
+    let start = c .before .before .before .before .before .before .before .before .before in
+    start .args .line .now
 
 by-form : (c : tie.After-shared-slice-known3) → isStart (lineOf c) ≡ (timeForm (lineOf c) && leb (numberAt (lineOf c) 12) 59 && leb (numberAt (lineOf c) 15) 74)
 by-form c =

@@ -81,10 +81,15 @@ add-result-3 : tie.Need-add-result-3
 add-result-3 c = search needs
 
 returns-7 : tie.Need-returns-7
-returns-7 c = (λ h. ends-cr-lf _ _ (omega arith) (form (c .before .before .before .before .before .before .before .before)) (omega arith) (c .before .before .before .if5 .left) (c .if7 .taken), λ z. absurd (omega arith))
+returns-7 c =
+    let test5 = c .before .before .before in
+    let earlier = test5 .before .before .before .before .before in
+    (λ h. ends-cr-lf _ _ (omega arith) (form earlier) (omega arith) (test5 .if5 .left) (c .if7 .taken), λ z. absurd (omega arith))
 
 returns-8 : tie.Need-returns-8
-returns-8 c = (λ h. absurd (omega arith), λ z. no-end _ _ (omega arith) (c .before .before .before .before .before .if4 .left) (λ q r. c .if7 .left r))
+returns-8 c =
+    let test4 = c .before .before .before .before .before in
+    (λ h. absurd (omega arith), λ z. no-end _ _ (omega arith) (test4 .if4 .left) (λ q r. c .if7 .left r))
 
 pub start-line-spec : {M : Type 1} → statement M
 start-line-spec =

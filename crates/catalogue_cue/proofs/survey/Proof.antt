@@ -1,7 +1,7 @@
 -- `catalogue_cue::survey`: the loop's state is `Judging`.
-use mathlib.Core.Path.{_≡_, refl, sym, ap, _∙_}
+use mathlib.Core.Path.{_≡_, sym, ap, _∙_}
 use mathlib.Core.Bool.{false}
-use mathlib.Core.List.{List, [], _∷_}
+use mathlib.Core.List.{[], _∷_}
 use Prim.Native.Nat.{ℕ, _≤_, _+_, _-_}
 use native.Mathlib.Omega.{arith}
 use borrow.Author.Tests.{lt-ltb, le-ltb}
@@ -10,7 +10,7 @@ use lib.ListN.{length}
 use Rattle.ground.specs.Refusals.{granted}
 use Rattle.ground.proofs.Cases.{past, here}
 use Rattle.catalogue_cue.specs.Scan.{judged}
-use Rattle.catalogue_cue.specs.Sheet.{sheetLines, startsOf, cueSaid}
+use Rattle.catalogue_cue.specs.Sheet.{sheetLines, startsOf}
 use Rattle.catalogue_cue.proofs.Said.{behindOf, cue-said}
 use Rattle.catalogue_cue.proofs.Judging.{Judging, Turned, judging-starts, judging-ends, all-counted, turned}
 use borrow.Author.Needs.{needs}
@@ -89,7 +89,9 @@ add-number : tie.Need-add-number Inv-loop μ-loop
 add-number c = search needs
 
 loop-less : tie.Need-loop-less Inv-loop μ-loop
-loop-less c = omega (arith, c .before .before .before .before .before .read-line .ensures .onward)
+loop-less c =
+    let after-read-line = c .before .before .before .before .before in
+    omega (arith, after-read-line .read-line .ensures .onward)
 
 loop-again : tie.Need-loop-again Inv-loop μ-loop
 loop-again c =

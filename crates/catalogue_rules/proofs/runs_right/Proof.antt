@@ -64,8 +64,10 @@ loop-less c = search needs
 
 loop-again : tie.Need-loop-again Inv-loop μ-loop
 loop-again c =
-    let l = c .before .before .before .before .before .loop in
-    turn _ _ _ (c .before .before .wide-word .result) (c .wide-word2 .result) (c .before .before .wide-word .ensures .0) (c .wide-word2 .ensures .0) (c .wide-word2 .ensures .1) (omega arith) (l .inv)
+    let after-wide-word = c .before .before in
+    let at-loop = after-wide-word .before .before .before in
+    let l = at-loop .loop in
+    turn _ _ _ (after-wide-word .wide-word .result) (c .wide-word2 .result) (after-wide-word .wide-word .ensures .0) (c .wide-word2 .ensures .0) (c .wide-word2 .ensures .1) (omega arith) (l .inv)
 
 returns : tie.Need-returns Inv-loop μ-loop
 returns c = end _ _ _ (c .before .before .before .args .total) (c .loop-test .left) (c .before .loop .inv)

@@ -57,10 +57,13 @@ loop-less c = search needs
 
 loop-again : tie.Need-loop-again Inv-loop μ-loop
 loop-again c =
-    let l = c .before .before .before .before .before .loop in
-    let offset = c .before .before .wide-word .ensures .0 in
+    let after-wide-word = c .before .before in
+    let at-loop = after-wide-word .before .before .before in
+    let start = at-loop .before .before in
+    let l = at-loop .loop in
+    let offset = after-wide-word .wide-word .ensures .0 in
     let len = c .wide-word2 .ensures .0 in
-    (search needs, all-turn _ _ _ _ (l .inv .1) (λ k. titlePlaced (offset k) (len k) (c .before .before .before .before .before .before .before .args .text)))
+    (search needs, all-turn _ _ _ _ (l .inv .1) (λ k. titlePlaced (offset k) (len k) (start .args .text)))
 
 returns : tie.Need-returns Inv-loop μ-loop
 unfolding titlesPlacedRule

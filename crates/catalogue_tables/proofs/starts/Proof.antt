@@ -31,10 +31,13 @@ part-result-end c = search needs
 returns : tie.Need-returns
 unfolding startsOf
 returns c =
+    let after-segments-in = c .before .before in
+    let after-first-segment = after-segments-in .before in
+    let start = after-first-segment .before .before .before in
     let r = c .before .run-within in
-    let f = c .before .before .before .first-segment in
-    let n = c .before .before .segments-in in
-    let s = c .before .before .before .before .before .before .args .segments .now in
+    let f = after-first-segment .first-segment in
+    let n = after-segments-in .segments-in in
+    let s = start .args .segments .now in
     clipped s (f .result .0) (n .result) (r .result .start) (r .result .end) (r .ensures .0) (r .ensures .1)
     ∙ (λ k. take (n .ensures k) (drop (f .ensures k) s))
 

@@ -28,10 +28,13 @@ part-result-end c = search needs
 returns : tie.Need-returns
 unfolding titleOf
 returns c =
+    let after-title-length = c .before .before in
+    let after-title-offset = after-title-length .before in
+    let start = after-title-offset .before .before .before in
     let r = c .before .run-within in
-    let f = c .before .before .before .title-offset in
-    let n = c .before .before .title-length in
-    let s = c .before .before .before .before .before .before .args .text .now in
+    let f = after-title-offset .title-offset in
+    let n = after-title-length .title-length in
+    let s = start .args .text .now in
     clipped s (f .result) (n .result) (r .result .start) (r .result .end) (r .ensures .0) (r .ensures .1)
     ∙ (λ k. take (n .ensures k) (drop (f .ensures k) s))
 

@@ -39,7 +39,9 @@ agree-requires : tie.Need-agree-requires
 agree-requires c κs = search needs
 
 codes-right-requires : tie.Need-codes-right-requires
-codes-right-requires c κs = leb-true _ _ (not-false _ (c .before .before .before .before .before .before .before .before .before .before .if1 .left))
+codes-right-requires c κs =
+    let test1 = c .before .before .before .before .before .before .before .before .before .before in
+    leb-true _ _ (not-false _ (test1 .if1 .left))
 
 returns-2 : tie.Need-returns-2
 unfolding accountRule inter

@@ -16,11 +16,14 @@ account-right-requires c κs = search needs
 returns : tie.Need-returns
 unfolding connectedRule
 returns c =
-    let x = c .before .before .before .before .before .before .before .args .c in
+    let after-account-right = c .before .before in
+    let after-mtu-right = after-account-right .before .before in
+    let start = after-mtu-right .before .before .before in
+    let x = start .args .c in
     λ i.
-    c .before .before .before .before .mtu-right .ensures i
+    after-mtu-right .mtu-right .ensures i
     && ltb (x .link .mark) placeCount
-    && c .before .before .account-right .ensures i
+    && after-account-right .account-right .ensures i
     && (x .link .encrypted || eqb (x .account .subscribed) 0)
 
 pub connected-right-spec : {M : Type 1} → statement M

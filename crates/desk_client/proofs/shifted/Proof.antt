@@ -31,7 +31,8 @@ array-copy-out-g c = search needs
 
 returns : tie.Need-returns
 returns c =
-    let a = c .before .before .before .before .before .before .before .args in
+    let start = c .before .before .before .before .before .before .before in
+    let a = start .args in
     ap (λ (l : List Entry). l ++ (blankEntry ∷ [])) (spelled blankEntry (a .t1) 1 7 (search needs))
 
 pub shifted-spec : {M : Type 1} → statement M

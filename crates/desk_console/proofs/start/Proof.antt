@@ -3,14 +3,13 @@ use mathlib.Core.Path.{_≡_, sym, ap, _∙_}
 use mathlib.Core.Bool.{false, not}
 use mathlib.Core.List.{List, [], _∷_}
 use borrow.Author.Tests.{not-true, not-false}
-use Rattle.ground.specs.Refusals.{Said, granted, refused, Row, leaves, keeping}
+use Rattle.ground.specs.Refusals.{granted, refused, Row, leaves, keeping}
 use Rattle.ground.proofs.Cases.{past, here}
 use Rattle.ground.proofs.Rows.{NoneApplies, through}
 use Rattle.catalogue_tables.specs.Tables.{Tables, tables}
 use Rattle.player_check.specs.Standing.{nameRow}
 use Rattle.player_check.proofs.Laws.{text-short}
 use Rattle.player_state.specs.Player.{startedPlayer}
-use Rattle.desk_state.specs.declared.Desk.{Desk}
 use Rattle.desk_state.specs.Desk.{startedDesk}
 use Rattle.desk_replies.specs.Replies.{saidOf, lentRows}
 use Rattle.desk_replies.proofs.Gates.{refuses, none}

@@ -16,7 +16,9 @@ octet-or-zero-requires : tie.Need-octet-or-zero-requires
 octet-or-zero-requires c κs = search needs
 
 word-at-requires : tie.Need-word-at-requires
-word-at-requires c κs = c .before .before .before .before .before .before .before .before .pre .1 .1 .1 (c .if1 .taken)
+word-at-requires c κs =
+    let start = c .before .before .before .before .before .before .before .before in
+    start .pre .1 .1 .1 (c .if1 .taken)
 
 write-position-requires : tie.Need-write-position-requires
 write-position-requires c κs = search needs
@@ -45,9 +47,13 @@ settle-requires-2 c κs = search needs
 returns-2 : tie.Need-returns-2
 unfolding written
 returns-2 c =
-    let s = c .before .before .before .before .before .before .before .before .before .before .before .before in
-    let first = c .before .before .before .before .before .octet-or-zero .ensures in
-    past _ (ne-eqb _ _ (c .before .before .before .before .if1 .left)) (here _ (eq-eqb _ _ (c .before .before .before .if2 .taken)) (c .settle2 .ensures ∙ (λ k. settled (source (s .args .tracks .now) (s .args .text .now)) (c .before .by-writer2 .ensures k) ((c .before .before .with-speed .ensures ∙ ap (λ (x : ℕ). withSpeed x (s .args .d .player)) first) k) (s .args .d))))
+    let after-with-speed = c .before .before in
+    let test2 = after-with-speed .before in
+    let test1 = test2 .before in
+    let after-octet-or-zero = test1 .before in
+    let s = after-octet-or-zero .before .before .before .before .before .before .before in
+    let first = after-octet-or-zero .octet-or-zero .ensures in
+    past _ (ne-eqb _ _ (test1 .if1 .left)) (here _ (eq-eqb _ _ (test2 .if2 .taken)) (c .settle2 .ensures ∙ (λ k. settled (source (s .args .tracks .now) (s .args .text .now)) (c .before .by-writer2 .ensures k) ((after-with-speed .with-speed .ensures ∙ ap (λ (x : ℕ). withSpeed x (s .args .d .player)) first) k) (s .args .d))))
 
 with-order-requires : tie.Need-with-order-requires
 with-order-requires c κs = search needs
@@ -61,9 +67,14 @@ settle-requires-3 c κs = search needs
 returns-3 : tie.Need-returns-3
 unfolding written
 returns-3 c =
-    let s = c .before .before .before .before .before .before .before .before .before .before .before .before .before in
-    let first = c .before .before .before .before .before .before .octet-or-zero .ensures in
-    past _ (ne-eqb _ _ (c .before .before .before .before .before .if1 .left)) (past _ (ne-eqb _ _ (c .before .before .before .before .if2 .left)) (here _ (eq-eqb _ _ (c .before .before .before .if3 .taken)) (c .settle3 .ensures ∙ (λ k. settled (source (s .args .tracks .now) (s .args .text .now)) (c .before .by-writer3 .ensures k) ((c .before .before .with-order .ensures ∙ ap (λ (x : ℕ). withOrder x (s .args .d .player)) first) k) (s .args .d)))))
+    let after-with-order = c .before .before in
+    let test3 = after-with-order .before in
+    let test2 = test3 .before in
+    let test1 = test2 .before in
+    let after-octet-or-zero = test1 .before in
+    let s = after-octet-or-zero .before .before .before .before .before .before .before in
+    let first = after-octet-or-zero .octet-or-zero .ensures in
+    past _ (ne-eqb _ _ (test1 .if1 .left)) (past _ (ne-eqb _ _ (test2 .if2 .left)) (here _ (eq-eqb _ _ (test3 .if3 .taken)) (c .settle3 .ensures ∙ (λ k. settled (source (s .args .tracks .now) (s .args .text .now)) (c .before .by-writer3 .ensures k) ((after-with-order .with-order .ensures ∙ ap (λ (x : ℕ). withOrder x (s .args .d .player)) first) k) (s .args .d)))))
 
 control-requires : tie.Need-control-requires
 control-requires c κs = (let s = c .before .before .before .before .before .before .before .before .before .before in (s .pre .0, (s .pre .1 .0, s .pre .1 .1 .0)))

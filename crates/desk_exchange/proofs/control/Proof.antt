@@ -35,22 +35,32 @@ settle-requires : tie.Need-settle-requires
 settle-requires c κs = search needs
 
 account-at-requires : tie.Need-account-at-requires
-account-at-requires c κs = omega (arith, c .before .before .before .before .before .before .before .before .before .before .before .before .pre .1 .1)
+account-at-requires c κs =
+    let start = c .before .before .before .before .before .before .before .before .before .before .before .before in
+    omega (arith, start .pre .1 .1)
 
 note-result-requires : tie.Need-note-result-requires
 note-result-requires c κs = search needs
 
 with-account-requires : tie.Need-with-account-requires
-with-account-requires c κs = c .before .before .before .before .before .before .before .before .before .before .before .before .before .before .pre .1 .1
+with-account-requires c κs =
+    let start = c .before .before .before .before .before .before .before .before .before .before .before .before .before .before in
+    start .pre .1 .1
 
 returns : tie.Need-returns
 unfolding controlWritten
 returns c =
-    let s = c .before .before .before .before .before .before .before .before .before .before .before .before .before .before .before in
-    let opcode = c .before .before .before .before .before .before .before .before .octet-or-zero .ensures in
-    let done = c .before .before .before .before .before .before .control .ensures ∙ (λ k. controlled (s .args .groups .now) (s .args .tracks .now) (s .args .segments .now) (opcode k) (c .before .before .before .before .before .before .before .number-of .ensures k) (s .args .d .player)) in
-    let told = c .before .before .before .settle .ensures ∙ (λ k. settled (source (s .args .tracks .now) (s .args .text .now)) (c .before .before .before .before .by-writer .ensures k) (done k .player) (s .args .d)) in
-    let note = c .before .note-result .ensures ∙ (λ k. resulted (opcode k) (done k .result) ((c .before .before .account-at .ensures ∙ ap (λ (e : Desk). accountAt (e .clients) (s .args .who)) told) k)) in
+    let after-account-at = c .before .before in
+    let after-settle = after-account-at .before in
+    let after-by-writer = after-settle .before in
+    let after-control = after-by-writer .before .before in
+    let after-number-of = after-control .before in
+    let after-octet-or-zero = after-number-of .before in
+    let s = after-octet-or-zero .before .before .before .before .before .before .before in
+    let opcode = after-octet-or-zero .octet-or-zero .ensures in
+    let done = after-control .control .ensures ∙ (λ k. controlled (s .args .groups .now) (s .args .tracks .now) (s .args .segments .now) (opcode k) (after-number-of .number-of .ensures k) (s .args .d .player)) in
+    let told = after-settle .settle .ensures ∙ (λ k. settled (source (s .args .tracks .now) (s .args .text .now)) (after-by-writer .by-writer .ensures k) (done k .player) (s .args .d)) in
+    let note = c .before .note-result .ensures ∙ (λ k. resulted (opcode k) (done k .result) ((after-account-at .account-at .ensures ∙ ap (λ (e : Desk). accountAt (e .clients) (s .args .who)) told) k)) in
     c .with-account .ensures ∙ (λ k. withAccountOf (s .args .who) (note k) (told k))
 
 pub control-spec : {M : Type 1} → statement M

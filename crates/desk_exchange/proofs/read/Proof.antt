@@ -109,17 +109,25 @@ wide-word-requires : tie.Need-wide-word-requires
 wide-word-requires c κs = search needs
 
 sub-wide-word : tie.Need-sub-wide-word
-sub-wide-word c = omega (arith, mtu (begin (c .before .before .before .before .before .before .before)) (passed (c .before .before .before .before .before .before .before) (c .before .before .before .before .before .if1 .left)), ap (λ (r : Client). r .link .mtu) (c .before .before .before .client-at .ensures))
+sub-wide-word c =
+    let after-client-at = c .before .before .before in
+    let test1 = after-client-at .before .before in
+    let gate = test1 .before .before in
+    omega (arith, mtu (begin gate) (passed gate (test1 .if1 .left)), ap (λ (r : Client). r .link .mtu) (after-client-at .client-at .ensures))
 
 wide-word-requires-2 : tie.Need-wide-word-requires-2
 wide-word-requires-2 c κs = search needs
 
 hand-requires : tie.Need-hand-requires
 hand-requires c κs =
-    let s = begin (c .before .before .before .before .before .before .before .before .before) in
-    let n = passed (c .before .before .before .before .before .before .before .before .before) (c .before .before .before .before .before .before .before .if1 .left) in
-    let held = ap (λ (h : Held). h .len) (c .before .before .before .before .hold .ensures) in
-    let from = c .before .before .before .wide-word .ensures .0 in
+    let after-wide-word = c .before .before .before in
+    let after-hold = after-wide-word .before in
+    let test1 = after-hold .before .before .before in
+    let gate = test1 .before .before in
+    let s = begin gate in
+    let n = passed gate (test1 .if1 .left) in
+    let held = ap (λ (h : Held). h .len) (after-hold .hold .ensures) in
+    let from = after-wide-word .wide-word .ensures .0 in
     (ltb-false _ _ (n .1 .0), (omega (arith, within-value s n, held, from), omega (arith, short s n, held)))
 
 -- from the client's account on, the way back to the gate
@@ -127,7 +135,9 @@ abbrev gate : tie.After-a → tie.After-read-gate
 gate a = a .before .before .before .before .before .before .before .before .before .before .before .before .before
 
 reached : (a : tie.After-a) → NoneApplies (rows (begin (gate a)))
-reached a = passed (gate a) (a .before .before .before .before .before .before .before .before .before .before .before .if1 .left)
+reached a =
+    let test1 = a .before .before .before .before .before .before .before .before .before .before .before in
+    passed (gate a) (test1 .if1 .left)
 
 after-read-requires : tie.Need-after-read-requires
 after-read-requires c κs = in-below 32 readables refl _ (not-false _ (reached c .1 .1 .1 .1 .1 .1 .0))

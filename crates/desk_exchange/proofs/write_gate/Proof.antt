@@ -68,12 +68,16 @@ long l = sym (ap not (l .length-right .ensures))
 order-is : (o : tie.After-octet-or-zero)
     → let s = begun (o .before .before .before .before .before) in
     badOrder s (o .octet-or-zero .result) ≡ badOrder s (firstOctet (s .args .value .now))
-order-is o = ap (badOrder (begun (o .before .before .before .before .before))) (o .octet-or-zero .ensures)
+order-is o =
+    let gate = o .before .before .before .before .before in
+    ap (badOrder (begun gate)) (o .octet-or-zero .ensures)
 
 many-is : (a : tie.After-account-at)
     → let s = begun (a .before .before .before .before .before .before .before) in
     tooMany s (a .account-at .result .waiting) ≡ tooMany s (own s .account .waiting)
-many-is a = let s = begun (a .before .before .before .before .before .before .before) in ap (λ (r : Account). tooMany s (r .waiting)) (a .account-at .ensures)
+many-is a =
+    let gate = a .before .before .before .before .before .before .before in
+    let s = begun gate in ap (λ (r : Account). tooMany s (r .waiting)) (a .account-at .ensures)
 
 may-write-requires : tie.Need-may-write-requires
 may-write-requires c κs = search needs

@@ -1,8 +1,4 @@
 -- `desk_links::with_slot`: put in, or taken out.
-use mathlib.Core.Path.{ap, _∙_}
-use mathlib.Core.Bool.{Bool}
-use Rattle.ground.specs.Cases.{pick}
-use Rattle.desk_client.specs.Duties.{joined, dropped}
 use borrow.Author.Needs.{needs}
 use Rattle.desk_links.proofs.with_slot.Statement.{statement}
 use Rattle.desk_links.proofs.with_slot.Tie as tie

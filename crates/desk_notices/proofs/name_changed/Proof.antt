@@ -29,7 +29,9 @@ part-same-start c = search needs
 
 part-same-end : tie.Need-part-same-end
 part-same-end c =
-    omega (arith, long-p (c .before .before .before .before .before), c .before .before .name-end .ensures)
+    let after-name-end = c .before .before in
+    let earlier = after-name-end .before .before .before in
+    omega (arith, long-p earlier, after-name-end .name-end .ensures)
 
 sub-same-2 : tie.Need-sub-same-2
 sub-same-2 c = search needs
@@ -39,7 +41,9 @@ part-same-start-2 c = search needs
 
 part-same-end-2 : tie.Need-part-same-end-2
 part-same-end-2 c =
-    omega (arith, long-q (c .before .before .before .before .before .before .before), c .before .before .before .name-end2 .ensures)
+    let after-name-end2 = c .before .before .before in
+    let earlier = after-name-end2 .before .before .before .before in
+    omega (arith, long-q earlier, after-name-end2 .name-end2 .ensures)
 
 same-requires : tie.Need-same-requires
 same-requires c κs = search needs

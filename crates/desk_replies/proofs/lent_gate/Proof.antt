@@ -1,6 +1,6 @@
 -- `desk_replies::lent_gate`: 200, 205, the first that applies.
 use mathlib.Core.Path.{_≡_, refl, sym, ap, _∙_}
-use mathlib.Core.Bool.{true, false}
+use mathlib.Core.Bool.{false}
 use mathlib.Core.List.{List, [], _∷_}
 use Rattle.ground.specs.Refusals.{Said, granted, refused, Row, row, saidBy}
 use Rattle.ground.proofs.Cases.{past, here}
@@ -27,7 +27,9 @@ unfolding checkSaid
 first m e = sym (ap saidOf e) ∙ m .check .ensures
 
 passed : (m : tie.After-check) → m .check .result ≡ Fine → catalogueRow (lent (m .before .before .before .before .before)) .applies ≡ false
-passed m e = kept (catalogueRow (lent (m .before .before .before .before .before)) ∷ []) (granted []) (sym (ap (λ (said : Said). said .isGranted) (first m e))) .0
+passed m e =
+    let earlier = m .before .before .before .before .before in
+    kept (catalogueRow (lent earlier) ∷ []) (granted []) (sym (ap (λ (said : Said). said .isGranted) (first m e))) .0
 
 check-requires : tie.Need-check-requires
 check-requires c κs = search needs

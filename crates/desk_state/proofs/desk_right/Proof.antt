@@ -14,7 +14,10 @@ clients-right-requires c κs = search needs
 
 returns : tie.Need-returns
 unfolding deskRule
-returns c = λ k. c .before .before .player-right .ensures k && c .before .clients-right .ensures k && ltb (c .before .before .before .before .before .before .before .args .d .turn) 4
+returns c =
+    let after-player-right = c .before .before in
+    let start = after-player-right .before .before .before .before .before in
+    λ k. after-player-right .player-right .ensures k && c .before .clients-right .ensures k && ltb (start .args .d .turn) 4
 
 pub desk-right-spec : {M : Type 1} → statement M
 desk-right-spec = tie.close (tie.spec player-right-requires clients-right-requires returns)

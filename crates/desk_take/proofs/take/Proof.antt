@@ -73,10 +73,13 @@ left-requires c κs = search needs
 returns-2 : tie.Need-returns-2
 unfolding takeCall takeOctets nextClient
 returns-2 c =
-    let s = begin (c .before .before .before .before .before .before) in
-    let who = c .before .before .whose-turn .ensures in
+    let after-whose-turn = c .before .before in
+    let test1 = after-whose-turn .before .before in
+    let gate = test1 .before .before in
+    let s = begin gate in
+    let who = after-whose-turn .whose-turn .ensures in
     let over = sym (ap (leb clientCount) who) ∙ le-leb _ _ (c .before .if2 .taken) in (
-      through (keeping (s .args .d)) (rows s) (passed (c .before .before .before .before .before .before) (c .before .before .before .before .if1 .left)) (here _ over (c .left .ensures)),
+      through (keeping (s .args .d)) (rows s) (passed gate (test1 .if1 .left)) (here _ over (c .left .ensures)),
       ap (λ (octets : List ℕ). filled octets (s .args .out .now)) (here _ over refl)
           ∙ shown _ _ (takeOctets (lent s) (s .args .d)) (s .args .out .now) (ap (λ (l : Left Desk). l .said) (c .left .ensures)),
     )
@@ -87,10 +90,14 @@ client-at-requires c κs = search needs
 hand-out-requires : tie.Need-hand-out-requires
 unfolding nextClient
 hand-out-requires c κs =
-    let s = begin (c .before .before .before .before .before .before .before .before) in
-    let n = passed (c .before .before .before .before .before .before .before .before) (c .before .before .before .before .before .before .if1 .left) in
-    let w = c .before .before .before .before .whose-turn in
-    let there = c .before .before .before .if2 .left in
+    let test2 = c .before .before .before in
+    let after-whose-turn = test2 .before in
+    let test1 = after-whose-turn .before .before in
+    let gate = test1 .before .before in
+    let s = begin gate in
+    let n = passed gate (test1 .if1 .left) in
+    let w = after-whose-turn .whose-turn in
+    let there = test2 .if2 .left in
     let own = c .before .client-at .ensures in (
       right (lent s) (small s) (s .args .d) [] n,
       (
@@ -115,17 +122,22 @@ same-length c = search needs
 returns-3 : tie.Need-returns-3
 unfolding takeCall takeOctets nextClient
 returns-3 c =
-    let s = begin (c .before .before .before .before .before .before .before .before .before .before .before .before .before .before) in
-    let w = c .before .before .before .before .before .before .before .before .before .before in
+    let after-hand-out = c .before .before .before .before .before in
+    let after-client-at = after-hand-out .before .before in
+    let test2 = after-client-at .before .before in
+    let w = test2 .before in
+    let test1 = w .before .before in
+    let gate = test1 .before .before in
+    let s = begin gate in
     let who = w .whose-turn .ensures in
-    let under = sym (ap (leb clientCount) who) ∙ lt-leb _ _ (c .before .before .before .before .before .before .before .before .before .if2 .left) in
-    let own = c .before .before .before .before .before .before .before .client-at .ensures ∙ ap (clientAt (s .args .d .clients)) who in
-    let h = c .before .before .before .before .before .hand-out in
-    let octets : handedOctets (lent s) (s .args .d .player) (c .before .before .before .before .before .before .before .client-at .result) ≡ takeOctets (lent s) (s .args .d) =
+    let under = sym (ap (leb clientCount) who) ∙ lt-leb _ _ (test2 .if2 .left) in
+    let own = after-client-at .client-at .ensures ∙ ap (clientAt (s .args .d .clients)) who in
+    let h = after-hand-out .hand-out in
+    let octets : handedOctets (lent s) (s .args .d .player) (after-client-at .client-at .result) ≡ takeOctets (lent s) (s .args .d) =
     ap (handedOctets (lent s) (s .args .d .player)) own ∙ past _ under refl in
     let values = h .ensures .0 .0 ∙ ap (handedValues (lent s) (s .args .d .player)) own in
     let after = h .ensures .0 .1 ∙ ap afterServing own in (
-      through (keeping (s .args .d)) (rows s) (passed (c .before .before .before .before .before .before .before .before .before .before .before .before .before .before) (c .before .before .before .before .before .before .before .before .before .before .before .before .if1 .left))
+      through (keeping (s .args .d)) (rows s) (passed gate (test1 .if1 .left))
           (past _ under
           (c .left2 .ensures ∙ (λ k. leaves (granted (who k ∷ values k)) ((c .before .with-served .ensures ∙ (λ j. withServed (who j) (after j) (s .args .d))) k)))),
       h .ensures .1 ∙ ap (λ (front : List ℕ). filled front (s .args .out .now)) octets

@@ -1,7 +1,5 @@
 -- `mcs::mcs_card_load`: `card_load::load`, and what it says.
-use mathlib.Core.Path.{sym, ap, _∙_}
-use mathlib.Core.List.{List}
-use Prim.Native.Nat.{ℕ}
+use mathlib.Core.Path.{ap, _∙_}
 use lib.ListN.{length}
 use Rattle.ground.specs.Refusals.{Said}
 use Rattle.ground.specs.Lists.{tableAfter}
@@ -38,9 +36,12 @@ same-length-4 c = search needs
 
 returns : tie.Need-returns
 returns c =
-    let a = c .before .before .before .before .before .before .before .before .before .before .before .before .before .before .before .before .before .before .before .before .before .before .args in
-    let load = c .before .before .before .before .before .before .before .before .before .before .before .before .load .ensures in
-    let told = c .before .before .before .told-of-load .ensures ∙ ap toldOf (load .0) in
+    let after-told-of-load = c .before .before .before in
+    let after-load = after-told-of-load .before .before .before .before .before .before .before .before .before in
+    let start = after-load .before .before .before .before .before .before .before .before .before .before in
+    let a = start .args in
+    let load = after-load .load .ensures in
+    let told = after-told-of-load .told-of-load .ensures ∙ ap toldOf (load .0) in
     let blocks = blocksOf (a .card .now) in
     let said = loadSaid (a .card .now) (length (a .groups .now)) (length (a .tracks .now)) (length (a .segments .now)) (length (a .text .now)) in (
       ap (λ (t : Told). t .number) told,

@@ -35,18 +35,22 @@ same-length c = search needs
 
 returns : tie.Need-returns
 returns c =
-    let s = c .before .before .before .before .before .before .before .before .before .before .before .before .before .before .before .before .before .before in
+    let after-tell = c .before .before in
+    let after-told-of = after-tell .before .before .before in
+    let after-read = after-told-of .before .before .before in
+    let after-decode = after-read .before .before in
+    let s = after-decode .before .before .before .before .before .before .before .before in
     let k = tables (s .args .groups .now) (s .args .tracks .now) (s .args .segments .now) (s .args .text .now) in
-    let o = c .before .before .before .before .before .before .before .before .read in
-    let d = c .before .before .before .before .before .before .before .before .before .before .decode .ensures in
+    let o = after-read .read in
+    let d = after-decode .decode .ensures in
     let start = deskOf (s .args .state .now) in
     let left = o .ensures .0 ∙ ap (λ (x : Desk). readCall k x (s .args .client) (s .args .characteristic) (s .args .offset) (length (s .args .out .now))) d in
     let said = ap (λ (l : Left Desk). l .said) left in (
       follow left (c .finish .ensures),
       (
         o .ensures .1 ∙ (λ i. tableAfter (said i) (readOctets k (d i) (s .args .client) (s .args .characteristic) (s .args .offset)) (s .args .out .now)),
-        c .before .before .tell .ensures
-            ∙ ap (λ (t : Told). toldAfter (t .granted) (t .values) (s .args .length .now)) (c .before .before .before .before .before .told-of .ensures ∙ ap toldOf said)
+        after-tell .tell .ensures
+            ∙ ap (λ (t : Told). toldAfter (t .granted) (t .values) (s .args .length .now)) (after-told-of .told-of .ensures ∙ ap toldOf said)
             ∙ told-as-said (readCall k start (s .args .client) (s .args .characteristic) (s .args .offset) (length (s .args .out .now)) .said) (s .args .length .now) (read-words k start (s .args .client) (s .args .characteristic) (s .args .offset) (length (s .args .out .now))),
       ),
     )

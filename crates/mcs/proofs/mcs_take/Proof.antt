@@ -35,18 +35,22 @@ same-length c = search needs
 
 returns : tie.Need-returns
 returns c =
-    let s = c .before .before .before .before .before .before .before .before .before .before .before .before .before .before .before .before .before .before in
+    let after-tell = c .before .before in
+    let after-told-of = after-tell .before .before .before in
+    let after-take = after-told-of .before .before .before in
+    let after-decode = after-take .before .before in
+    let s = after-decode .before .before .before .before .before .before .before .before in
     let k = tables (s .args .groups .now) (s .args .tracks .now) (s .args .segments .now) (s .args .text .now) in
-    let o = c .before .before .before .before .before .before .before .before .take in
-    let d = c .before .before .before .before .before .before .before .before .before .before .decode .ensures in
+    let o = after-take .take in
+    let d = after-decode .decode .ensures in
     let start = deskOf (s .args .state .now) in
     let left = o .ensures .0 ∙ ap (λ (x : Desk). takeCall k x (length (s .args .out .now))) d in
     let said = ap (λ (l : Left Desk). l .said) left in (
       follow left (c .finish .ensures),
       (
         o .ensures .1 ∙ (λ i. tableAfter (said i) (takeOctets k (d i)) (s .args .out .now)),
-        c .before .before .tell .ensures
-            ∙ ap (λ (t : Told). toldAfter (t .granted) (t .values) (s .args .served .now)) (c .before .before .before .before .before .told-of .ensures ∙ ap toldOf said)
+        after-tell .tell .ensures
+            ∙ ap (λ (t : Told). toldAfter (t .granted) (t .values) (s .args .served .now)) (after-told-of .told-of .ensures ∙ ap toldOf said)
             ∙ told-as-said (takeCall k start (length (s .args .out .now)) .said) (s .args .served .now) (take-words k start (length (s .args .out .now))),
       ),
     )

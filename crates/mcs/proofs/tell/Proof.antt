@@ -1,12 +1,12 @@
 -- `mcs::tell`: after i turns the first i values are written.
 use Prim.Native.Nat.{ℕ, _≤_, _<_, _-_, _+_}
 use mathlib.Core.Path.{_≡_, refl, sym, _∙_, ap}
-use mathlib.Core.List.{List, [], append-nil, _++_}
+use mathlib.Core.List.{List, append-nil, _++_}
 use native.Mathlib.Omega.{arith}
 use native.Mathlib.Numerals.{add-one}
 use native.Mathlib.Nat.{zero-add, le-antisymm}
 use borrow.Author.Needs.{needs}
-use lib.ListN.{length, take, getD, set, length-set, drop, drop-of-length-le}
+use lib.ListN.{length, take, getD, set, length-set, drop-of-length-le}
 use lib.Seq.{paste, paste-zero, paste-suc}
 use Rattle.ground.proofs.Cases.{past, here}
 use Rattle.mcs.proofs.tell.Statement.{statement}

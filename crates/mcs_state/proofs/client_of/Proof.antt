@@ -80,20 +80,25 @@ wide-at-requires c κs = search needs
 returns : tie.Need-returns
 unfolding clientOf
 returns c =
-    let s = c .before .before .before .before .before .before .before .before .before .before .before .before .before .before .before .before .before .before .before .before .before .before .before .before .before .args .s .now in
+    let after-word-at3 = c .before .before in
+    let after-word-at2 = after-word-at3 .before in
+    let after-word-at = after-word-at2 .before in
+    let after-mtu-of = after-word-at .before in
+    let start = after-mtu-of .before .before .before .before .before .before .before .before .before .before .before .before .before .before .before .before .before .before .before .before in
+    let s = start .args .s .now in
     λ i.
     record {
       link =
           record {
             connected = flag (getD s 0 0);
             encrypted = flag (getD s 1 0);
-            mtu = c .before .before .before .before .before .mtu-of .ensures i;
-            mark = c .before .before .before .before .word-at .ensures i;
+            mtu = after-mtu-of .mtu-of .ensures i;
+            mark = after-word-at .word-at .ensures i;
           };
       account =
           record {
-            subscribed = c .before .before .before .word-at2 .ensures i;
-            owed = c .before .before .word-at3 .ensures i;
+            subscribed = after-word-at2 .word-at2 .ensures i;
+            owed = after-word-at3 .word-at3 .ensures i;
             fresh = c .before .word-at4 .ensures i;
             waiting = c .wide-at .ensures i;
             results = entriesAt s 30 8;

@@ -48,21 +48,29 @@ same-length c = search needs
 returns : tie.Need-returns
 unfolding deskOctets headOctets clientOctets
 returns c =
-    let a = c .before .before .before .before .before .before .before .before .before .before .before .before .before .before .before .before .before .before .before .before .before .before .before .before .before .before .before .before .before .before .before .before .before .args in
+    let after-put-client4 = c .before .before in
+    let after-put-client3 = after-put-client4 .before .before .before .before .before in
+    let after-put-client2 = after-put-client3 .before .before .before .before .before in
+    let after-put-client = after-put-client2 .before .before .before .before .before in
+    let after-put-head = after-put-client .before .before .before .before .before in
+    let after-put-name = after-put-head .before .before .before .before in
+    let after-four = after-put-name .before .before in
+    let start = after-four .before .before .before .before .before in
+    let a = start .args in
     let d = a .d in
-    let name = c .before .before .before .before .before .before .before .before .before .before .before .before .before .before .before .before .before .before .before .before .before .before .before .before .before .before .put-name .ensures in
-    let head = c .before .before .before .before .before .before .before .before .before .before .before .before .before .before .before .before .before .before .before .before .before .before .put-head .ensures in
-    let p0 = c .before .before .before .before .before .before .before .before .before .before .before .before .before .before .before .before .before .put-client .ensures in
-    let p1 = c .before .before .before .before .before .before .before .before .before .before .before .before .put-client2 .ensures in
-    let p2 = c .before .before .before .before .before .before .before .put-client3 .ensures in
-    let p3 = c .before .before .put-client4 .ensures in
+    let name = after-put-name .put-name .ensures in
+    let head = after-put-head .put-head .ensures in
+    let p0 = after-put-client .put-client .ensures in
+    let p1 = after-put-client2 .put-client2 .ensures in
+    let p2 = after-put-client3 .put-client3 .ensures in
+    let p3 = after-put-client4 .put-client4 .ensures in
     let l1 = lay _ (d .player .name .octets) 128 (bare (a .s .now)) (name .1) (name .0) in
     let l2 = lay _ (headOctets (d .player) (d .turn)) 26 l1 refl head in
     let l3 = lay _ (clientOctets (clientAt (d .clients) 0)) 46 l2 refl (p0 .0) in
     let l4 = lay _ (clientOctets (clientAt (d .clients) 1)) 46 l3 refl (p1 .0) in
     let l5 = lay _ (clientOctets (clientAt (d .clients) 2)) 46 l4 refl (p2 .0) in
     let l6 = lay _ (clientOctets (clientAt (d .clients) 3)) 46 l5 refl (p3 .0) in
-    let whole : Whole d = record { name = name .1; clients = c .before .before .before .before .before .before .before .before .before .before .before .before .before .before .before .before .before .before .before .before .before .before .before .before .before .before .before .before .four .ensures; results0 = p0 .1; results1 = p1 .1; results2 = p2 .1; results3 = p3 .1 } in
+    let whole : Whole d = record { name = name .1; clients = after-four .four .ensures; results0 = p0 .1; results1 = p1 .1; results2 = p2 .1; results3 = p3 .1 } in
     (l6 .is, ap deskOf (l6 .is) ∙ again d (drop 338 (a .s .now)) whole)
 
 pub encode-spec : {M : Type 1} → statement M

@@ -3,7 +3,7 @@ use mathlib.Core.Path.{_≡_, _∙_, ap}
 use mathlib.Core.List.{List, _++_, append-nil}
 use Prim.Native.Nat.{ℕ}
 use native.Mathlib.Omega.{arith}
-use lib.ListN.{getD, drop, length, replicate, drop-of-length-le}
+use lib.ListN.{getD, length, replicate, drop-of-length-le}
 use Rattle.mcs_state.specs.Codec.{playerOf}
 use borrow.Author.Needs.{needs}
 use Rattle.mcs_state.proofs.player_of.Statement.{statement}
@@ -45,19 +45,22 @@ word-at-requires-4 c κs = search needs
 returns : tie.Need-returns
 unfolding playerOf
 returns c =
-    let a = c .before .before .before .before .before .before .before .before .before .before .before .before .before in
+    let after-word-at2 = c .before .before in
+    let after-word-at = after-word-at2 .before .before .before .before .before .before in
+    let after-fill = after-word-at .before .before in
+    let a = after-fill .before .before .before in
     let h = a .args .h .now in
     let name = a .args .name .now in
-    let called : c .before .before .before .before .before .before .before .before .before .before .fill .result ≡ name =
-    c .before .before .before .before .before .before .before .before .before .before .fill .ensures ∙ ap (λ (l : List ℕ). name ++ l) (drop-of-length-le (replicate 128 0) {i = length name} (omega (arith, a .pre .0))) ∙ append-nil name in
+    let called : after-fill .fill .result ≡ name =
+    after-fill .fill .ensures ∙ ap (λ (l : List ℕ). name ++ l) (drop-of-length-le (replicate 128 0) {i = length name} (omega (arith, a .pre .0))) ∙ append-nil name in
     λ i.
     record {
       name = record { octets = called i; len = getD h 0 0 };
-      offer = record { mask = c .before .before .before .before .before .before .before .before .word-at .ensures i; ccid = getD h 1 0 };
+      offer = record { mask = after-word-at .word-at .ensures i; ccid = getD h 1 0 };
       mode = record { media = getD h 2 0; order = getD h 3 0; speed = getD h 4 0; seeking = getD h 5 0 };
       place =
           record {
-            group = record { 0 = c .before .before .word-at2 .ensures i };
+            group = record { 0 = after-word-at2 .word-at2 .ensures i };
             track = record { 0 = c .before .word-at3 .ensures i };
             position = record { 0 = c .word-at4 .ensures i };
           };

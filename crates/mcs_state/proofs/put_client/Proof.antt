@@ -25,9 +25,13 @@ same-length c = search needs
 returns : tie.Need-returns
 unfolding clientOctets
 returns c =
-    let a = c .before .before .before .before .before .before .before .before .before .args in
-    let e = c .before .before .before .before .before .client-octets .ensures in
-    (c .before .before .put .ensures ∙ (λ i. paste (a .s .now) (a .at) (e i) (length (e i))), c .before .before .before .before .before .before .eight .ensures)
+    let after-put = c .before .before in
+    let after-client-octets = after-put .before .before .before in
+    let after-eight = after-client-octets .before in
+    let start = after-eight .before .before .before in
+    let a = start .args in
+    let e = after-client-octets .client-octets .ensures in
+    (after-put .put .ensures ∙ (λ i. paste (a .s .now) (a .at) (e i) (length (e i))), after-eight .eight .ensures)
 
 pub put-client-spec : {M : Type 1} → statement M
 put-client-spec =

@@ -22,9 +22,12 @@ same-length c = search needs
 returns : tie.Need-returns
 unfolding headOctets
 returns c =
-    let a = c .before .before .before .before .before .before .before .args in
-    let e = c .before .before .before .before .before .head-octets .ensures in
-    c .before .before .put .ensures ∙ (λ i. paste (a .s .now) 128 (e i) (length (e i)))
+    let after-put = c .before .before in
+    let after-head-octets = after-put .before .before .before in
+    let start = after-head-octets .before .before in
+    let a = start .args in
+    let e = after-head-octets .head-octets .ensures in
+    after-put .put .ensures ∙ (λ i. paste (a .s .now) 128 (e i) (length (e i)))
 
 pub put-head-spec : {M : Type 1} → statement M
 put-head-spec =

@@ -17,9 +17,11 @@ same-length c = search needs
 
 returns : tie.Need-returns
 returns c =
-    let a = c .before .before .before .before .before .before .args in
+    let after-put = c .before .before in
+    let start = after-put .before .before .before .before in
+    let a = start .args in
     let e : length (a .t2) ≡ 128 = search needs in
-    (c .before .before .put .ensures ∙ ap (paste (a .s .now) 0 (a .t2)) e, e)
+    (after-put .put .ensures ∙ ap (paste (a .s .now) 0 (a .t2)) e, e)
 
 pub put-name-spec : {M : Type 1} → statement M
 put-name-spec = tie.close (tie.spec slice-aggregate-put put-requires same-length returns)

@@ -17,14 +17,16 @@ is-rung-requires c κs = search needs
 returns : tie.Need-returns
 unfolding modeRule
 returns c =
-    let m = c .before .before .before .before .before .before .args .m in
+    let start = c .before .before .before .before .before .before in
+    let m = start .args .m in
     let speed : c .is-rung .result ≡ pick (eqb (m .media) 3) (member (m .seeking) rungs) (eqb (m .seeking) 0) = here _ (eq-eqb (m .media) 3 (c .before .if1 .taken)) (c .is-rung .ensures) in
     λ k. leb (m .media) 3 && within 1 8 (m .order) && speed k
 
 returns-2 : tie.Need-returns-2
 unfolding modeRule
 returns-2 c =
-    let m = c .before .before .before .before .before .before .args .m in
+    let start = c .before .before .before .before .before .before in
+    let m = start .args .m in
     let speed : eqb (m .seeking) 0 ≡ pick (eqb (m .media) 3) (member (m .seeking) rungs) (eqb (m .seeking) 0) = past _ (ne-eqb (m .media) 3 (c .before .if1 .left)) refl in
     λ k. leb (m .media) 3 && within 1 8 (m .order) && speed k
 

@@ -41,8 +41,10 @@ is-text-requires c κs = search needs
 returns-2 : tie.Need-returns-2
 unfolding nameRule
 returns-2 c =
-    let n = c .before .before .before .before .before .before .args .name in
-    let short : leb (n .len) mostTitle ≡ true = le-leb _ _ (c .before .before .before .before .if1 .left) in
+    let test1 = c .before .before .before .before in
+    let start = test1 .before .before in
+    let n = start .args .name in
+    let short : leb (n .len) mostTitle ≡ true = le-leb _ _ (test1 .if1 .left) in
     simp short
     (c .is-text .ensures ∙ ap (λ (len : ℕ). isFine (textOf (take len (n .octets)))) (sub-zero (n .len)))
 

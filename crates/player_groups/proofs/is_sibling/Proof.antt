@@ -16,10 +16,14 @@ tracks-in-requires c κs = search needs
 
 returns : tie.Need-returns
 returns c =
+    let after-tracks-in = c .before .before .before in
+    let after-parent2 = after-tracks-in .before in
+    let after-parent = after-parent2 .before in
+    let start = after-parent .before .before in
     λ k.
-    not (eqb (c .before .before .before .before .before .before .before .args .h .0) 0)
-    && eqb (c .before .before .before .before .before .parent .ensures k) (c .before .before .before .before .parent2 .ensures k)
-    && not (eqb (c .before .before .before .tracks-in .ensures k) 0)
+    not (eqb (start .args .h .0) 0)
+    && eqb (after-parent .parent .ensures k) (after-parent2 .parent2 .ensures k)
+    && not (eqb (after-tracks-in .tracks-in .ensures k) 0)
 
 pub is-sibling-spec : {M : Type 1} → statement M
 is-sibling-spec = tie.close (tie.spec parent-requires parent-requires-2 tracks-in-requires returns)

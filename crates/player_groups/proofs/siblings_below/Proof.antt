@@ -35,9 +35,12 @@ loop-less c = search needs
 
 loop-again : tie.Need-loop-again Inv-loop μ-loop
 loop-again c =
-    let l = c .before .before .before .loop in
-    let test = isSibling (c .before .before .before .before .before .args .groups .now) (c .before .before .before .before .before .args .g .0) in
-    let h = c .before .before .loop-test .taken in
+    let after-loop-test = c .before .before in
+    let at-loop = after-loop-test .before in
+    let start = at-loop .before .before in
+    let l = at-loop .loop in
+    let test = isSibling (start .args .groups .now) (start .args .g .0) in
+    let h = after-loop-test .loop-test .taken in
     ⊎-elim
     (λ w. (omega arith, omega (arith, w .1), counted test _ (l .i) (l .n) _ (l .inv .2) h (c .if1 .n) (sym (c .before .is-sibling .ensures) ∙ w .0 .taken) (w .1)))
     (λ w. (omega arith, omega (arith, w .1), passed test _ (l .i) (l .n) _ (l .inv .2) h (c .if1 .n) (sym (c .before .is-sibling .ensures) ∙ w .0 .left) (w .1)))

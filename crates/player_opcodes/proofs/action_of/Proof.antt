@@ -46,12 +46,14 @@ returns-7 c =
 
 returns-8 : tie.Need-returns-8
 returns-8 c =
-    let a = c .before .before .before .before .before .before .args in
+    let start = c .before .before .before .before .before .before in
+    let a = start .args in
     action-track (a .opcode) (a .number) (omega arith) (omega arith) (c .step-of2 .ensures)
 
 returns-9 : tie.Need-returns-9
 returns-9 c =
-    let a = c .before .before .before .before .before .before .before .before .args in
+    let start = c .before .before .before .before .before .before .before .before in
+    let a = start .args in
     action-group (a .opcode) (a .number) (omega arith) (omega arith) (c .step-of3 .ensures)
 
 returns-10 : tie.Need-returns-10
@@ -68,12 +70,14 @@ returns-11 c =
 
 returns-12 : tie.Need-returns-12
 returns-12 c =
-    let a = c .before .before .before .before .before .before .args in
+    let start = c .before .before .before .before .before .before in
+    let a = start .args in
     action-none (a .opcode) (a .number) (before-group (a .opcode) (omega arith) (omega arith))
 
 returns-13 : tie.Need-returns-13
 returns-13 c =
-    let a = c .before .before .before .before .before .before .before .args in
+    let start = c .before .before .before .before .before .before .before in
+    let a = start .args in
     action-none (a .opcode) (a .number) (back (a .opcode) (omega arith))
 
 pub action-of-spec : {M : Type 1} → statement M

@@ -38,17 +38,20 @@ returns-2 c =
 
 returns-3 : tie.Need-returns-3
 returns-3 c =
-    let o = c .before .before .before .before .before .args .opcode in
+    let start = c .before .before .before .before .before in
+    let o = start .args .opcode in
     (bit-segment o (omega arith) (omega arith), omega arith)
 
 returns-4 : tie.Need-returns-4
 returns-4 c =
-    let o = c .before .before .before .before .before .before .before .args .opcode in
+    let start = c .before .before .before .before .before .before .before in
+    let o = start .args .opcode in
     (bit-track o (omega arith) (omega arith), omega arith)
 
 returns-5 : tie.Need-returns-5
 returns-5 c =
-    let o = c .before .before .before .before .before .before .before .before .before .args .opcode in
+    let start = c .before .before .before .before .before .before .before .before .before in
+    let o = start .args .opcode in
     (bit-group o (omega arith) (omega arith), omega arith)
 
 returns-6 : tie.Need-returns-6
@@ -63,17 +66,20 @@ returns-7 c =
 
 returns-8 : tie.Need-returns-8
 returns-8 c =
-    let o = c .before .before .before .before .before .before .args .opcode in
+    let start = c .before .before .before .before .before .before in
+    let o = start .args .opcode in
     (bit-none o (before-track o (omega arith) (omega arith)), omega arith)
 
 returns-9 : tie.Need-returns-9
 returns-9 c =
-    let o = c .before .before .before .before .before .before .before .before .args .opcode in
+    let start = c .before .before .before .before .before .before .before .before in
+    let o = start .args .opcode in
     (bit-none o (before-group o (omega arith) (omega arith)), omega arith)
 
 returns-10 : tie.Need-returns-10
 returns-10 c =
-    let o = c .before .before .before .before .before .before .before .before .before .args .opcode in
+    let start = c .before .before .before .before .before .before .before .before .before in
+    let o = start .args .opcode in
     (bit-none o (back o (omega arith)), omega arith)
 
 pub mask-bit-spec : {M : Type 1} → statement M

@@ -16,17 +16,20 @@ returns-2 c =
 
 returns-3 : tie.Need-returns-3
 returns-3 c =
-    let o = c .before .before .before .before .before .args .opcode in
+    let start = c .before .before .before .before .before in
+    let o = start .args .opcode in
     length-one o (omega (arith, bit-segment o (omega arith) (omega arith))) (λ e. omega arith) (λ e. omega arith) (λ e. omega arith) (λ e. omega arith)
 
 returns-4 : tie.Need-returns-4
 returns-4 c =
-    let o = c .before .before .before .before .before .before .before .args .opcode in
+    let start = c .before .before .before .before .before .before .before in
+    let o = start .args .opcode in
     length-one o (omega (arith, bit-track o (omega arith) (omega arith))) (λ e. omega arith) (λ e. omega arith) (λ e. omega arith) (λ e. omega arith)
 
 returns-5 : tie.Need-returns-5
 returns-5 c =
-    let o = c .before .before .before .before .before .before .before .before .before .args .opcode in
+    let start = c .before .before .before .before .before .before .before .before .before in
+    let o = start .args .opcode in
     length-one o (omega (arith, bit-group o (omega arith) (omega arith))) (λ e. omega arith) (λ e. omega arith) (λ e. omega arith) (λ e. omega arith)
 
 returns-6 : tie.Need-returns-6
@@ -41,20 +44,26 @@ returns-7 c =
 
 returns-8 : tie.Need-returns-8
 returns-8 c =
-    let o = c .before .before .before .before .before .before .args .opcode in
-    let other : o ≡ 0x24 → ⊥ = λ e. c .before .before .before .before .before .match .rest .1 (inr (inl e)) in
+    let after-match = c .before .before .before .before .before in
+    let start = after-match .before in
+    let o = start .args .opcode in
+    let other : o ≡ 0x24 → ⊥ = λ e. after-match .match .rest .1 (inr (inl e)) in
     length-none o (before-track o (omega arith) (omega arith))
 
 returns-9 : tie.Need-returns-9
 returns-9 c =
-    let o = c .before .before .before .before .before .before .before .before .args .opcode in
-    let other : o ≡ 0x34 → ⊥ = λ e. c .before .before .before .before .before .before .before .match .rest .1 (inr (inr (inl e))) in
+    let after-match = c .before .before .before .before .before .before .before in
+    let start = after-match .before in
+    let o = start .args .opcode in
+    let other : o ≡ 0x34 → ⊥ = λ e. after-match .match .rest .1 (inr (inr (inl e))) in
     length-none o (before-group o (omega arith) (omega arith))
 
 returns-10 : tie.Need-returns-10
 returns-10 c =
-    let o = c .before .before .before .before .before .before .before .before .before .args .opcode in
-    let other : o ≡ 0x44 → ⊥ = λ e. c .before .before .before .before .before .before .before .before .match .rest .1 (inr (inr (inr e))) in
+    let after-match = c .before .before .before .before .before .before .before .before in
+    let start = after-match .before in
+    let o = start .args .opcode in
+    let other : o ≡ 0x44 → ⊥ = λ e. after-match .match .rest .1 (inr (inr (inr e))) in
     length-none o (back o (omega arith))
 
 pub parameter-length-spec : {M : Type 1} → statement M

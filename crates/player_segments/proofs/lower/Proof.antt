@@ -35,16 +35,20 @@ loop-less c = search needs
 
 loop-again : tie.Need-loop-again Inv-loop μ-loop
 loop-again c =
-    let l = c .before .before .before .before .loop in
-    up _ _ (l .lo) (l .hi) (l .lo + (l .hi - l .lo) / 2) (c .before .before .before .before .before .pre .rise) (l .inv) (omega arith) (omega arith) (c .if1 .taken)
+    let at-loop = c .before .before .before .before in
+    let start = at-loop .before in
+    let l = at-loop .loop in
+    up _ _ (l .lo) (l .hi) (l .lo + (l .hi - l .lo) / 2) (start .pre .rise) (l .inv) (omega arith) (omega arith) (c .if1 .taken)
 
 loop-less-2 : tie.Need-loop-less-2 Inv-loop μ-loop
 loop-less-2 c = search needs
 
 loop-again-2 : tie.Need-loop-again-2 Inv-loop μ-loop
 loop-again-2 c =
-    let l = c .before .before .before .before .loop in
-    down _ _ (l .lo) (l .hi) (l .lo + (l .hi - l .lo) / 2) (c .before .before .before .before .before .pre .rise) (l .inv) (omega arith) (omega arith) (c .if1 .left)
+    let at-loop = c .before .before .before .before in
+    let start = at-loop .before in
+    let l = at-loop .loop in
+    down _ _ (l .lo) (l .hi) (l .lo + (l .hi - l .lo) / 2) (start .pre .rise) (l .inv) (omega arith) (omega arith) (c .if1 .left)
 
 returns : tie.Need-returns Inv-loop μ-loop
 returns c = closed _ _ _ _ (c .before .loop .inv) (c .loop-test .left)

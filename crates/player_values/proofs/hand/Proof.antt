@@ -30,7 +30,10 @@ part-put-start : tie.Need-part-put-start
 part-put-start c = search needs
 
 part-put-end : tie.Need-part-put-end
-part-put-end c = omega (arith, long (c .before .before .before .before .before .before), c .before .before .before .lesser .ensures)
+part-put-end c =
+    let after-lesser = c .before .before .before in
+    let earlier = after-lesser .before .before .before in
+    omega (arith, long earlier, after-lesser .lesser .ensures)
 
 put-requires : tie.Need-put-requires
 put-requires c κs = search needs

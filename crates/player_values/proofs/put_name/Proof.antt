@@ -18,7 +18,8 @@ part-put-start c = search needs
 
 part-put-end : tie.Need-part-put-end
 part-put-end c =
-    let l : length (c .before .before .before .before .before .args .p .name .octets) ≡ 128 = search needs in
+    let start = c .before .before .before .before .before in
+    let l : length (start .args .p .name .octets) ≡ 128 = search needs in
     omega arith
 
 put-requires : tie.Need-put-requires

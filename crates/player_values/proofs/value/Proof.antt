@@ -67,14 +67,22 @@ same-length-3 c = search needs
 
 returns-3 : tie.Need-returns-3
 unfolding valueOf wordOctets
-returns-3 c = rw (c .before .before .before .before .before .match .keys3, ← (c .before .before .before .duration-word .ensures)) (c .before .before .put-word .ensures)
+returns-3 c =
+    let after-put-word = c .before .before in
+    let after-duration-word = after-put-word .before in
+    let after-match = after-duration-word .before .before in
+    rw (after-match .match .keys3, ← (after-duration-word .duration-word .ensures)) (after-put-word .put-word .ensures)
 
 same-length-4 : tie.Need-same-length-4
 same-length-4 c = search needs
 
 returns-4 : tie.Need-returns-4
 unfolding valueOf wordOctets
-returns-4 c = rw (c .before .before .before .before .before .match .keys4, ← (c .before .before .before .position-word .ensures)) (c .before .before .put-word2 .ensures)
+returns-4 c =
+    let after-put-word2 = c .before .before in
+    let after-position-word = after-put-word2 .before in
+    let after-match = after-position-word .before .before in
+    rw (after-match .match .keys4, ← (after-position-word .position-word .ensures)) (after-put-word2 .put-word2 .ensures)
 
 same-length-5 : tie.Need-same-length-5
 same-length-5 c = search needs
@@ -102,7 +110,10 @@ same-length-8 c = search needs
 
 returns-8 : tie.Need-returns-8
 unfolding valueOf
-returns-8 c = rw (c .before .before .before .before .before .match .keys8) (c .before .before .put .ensures)
+returns-8 c =
+    let after-put = c .before .before in
+    let after-match = after-put .before .before .before in
+    rw (after-match .match .keys8) (after-put .put .ensures)
 
 same-length-9 : tie.Need-same-length-9
 same-length-9 c = search needs
@@ -116,7 +127,10 @@ same-length-10 c = search needs
 
 returns-10 : tie.Need-returns-10
 unfolding valueOf opcodesValue wordOctets
-returns-10 c = rw (c .before .before .before .before .before .match .keys10) (c .before .before .put-word3 .ensures)
+returns-10 c =
+    let after-put-word3 = c .before .before in
+    let after-match = after-put-word3 .before .before .before in
+    rw (after-match .match .keys10) (after-put-word3 .put-word3 .ensures)
 
 same-length-11 : tie.Need-same-length-11
 same-length-11 c = search needs

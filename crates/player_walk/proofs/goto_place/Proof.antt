@@ -34,14 +34,19 @@ returns c = rw (c .enum-told .given .1)
 
 returns-2 : tie.Need-returns-2
 returns-2 c =
-    let a = c .before .before .before .before .before .args in
-    rw (c .before .before .before .way .given .1) (c .wrapped .ensures ∙ ap (wrap (a .repeat) (a .len)) (c .before .wide-word .ensures .0))
+    let after-way = c .before .before .before in
+    let start = after-way .before .before in
+    let a = start .args in
+    rw (after-way .way .given .1) (c .wrapped .ensures ∙ ap (wrap (a .repeat) (a .len)) (c .before .wide-word .ensures .0))
 
 returns-3 : tie.Need-returns-3
 returns-3 c =
-    let a = c .before .before .before .before .before .before .args in
-    let place = c .before .wrapped2 .ensures ∙ ap (wrap (a .repeat) (a .len)) (c .before .before .wide-word2 .ensures .0) in
-    rw (c .before .before .before .before .way2 .given .1) (c .mirrored .ensures ∙ ap (mirror (a .len)) place)
+    let after-wide-word2 = c .before .before in
+    let after-way2 = after-wide-word2 .before .before in
+    let start = after-way2 .before .before in
+    let a = start .args in
+    let place = c .before .wrapped2 .ensures ∙ ap (wrap (a .repeat) (a .len)) (after-wide-word2 .wide-word2 .ensures .0) in
+    rw (after-way2 .way2 .given .1) (c .mirrored .ensures ∙ ap (mirror (a .len)) place)
 
 pub goto-place-spec : {M : Type 1} → statement M
 goto-place-spec =

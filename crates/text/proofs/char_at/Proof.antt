@@ -85,11 +85,13 @@ char-of-four-requires c κs = omega arith
 
 returns-7 : tie.Need-returns-7
 returns-7 c =
-    let b = c .before .before .before .before .before .before .before .before .before .before .before in
+    let after-octet-or-zero2 = c .before .before .before in
+    let after-octet-or-zero = after-octet-or-zero2 .before .before in
+    let b = after-octet-or-zero .before .before .before .before .before .before in
     let s = b .args .s .now in
     let at = b .args .at in
-    let eb = c .before .before .before .before .before .octet-or-zero .ensures in
-    let ec = c .before .before .before .octet-or-zero2 .ensures in
+    let eb = after-octet-or-zero .octet-or-zero .ensures in
+    let ec = after-octet-or-zero2 .octet-or-zero2 .ensures in
     let ed = c .before .octet-or-zero3 .ensures in
     char-there s at (c .char-of-four .result) (b .pre) (c .char-of-four .ensures ∙ (λ k. charOf (getD s at 0) (eb k) (ec k) (ed k)))
 
