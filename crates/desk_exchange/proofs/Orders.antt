@@ -5,15 +5,15 @@ use mathlib.Core.List.{List, _++_}
 use Prim.Native.Nat.{ℕ}
 use Rattle.ground.specs.Refusals.{table, inOrder}
 use Rattle.catalogue_tables.specs.Tables.{Tables}
-use Rattle.desk_client.specs.declared.Client.{Client}
 use Rattle.desk_state.specs.declared.Desk.{Desk}
 use Rattle.desk_replies.specs.Replies.{fronted}
 use Rattle.desk_exchange.specs.Read.{readRows}
 use Rattle.desk_exchange.specs.Write.{writeRows}
 
 module _ (k : Tables) (d : Desk) (who characteristic : ℕ) where
-  pub read-order : (small : Bool) (c : Client) (offset size : ℕ) → inOrder table (fronted k small d ++ readRows who c characteristic offset size) ≡ true
-  read-order small c offset size = refl
+  pub read-order : (small connected encrypted inMind : Bool) (offset size : ℕ)
+      → inOrder table (fronted k small d ++ readRows who connected encrypted inMind characteristic offset size) ≡ true
+  read-order small connected encrypted inMind offset size = refl
 
   pub write-order : (connected encrypted : Bool) (waiting : ℕ) (value : List ℕ)
       → inOrder table (fronted k false d ++ writeRows who connected encrypted waiting characteristic value) ≡ true

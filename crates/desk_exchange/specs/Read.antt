@@ -1,6 +1,6 @@
 -- Read at an offset (document 01, "Refusal numbers"): "A read hands out up to ATT_MTU − 1 octets; lent octets behind the answer stay."
 -- Assumes nothing.
-use mathlib.Core.Bool.{not, _&&_}
+use mathlib.Core.Bool.{Bool, not, _&&_}
 use mathlib.Core.List.{List, [], _∷_, _++_}
 use Prim.Native.Nat.{ℕ, _-_}
 use lib.Dec.{eqb, ltb}
@@ -13,7 +13,6 @@ use Rattle.desk_slots.specs.Characteristics.{readables, isIn}
 use Rattle.player_values.specs.Values.{sourceOf, valueOf}
 use Rattle.player_values.specs.Handing.{partFrom}
 use Rattle.desk_client.specs.declared.Account.{Account}
-use Rattle.desk_client.specs.declared.Client.{Client}
 use Rattle.desk_client.specs.Duties.{wasRead}
 use Rattle.desk_state.specs.declared.Desk.{Desk}
 use Rattle.desk_state.specs.Desk.{withAccountOf}
@@ -25,11 +24,16 @@ valueNow k d characteristic = valueOf (sourceOf k) (d .player) characteristic
 
 -- 202, 203, 0x01, 0x02, 0x0F; 0x80, "read at offset above 0, and some call changed the value .. since the client's last accepted read of it at 0, or no
 -- such read since connecting"; 0x07, "offset above the length"
-abbrev pub readRows : ℕ → Client → ℕ → ℕ → ℕ → List Row
-readRows who c characteristic offset size =
-    ofClient who (c .link .connected)
-    ++ (ofCharacteristic (c .link .encrypted) characteristic 0x02 (isIn readables characteristic)
-    ++ (row 0x80 (ltb 0 offset && not (has (c .account .fresh) characteristic)) ∷ row 0x07 (ltb size offset) ∷ []))
+abbrev pub readRows : ℕ → Bool → Bool → Bool → ℕ → ℕ → ℕ → List Row
+readRows who connected encrypted inMind characteristic offset size =
+    ofClient who connected
+    ++ (ofCharacteristic encrypted characteristic 0x02 (isIn readables characteristic)
+    ++ (row 0x80 (ltb 0 offset && not inMind) ∷ row 0x07 (ltb size offset) ∷ []))
+
+-- of the client that reads
+abbrev pub readerRows : Desk → ℕ → ℕ → ℕ → ℕ → List Row
+readerRows d who characteristic offset size =
+    readRows who (caller d who .link .connected) (caller d who .link .encrypted) (has (caller d who .account .fresh) characteristic) characteristic offset size
 
 -- what is handed out
 unfoldable pub readOctets : Tables → Desk → ℕ → ℕ → ℕ → List ℕ
@@ -41,6 +45,6 @@ afterRead characteristic offset a = pick (eqb offset 0) (wasRead characteristic 
 
 unfoldable pub readCall : Tables → Desk → ℕ → ℕ → ℕ → ℕ → Left Desk
 readCall k d who characteristic offset room =
-    asked k (ltb room leastOutput) d (readRows who (caller d who) characteristic offset (length (valueNow k d characteristic)))
+    asked k (ltb room leastOutput) d (readerRows d who characteristic offset (length (valueNow k d characteristic)))
     (leaves (granted (length (readOctets k d who characteristic offset) ∷ []))
     (withAccountOf who (afterRead characteristic offset (caller d who .account)) d))

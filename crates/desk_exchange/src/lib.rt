@@ -12,7 +12,7 @@ ghost use Rattle.catalogue_check.specs.Catalogue.{Right};
 ghost use Rattle.player_check.specs.Standing.{playerRule};
 ghost use Rattle.desk_slots.specs.Slots.{clientCount};
 ghost use Rattle.desk_replies.specs.Replies.{Gated, saidOf, leftBy, fronted, caller};
-ghost use Rattle.desk_exchange.specs.Read.{valueNow, readRows, afterRead, readOctets, readCall};
+ghost use Rattle.desk_exchange.specs.Read.{valueNow, readerRows, afterRead, readOctets, readCall};
 ghost use Rattle.desk_exchange.specs.Write.{writeRows, controlLength, lengthRight, numberOf, controlWritten, written, writeCall};
 
 // What a read leaves of the client's account.
@@ -38,7 +38,7 @@ fn read_gate(
     offset: u32,
     room: usize,
 ) -> desk_replies::Gate
-    ensures { λ r. ⌜ Gated (fronted (tables (now (groups .entry)) (now (tracks .entry)) (now (segments .entry)) (now (text .entry))) (ltb room leastOutput) d ++ readRows who (caller d who) characteristic offset (len (valueNow (tables (now (groups .entry)) (now (tracks .entry)) (now (segments .entry)) (now (text .entry))) d characteristic))) r ⌝ }
+    ensures { λ r. ⌜ Gated (fronted (tables (now (groups .entry)) (now (tracks .entry)) (now (segments .entry)) (now (text .entry))) (ltb room leastOutput) d ++ readerRows d who characteristic offset (len (valueNow (tables (now (groups .entry)) (now (tracks .entry)) (now (segments .entry)) (now (text .entry))) d characteristic))) r ⌝ }
 {
     let g = desk_replies::characteristic_gate(
         groups,

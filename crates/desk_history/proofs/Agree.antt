@@ -1,6 +1,7 @@
 -- Over every history: the desk stands and agrees with the ledger, and hands out what the ledger says. Assumes nothing.
 use mathlib.Core.Path.{_≡_, refl, sym, _∙_, subst}
 use mathlib.Core.Bool.{true, false, not, _&&_}
+use mathlib.Core.Option.{some}
 use mathlib.Core.List.{List, [], _∷_}
 use Prim.Native.Nat.{ℕ, _≤_, _<_}
 use native.Mathlib.Omega.{arith}
@@ -11,7 +12,7 @@ use Rattle.catalogue_check.specs.Catalogue.{catalogueRule}
 use Rattle.player_state.specs.Player.{startedPlayer}
 use Rattle.player_check.specs.Standing.{textRule}
 use Rattle.player_moves.proofs.Kept.{started}
-use Rattle.desk_slots.specs.Slots.{clientCount}
+use Rattle.desk_slots.specs.Slots.{placeCount, clientCount}
 use Rattle.desk_client.proofs.Rule.{mtu-least}
 use Rattle.desk_state.specs.declared.Desk.{Desk}
 use Rattle.desk_state.specs.Desk.{clientAt, startedDesk}
@@ -19,7 +20,7 @@ use Rattle.desk_state.proofs.Laws.{client-stands, start-keeps}
 use Rattle.desk_console.specs.Console.{startRows, startCall}
 use Rattle.desk_history.specs.Calls.{Call, setName, activate, deactivate, advance, connect, disconnect, subscribe, unsubscribe, read, write, take, left}
 use Rattle.desk_history.specs.Ledger.{Ledger, after}
-use Rattle.desk_history.specs.Rounds.{prepend, answers, AllKeep}
+use Rattle.desk_history.specs.Rounds.{Handout, prepend, answers, AllKeep}
 use Rattle.desk_history.specs.History.{dueOut, handedOut, ledgerAt, deskAt, given, Stays}
 use Rattle.desk_history.proofs.Agreement.{agree-start}
 use Rattle.desk_history.proofs.Steps.{Ok, name-step, activate-step, deactivate-step, advance-step, connect-step, disconnect-step, subscribe-step, unsubscribe-step}
@@ -87,3 +88,7 @@ module _ (k : Tables) (right : catalogueRule k ≡ true) where
     mtu-at h who l =
         let o = ok h in
         subst (λ (n : ℕ). 23 ≤ n) (o .0 .side who l .link .mtu) (mtu-least (clientAt (deskAt k name mask ccid h .clients) who) (client-stands (k .groups) (k .tracks) (deskAt k name mask ccid h) (o .1) who l))
+
+    -- a slot that is handed out is one of the round's places
+    pub slot-there : (c : Call) (h : List Call) (a : Handout) → handedOut k c (deskAt k name mask ccid h) ≡ some a → a .slot < placeCount
+    slot-there c h a e = laws k .slot< c (ledgerAt k name mask ccid h) a (in-range h) (sym (hands-at c h) ∙ e)

@@ -35,14 +35,9 @@ use Rattle.desk_state.specs.declared.Desk.{Desk}
 use Rattle.desk_state.specs.Desk.{noClient, clientAt, clientsRule, deskRule, startedDesk, withClient}
 use Rattle.desk_state.proofs.Laws.{client-stands, turn-there, kept-client}
 use Rattle.desk_history.specs.Ledger.{Side, Ledger, nobody, opening, changing, onAccount, noticing, becoming}
+use Rattle.desk_history.specs.Stored.{Like, Agrees}
 use Rattle.player_values.specs.Values.{sourceOf}
-use Rattle.desk_history.proofs.Likeness.{Like, like-start, like-noted}
-
-pub record Agrees (L : Ledger) (d : Desk) : Type 0 where
-  pub player : d .player ≡ L .player
-  pub turn : d .turn ≡ L .turn
-  pub long : length (d .clients) ≡ clientCount
-  pub side : (c : ℕ) → c < clientCount → Like (L .side c) (clientAt (d .clients) c)
+use Rattle.desk_history.proofs.Likeness.{like-start, like-noted}
 
 pub agree-start : (p : Player) → Agrees (opening p) (startedDesk p)
 unfolding startedDesk

@@ -1,18 +1,18 @@
 -- A read, and a write: the desk that they leave stands and agrees with the ledger. Assumes nothing.
 use mathlib.Core.Path.{_≡_, refl, sym, ap, _∙_, subst}
 use mathlib.Core.Bool.{Bool, true, false, not, _&&_, _||_}
-use mathlib.Core.Logic.{⊎-elim, _⊎_}
+use mathlib.Core.Logic.{_↔_, ⊎-elim}
 use mathlib.Core.List.{List, [], _∷_, _++_}
-use Prim.Native.Nat.{ℕ, _+_, _-_, _<_}
+use Prim.Native.Nat.{ℕ, _≤_, _<_}
 use native.Mathlib.Omega.{arith}
-use borrow.Author.Tests.{eq-eqb, ne-eqb, eqb-true, eqb-false, leb-true, leb-false, not-false}
+use borrow.Author.Tests.{eq-eqb, ne-eqb, eqb-true, eqb-false, le-leb, leb-true, leb-false, not-false}
 use lib.Dec.{eqb, ltb, leb}
 use lib.ListN.{length, length-take}
-use Rattle.ground.specs.Cases.{pick, within}
+use Rattle.ground.specs.Cases.{pick, within, has}
 use Rattle.ground.specs.Words.{wordAt}
-use Rattle.ground.proofs.Cases.{and-left, and-right, clash}
+use Rattle.ground.proofs.Cases.{and-left, and-right, clash, le-or, true-or}
 use Rattle.catalogue_tables.specs.Tables.{Tables}
-use Rattle.catalogue_check.specs.Catalogue.{catalogueRule}
+use Rattle.catalogue_check.specs.Catalogue.{catalogueRule, catalogueRow}
 use Rattle.catalogue_check.proofs.Laws.{is-right}
 use Rattle.player_state.specs.declared.Player.{Player}
 use Rattle.player_state.specs.Player.{withOrder, withSpeed}
@@ -24,76 +24,143 @@ use Rattle.player_moves.proofs.Ready.{shaped}
 use Rattle.player_moves.proofs.Kept.{kept-order, kept-speed, kept-positioned, kept-controlled}
 use Rattle.desk_slots.specs.Slots.{clientCount}
 use Rattle.desk_slots.specs.Characteristics.{readables, writables, isIn}
+use Rattle.desk_slots.proofs.SetLaws.{in-below}
 use Rattle.ground.specs.Limits.{leastOutput}
-use Rattle.ground.specs.Refusals.{Row, row, accepted}
-use Rattle.ground.proofs.Rows.{NoneApplies, none-of, state-of}
+use Rattle.ground.specs.Refusals.{Said, granted, refused, refusedWith, Row, row, accepted, saidBy}
+use Rattle.ground.proofs.Rows.{NoneApplies, accepted-said, all-of, none-of, said-of}
+use Rattle.desk_client.specs.declared.Account.{Account}
 use Rattle.desk_client.specs.declared.Client.{Client}
 use Rattle.desk_client.specs.Client.{mostResults, clientRule}
-use Rattle.desk_client.specs.Setters.{withAccount}
 use Rattle.desk_client.specs.Duties.{wasRead, resulted}
-use Rattle.desk_client.proofs.Rule.{Linked, connected-linked, linked-connected, account-kept, few-results}
+use Rattle.desk_client.proofs.Rule.{Sound, Linked, few-results}
 use Rattle.desk_client.proofs.Kept.{kept-read, kept-resulted}
 use Rattle.desk_client.proofs.SlotBySlot.{resulted-subscribed}
 use Rattle.desk_state.specs.declared.Desk.{Desk}
-use Rattle.desk_state.specs.Desk.{clientAt, withClient, withAccountOf}
+use Rattle.desk_state.specs.Desk.{clientAt}
 use Rattle.desk_state.proofs.Laws.{player-stands}
 use Rattle.desk_notices.specs.Owed.{byWriter}
 use Rattle.desk_replies.specs.Replies.{fronted, ofCharacteristic, caller}
-use Rattle.desk_exchange.specs.Read.{valueNow, readRows, afterRead, readCall}
+use Rattle.player_values.specs.Values.{sourceOf, valueOf}
+use Rattle.desk_exchange.specs.Read.{valueNow, readerRows, afterRead, readOctets, readCall}
 use Rattle.desk_exchange.specs.Write.{firstOctet, lengthRight, writeRows, numberOf, becomingBy, outcomeOf, controlWritten, written, writeCall}
-use Rattle.desk_history.specs.Ledger.{Side, Ledger, becoming, resulting, mayWrite, outcome, resultOf, controlWriting, writing}
-use Rattle.desk_history.proofs.Likeness.{Like, LikeAccount, like-read, like-resulted}
-use Rattle.desk_history.proofs.Agreement.{Agrees, agree-changing, client-kept}
+use Rattle.desk_history.specs.Ledger.{Side, Ledger, changing, onAccount, becoming, reading, resulting, rowsOfRead, mayRead, mayWrite, outcome, resultOf, controlWriting, writing}
+use Rattle.desk_history.specs.Stored.{Like, LikeAccount}
+use Rattle.desk_history.proofs.Likeness.{like-read, like-resulted}
 use Rattle.desk_history.proofs.Steps.{Ok, ok-call, same-rows, ok-becoming, ok-account, like, rule, linked-of}
+
+-- behind 0x80 there is 0x07 and 0
+other : (t : Bool) → saidBy (row 0x07 t ∷ []) .number < 0x80
+other true = omega arith
+other false = omega arith
+
+-- of these rows 0x80 is the first that applies
+pub first-80 : (a b d e f g above inMind t : Bool)
+    → (saidBy (row 205 a ∷ row 202 b ∷ row 203 d ∷ row 0x01 e ∷ row 0x02 f ∷ row 0x0F g ∷ row 0x80 (above && not inMind) ∷ row 0x07 t ∷ []) .number ≡ 0x80)
+    ↔ ((accepted (row 205 a ∷ row 202 b ∷ row 203 d ∷ row 0x01 e ∷ row 0x02 f ∷ row 0x0F g ∷ []) ≡ true) × (above ≡ true) × (inMind ≡ false))
+first-80 true b d e f g above inMind t = ((λ n. absurd (let z : ⊥ = omega (arith, n) in z)), (λ p. clash (p .0)))
+first-80 false true d e f g above inMind t = ((λ n. absurd (let z : ⊥ = omega (arith, n) in z)), (λ p. clash (p .0)))
+first-80 false false true e f g above inMind t = ((λ n. absurd (let z : ⊥ = omega (arith, n) in z)), (λ p. clash (p .0)))
+first-80 false false false true f g above inMind t = ((λ n. absurd (let z : ⊥ = omega (arith, n) in z)), (λ p. clash (p .0)))
+first-80 false false false false true g above inMind t = ((λ n. absurd (let z : ⊥ = omega (arith, n) in z)), (λ p. clash (p .0)))
+first-80 false false false false false true above inMind t = ((λ n. absurd (let z : ⊥ = omega (arith, n) in z)), (λ p. clash (p .0)))
+first-80 false false false false false false true true t = ((λ n. absurd (let z : ⊥ = omega (arith, other t, n) in z)), (λ p. clash (sym (p .2))))
+first-80 false false false false false false true false t = ((λ n. (refl, refl, refl)), (λ p. refl))
+first-80 false false false false false false false inMind t = ((λ n. absurd (let z : ⊥ = omega (arith, other t, n) in z)), (λ p. clash (p .1)))
 
 -- as many results wait as the list says
 pub as-many : (x : Side) (c : Client) → Like x c → clientRule c ≡ true → length (x .account .waiting) ≡ c .account .waiting
 as-many x c l r = ap length (sym (l .account .waiting)) ∙ length-take (c .account .waiting) (c .account .results) ∙ omega (arith, l .account .long, few-results c r)
 
 module _ (k : Tables) (right : catalogueRule k ≡ true) (L : Ledger) (d : Desk) (ok : Ok k L d) where
-  -- ---- a read: nothing that the ledger knows of changes
-  unchanged : (who : ℕ) → who < clientCount → (c : Client) → Like (L .side who) c → Agrees L (withClient who c d)
-  unfolding withClient
-  unchanged who h c l =
-      let a = agree-changing L d (ok .0) who h c (λ x. x) l in
-      record {
-        player = a .player;
-        turn = a .turn;
-        long = a .long;
-        side = λ i m. subst (λ (x : Side). Like x (clientAt (withClient who c d .clients) i)) (same (eqb i who) (L .side i)) (a .side i m);
-      }
+  -- ---- a read: what its rows say is what they say of what the ledger knows
+  read-said : (who c offset room : ℕ)
+      → saidBy (row 205 (ltb room leastOutput) ∷ readerRows d who c offset (length (valueNow k d c))) ≡ saidBy (rowsOfRead k L who c offset room)
+  read-said who c offset room = ⊎-elim over there (le-or clientCount who)
     where
-      same : (t : Bool) (x : Side) → pick t x x ≡ x
-      same true x = refl
-      same false x = refl
+      rows : Bool → Bool → Bool → Bool → ℕ → Bool → List Row
+      rows beyond on safe inMind size allowed =
+          row 205 (ltb room leastOutput) ∷ row 202 beyond ∷ row 203 (not on)
+          ∷ (ofCharacteristic safe c 0x02 allowed ++ (row 0x80 (ltb 0 offset && not inMind) ∷ row 0x07 (ltb size offset) ∷ []))
 
-  pub read-step : (who c offset room : ℕ) → Ok k L (readCall k d who c offset room .state)
+      desk : Bool → Bool → Said
+      desk beyond allowed =
+          saidBy (rows beyond (caller d who .link .connected) (caller d who .link .encrypted) (has (caller d who .account .fresh) c) (length (valueNow k d c)) allowed)
+
+      ledger : Bool → Bool → Said
+      ledger beyond allowed =
+          saidBy (rows beyond (L .side who .link .on) (L .side who .link .safe) (L .side who .account .mind c) (length (valueOf (sourceOf k) (L .player) c)) allowed)
+
+      -- 202 of both
+      over : clientCount ≤ who → desk (leb clientCount who) (isIn readables c) ≡ ledger (leb clientCount who) (isIn readables c)
+      over h = (λ i. desk (le-leb clientCount who h i) (isIn readables c)) ∙ sym (λ i. ledger (le-leb clientCount who h i) (isIn readables c))
+
+      there : who < clientCount → desk (leb clientCount who) (isIn readables c) ≡ ledger (leb clientCount who) (isIn readables c)
+      there h = ⊎-elim known unread (true-or (isIn readables c))
+        where
+          l : Like (L .side who) (caller d who)
+          l = like k right L d ok who h
+
+          size : length (valueNow k d c) ≡ length (valueOf (sourceOf k) (L .player) c)
+          size = ap (λ (p : Player). length (valueOf (sourceOf k) p c)) (ok .0 .player)
+
+          known : isIn readables c ≡ true → desk (leb clientCount who) (isIn readables c) ≡ ledger (leb clientCount who) (isIn readables c)
+          known e = λ i. saidBy (rows (leb clientCount who) (l .link .on i) (l .link .safe i) (l .account .mind c (in-below 32 readables refl c e) i) (size i) (isIn readables c))
+
+          -- 0x02 before 0x80
+          unread : isIn readables c ≡ false → desk (leb clientCount who) (isIn readables c) ≡ ledger (leb clientCount who) (isIn readables c)
+          unread e =
+              (λ i. desk (leb clientCount who) (e i))
+              ∙ (λ i. saidBy (rows (leb clientCount who) (l .link .on i) (l .link .safe i) (has (caller d who .account .fresh) c) (size i) false))
+              ∙ sym (λ i. ledger (leb clientCount who) (e i))
+
+  pub read-step : (who c offset room : ℕ)
+      → Ok k (pick (mayRead k L who c offset room) (changing who (onAccount (reading c offset)) L) L) (readCall k d who c offset room .state)
   unfolding readCall wasRead
   read-step who c offset room =
-      subst (Ok k L) (sym (state-of d rows _)) (choose (accepted rows) refl)
+      ok-call k right L d ok (ltb room leastOutput) (mayRead k L who c offset room) (readerRows d who c offset (length (valueNow k d c))) _
+      (changing who (onAccount (reading c offset)) L)
+      (sym (accepted-said (row 205 (ltb room leastOutput) ∷ readerRows d who c offset (length (valueNow k d c)))) ∙ ap (λ (s : Said). s .isGranted) (read-said who c offset room)
+      ∙ accepted-said (rowsOfRead k L who c offset room))
+      (λ e.
+      let n = none-of (rowsOfRead k L who c offset room) e in
+      let h = leb-false clientCount who (n .1 .0) in
+      let on = not-false _ (n .1 .1 .0) in
+      let own = caller d who in
+      let linked = linked-of k right L d ok who h on in
+      ok-account k right L d ok who h on (afterRead c offset (own .account)) (reading c offset)
+      (like-read (L .side who .account) (own .account) (like k right L d ok who h .account) c offset)
+      (sound (eqb offset 0) (own .account) (linked .account) (not-false _ (n .1 .1 .1 .1 .0)))
+      (ap (λ (s : ℕ). own .link .encrypted || eqb s 0) (same (eqb offset 0) (own .account)) ∙ linked .safe))
     where
-      own : Client
-      own = caller d who
+      sound : (t : Bool) (a : Account) → Sound a → isIn readables c ≡ true → Sound (pick t (wasRead c a) a)
+      sound true a s may = kept-read a s c may
+      sound false a s may = s
 
+      same : (t : Bool) (a : Account) → pick t (wasRead c a) a .subscribed ≡ a .subscribed
+      same true a = refl
+      same false a = refl
+
+  -- the number that a read answers with, by the calls alone
+  pub read-number : (who c offset room : ℕ) → readCall k d who c offset room .said .number ≡ saidBy (rowsOfRead k L who c offset room) .number
+  unfolding readCall
+  read-number who c offset room =
+      ap (λ (s : Said). s .number) (said-of d (fronted k (ltb room leastOutput) d ++ rows) _)
+      ∙ granted-0 (accepted (fronted k (ltb room leastOutput) d ++ rows)) refl
+      ∙ ap (λ (s : Said). s .number) ((λ i. fronting (not (right i)) (not (ok .1 i))) ∙ read-said who c offset room)
+    where
       rows : List Row
-      rows = fronted k (ltb room leastOutput) d ++ readRows who own c offset (length (valueNow k d c))
+      rows = readerRows d who c offset (length (valueNow k d c))
 
-      after-read : (t : Bool) → (h : who < clientCount) → own .link .connected ≡ true → isIn readables c ≡ true
-          → Like (L .side who) (withAccount (pick t (wasRead c (own .account)) (own .account)) own) × (clientRule (withAccount (pick t (wasRead c (own .account)) (own .account)) own) ≡ true)
-      after-read true h on may = (
-        record { link = like k right L d ok who h .link; account = like-read (L .side who .account) (own .account) (like k right L d ok who h .account) c },
-        let l = connected-linked own (rule k right L d ok who h) on in
-            linked-connected (withAccount (wasRead c (own .account)) own) on (account-kept own (wasRead c (own .account)) l (kept-read (own .account) (l .account) c may) (l .safe)),
-      )
-      after-read false h on may = (like k right L d ok who h, rule k right L d ok who h)
+      -- a read that is accepted answers 0, whatever it hands out
+      granted-0 : (t : Bool) → accepted (fronted k (ltb room leastOutput) d ++ rows) ≡ t
+          → pick t (granted (length (readOctets k d who c offset) ∷ [])) (saidBy (fronted k (ltb room leastOutput) d ++ rows)) .number ≡ saidBy (fronted k (ltb room leastOutput) d ++ rows) .number
+      granted-0 true e = ap (λ (s : Said). s .number) (all-of (fronted k (ltb room leastOutput) d ++ rows) (none-of (fronted k (ltb room leastOutput) d ++ rows) e))
+      granted-0 false e = refl
 
-      choose : (t : Bool) → accepted rows ≡ t → Ok k L (pick t (withAccountOf who (afterRead c offset (own .account)) d) d)
-      choose false e = ok
-      choose true e =
-          let n = none-of rows e in
-          let h = leb-false clientCount who (n .1 .1 .1 .0) in
-          let a = after-read (eqb offset 0) h (not-false _ (n .1 .1 .1 .1 .0)) (not-false _ (n .1 .1 .1 .1 .1 .1 .0)) in
-          (unchanged who h (withAccount (afterRead c offset (own .account)) own) (a .0), client-kept k d (ok .1) (ok .0 .long) who h (withAccount (afterRead c offset (own .account)) own) (a .1))
+      -- behind 200 and 201
+      fronting : Bool → Bool → Said
+      fronting wrong fallen =
+          pick wrong (refusedWith (catalogueRow k .number) (catalogueRow k .values)) (pick (ltb room leastOutput) (refused 205) (pick fallen (refused 201) (saidBy rows)))
 
   -- ---- a write: accepted exactly where the ledger's rows accept
   write-rows : (who c : ℕ) (value : List ℕ)

@@ -29,7 +29,7 @@ use Rattle.desk_notices.specs.Owed.{noWriter, byWriter}
 use Rattle.desk_console.specs.Console.{nameRows, activateRows, quietAdvance}
 use Rattle.desk_exchange.specs.Write.{firstOctet}
 use Rattle.desk_history.specs.Calls.{Call, setName, activate, deactivate, advance, connect, disconnect, subscribe, unsubscribe, read, write, take}
-use Rattle.desk_history.specs.Ledger.{Side, Ledger, onAccount, linked, nobody, mayConnect, asks, mayJoin, mayTake, changing, noticing, becoming, joining, leaving, resulting, behind, serving, passing, owes, owedAny, nextIn, slotIn, servingNext, outcome, resultOf, controlWriting, mayWrite, writing, after}
+use Rattle.desk_history.specs.Ledger.{Side, Ledger, onAccount, linked, nobody, mayConnect, asks, mayJoin, mayRead, mayTake, changing, noticing, becoming, joining, leaving, reading, resulting, behind, serving, passing, owes, owedAny, nextIn, slotIn, servingNext, outcome, resultOf, controlWriting, mayWrite, writing, after}
 use Rattle.desk_history.specs.Rounds.{Handout, isFor, System, Laws}
 use Rattle.desk_history.specs.History.{answerIn, dueOut}
 use Rattle.desk_history.proofs.Serving.{backlog, owes-of, owed-any, any-owed}
@@ -81,6 +81,9 @@ module _ (s : ℕ) (x : Side) where
             (λ q. le-of-eq (ap (λ (b : Bool). length (pick b [] (x .account .waiting))) (sym (sym (ap (eqb t) q) ∙ other))))
             (λ n. bit-kept (x .account .due s) (eqb t s) other),
       )
+
+  quiet-reading : (y offset : ℕ) → Quiet s x (onAccount (reading y offset) x)
+  quiet-reading y offset = (refl, le-refl _)
 
   quiet-resulting : (e : Entry) → Quiet s x (onAccount (resulting e) x)
   quiet-resulting e = (refl, by-slot s _ _ _ _ (λ q. grows (x .account .wants controlSlot)) (λ n. le-refl _))
@@ -135,7 +138,7 @@ module _ (k : Tables) (c s : ℕ) where
   still (disconnect who) L e w = still-if c s (asks L who) (changing who (λ y. nobody) L) L (still-changing c s who (λ y. nobody) L (λ h. clash h)) w
   still (subscribe who x) L e w = still-if c s (mayJoin L who x) (changing who (onAccount (joining (slotOf x))) L) L (still-changing c s who (onAccount (joining (slotOf x))) L (λ h. quiet-joining s (L .side c) (slotOf x))) w
   still (unsubscribe who x) L e w = still-if c s (mayJoin L who x) (changing who (onAccount (leaving (slotOf x))) L) L (still-changing c s who (onAccount (leaving (slotOf x))) L (λ h. quiet-leaving s (L .side c) (slotOf x) h)) w
-  still (read who x offset room) L e w = still-same c s L
+  still (read who x offset room) L e w = still-if c s (mayRead k L who x offset room) (changing who (onAccount (reading x offset)) L) L (still-changing c s who (onAccount (reading x offset)) L (λ h. quiet-reading s (L .side c) x offset)) w
   still (write who x value) L e w = still-if c s (mayWrite L who x value) (writing k L who x value) L written w
     where
       written : Wants c s (writing k L who x value) → Still c s L (writing k L who x value)
@@ -330,7 +333,7 @@ module _ (k : Tables) where
   marks (disconnect who) L e = marks-if (asks L who) (changing who (λ y. nobody) L) L (marks-changing who (λ y. nobody) L (λ y. inr refl))
   marks (subscribe who x) L e = marks-if (mayJoin L who x) (changing who (onAccount (joining (slotOf x))) L) L (marks-changing who (onAccount (joining (slotOf x))) L (λ y. inl refl))
   marks (unsubscribe who x) L e = marks-if (mayJoin L who x) (changing who (onAccount (leaving (slotOf x))) L) L (marks-changing who (onAccount (leaving (slotOf x))) L (λ y. inl refl))
-  marks (read who x offset room) L e = marks-same L
+  marks (read who x offset room) L e = marks-if (mayRead k L who x offset room) (changing who (onAccount (reading x offset)) L) L (marks-changing who (onAccount (reading x offset)) L (λ y. inl refl))
   marks (write who x value) L e = marks-if (mayWrite L who x value) (writing k L who x value) L (one (eqb x 7) (eqb x 8) (eqb x 15))
     where
       one : (t u v : Bool)

@@ -10,4 +10,6 @@ pub mod Taking
 pub mod Results
 pub mod Agree
 pub mod Order
+pub mod InTime
+pub mod Forty
 pub mod Demand3

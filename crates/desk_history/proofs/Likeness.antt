@@ -19,35 +19,20 @@ use Rattle.desk_notices.specs.Changes.{changed, trackChanged}
 use Rattle.desk_notices.specs.declared.Cause.{Cause}
 use Rattle.desk_notices.specs.Owed.{fallsDue, spared, dueTo, alteredOf}
 use Rattle.desk_client.specs.declared.Entry.{Entry}
-use Rattle.desk_client.specs.declared.Link.{Link}
 use Rattle.desk_client.specs.declared.Account.{Account}
 use Rattle.desk_client.specs.declared.Client.{Client}
 use Rattle.desk_client.specs.Client.{controlSlot, mostResults, blankEntry, blankAccount, startClient, connectedClient}
 use Rattle.desk_client.specs.Setters.{withSlots}
-use Rattle.desk_client.specs.Queue.{queueOf, withoutOldest}
+use Rattle.desk_client.specs.Queue.{withoutOldest}
 use Rattle.desk_client.specs.Duties.{joined, dropped, noted, wasRead, resulted, served, passedOn}
-use Rattle.desk_client.proofs.SlotBySlot.{dropped-queue, noted-owed, resulted-none, resulted-is, resulted-queue, served-value, served-result, served-queue}
+use Rattle.desk_client.proofs.SlotBySlot.{dropped-queue, noted-owed, noted-fresh, resulted-none, resulted-is, resulted-queue, served-value, served-result, served-queue}
 use Rattle.player_values.specs.Values.{sourceOf}
-use Rattle.desk_history.specs.Ledger.{Line, Claims, Side, linked, nobody, noticing, joining, leaving, resulting, behind, serving, passing}
-
-pub record LikeLink (x : Line) (l : Link) : Type 0 where
-  pub on : l .connected ≡ x .on
-  pub safe : l .encrypted ≡ x .safe
-  pub mtu : l .mtu ≡ x .mtu
-  pub last : l .mark ≡ x .last
-
-pub record LikeAccount (x : Claims) (a : Account) : Type 0 where
-  pub wants : (s : ℕ) → s < slotCount → has (a .subscribed) s ≡ x .wants s
-  pub due : (s : ℕ) → s < slotCount → (s ≡ controlSlot → ⊥) → has (a .owed) s ≡ x .due s
-  pub waiting : queueOf a ≡ x .waiting
-  pub long : length (a .results) ≡ mostResults
-
-pub record Like (x : Side) (c : Client) : Type 0 where
-  pub link : LikeLink (x .link) (c .link)
-  pub account : LikeAccount (x .account) (c .account)
+use Rattle.desk_exchange.specs.Read.{afterRead}
+use Rattle.desk_history.specs.Ledger.{Claims, Side, linked, nobody, noticing, joining, leaving, reading, resulting, behind, serving, passing}
+use Rattle.desk_history.specs.Stored.{LikeAccount, Like}
 
 blank-account : LikeAccount (nobody .account) blankAccount
-blank-account = record { wants = λ s h. has-zero s; due = λ s h n. has-zero s; waiting = refl; long = refl }
+blank-account = record { wants = λ s h. has-zero s; due = λ s h n. has-zero s; waiting = refl; mind = λ c h. has-zero c; long = refl }
 
 pub like-start : Like nobody startClient
 unfolding startClient
@@ -69,6 +54,7 @@ module _ (x : Claims) (a : Account) (like : LikeAccount x a) where
         wants = λ t h. has-insert (a .subscribed) s t ∙ ap (λ (b : Bool). b || eqb s t) (like .wants t h);
         due = like .due;
         waiting = like .waiting;
+        mind = like .mind;
         long = like .long;
       }
 
@@ -79,13 +65,14 @@ module _ (x : Claims) (a : Account) (like : LikeAccount x a) where
         wants = λ t h. has-remove (a .subscribed) s t ∙ ap (λ (b : Bool). b && not (eqb s t)) (like .wants t h);
         due = λ t h n. has-remove (a .owed) s t ∙ ap (λ (b : Bool). b && not (eqb s t)) (like .due t h n);
         waiting = dropped-queue a s ∙ ap (λ (l : List Entry). pick (eqb s controlSlot) [] l) (like .waiting);
+        mind = like .mind;
         long = like .long;
       }
 
   -- what falls due by the players p and q
   pub like-noted : (k : Tables) (p q : Player) (cause : Cause) (who : ℕ)
       → LikeAccount (noticing k p q cause who x) (noted (dueTo (sourceOf k) p q cause who) (alteredOf (sourceOf k) p q) a)
-  unfolding noted dueTo
+  unfolding noted dueTo alteredOf
   like-noted k p q cause who =
       record {
         wants = like .wants;
@@ -93,6 +80,9 @@ module _ (x : Claims) (a : Account) (like : LikeAccount x a) where
             noted-owed a (dueTo (sourceOf k) p q cause who) (alteredOf (sourceOf k) p q) t
             ∙ (λ i. like .due t h n i || (like .wants t h i && set-has (falls k p q cause who) slotCount t h i));
         waiting = like .waiting;
+        mind = λ c h.
+            noted-fresh a (dueTo (sourceOf k) p q cause who) (alteredOf (sourceOf k) p q) c
+            ∙ (λ i. like .mind c h i && not (set-has (changed (sourceOf k) p q) 32 c h i));
         long = like .long;
       }
     where
@@ -100,15 +90,28 @@ module _ (x : Claims) (a : Account) (like : LikeAccount x a) where
       falls k p q cause who s =
           fallsDue (changed (sourceOf k) p q (characteristicOf s)) (trackChanged p q) (characteristicOf s) && not (spared cause who (characteristicOf s))
 
-  pub like-read : (y : ℕ) → LikeAccount x (wasRead y a)
+  pub like-read : (y offset : ℕ) → LikeAccount (reading y offset x) (afterRead y offset a)
   unfolding wasRead
-  like-read y =
-      record {
-        wants = like .wants;
-        due = like .due;
-        waiting = like .waiting;
-        long = like .long;
-      }
+  like-read y offset = at (eqb offset 0)
+    where
+      at : (t : Bool)
+          → LikeAccount (record { wants = x .wants; due = x .due; waiting = x .waiting; mind = λ c. x .mind c || (t && eqb y c) }) (pick t (wasRead y a) a)
+      at true =
+          record {
+            wants = like .wants;
+            due = like .due;
+            waiting = like .waiting;
+            mind = λ c h. has-insert (a .fresh) y c ∙ ap (λ (b : Bool). b || eqb y c) (like .mind c h);
+            long = like .long;
+          }
+      at false =
+          record {
+            wants = like .wants;
+            due = like .due;
+            waiting = like .waiting;
+            mind = λ c h. like .mind c h ∙ sym (or-false (x .mind c));
+            long = like .long;
+          }
 
   -- a result for a client with room for it
   pub like-resulted : (opcode code : ℕ) → a .waiting < mostResults → LikeAccount (resulting (record { opcode = opcode; code = code }) x) (resulted opcode code a)
@@ -127,6 +130,7 @@ module _ (x : Claims) (a : Account) (like : LikeAccount x a) where
             wants = like .wants;
             due = like .due;
             waiting = like .waiting ∙ ap (λ (b : Bool). pick b (x .waiting ++ (e ∷ [])) (x .waiting)) (sym (sym wanted ∙ q));
+            mind = like .mind;
             long = like .long;
           })
       at true q =
@@ -139,6 +143,7 @@ module _ (x : Claims) (a : Account) (like : LikeAccount x a) where
                 resulted-queue a opcode code q room (like .long)
                 ∙ (λ i. like .waiting i ++ (e ∷ []))
                 ∙ ap (λ (b : Bool). pick b (x .waiting ++ (e ∷ [])) (x .waiting)) (sym (sym wanted ∙ q));
+            mind = λ c h. ap (λ (r : Account). has (r .fresh) c) is ∙ like .mind c h;
             long = ap (λ (r : Account). length (r .results)) is ∙ length-set (a .results) (a .waiting) e ∙ like .long;
           }
         where
@@ -159,6 +164,7 @@ module _ (x : Claims) (a : Account) (like : LikeAccount x a) where
             wants = like .wants;
             due = cleared;
             waiting = like .waiting ∙ ap (λ (b : Bool). pick b (behind (x .waiting)) (x .waiting)) (sym (ne-eqb s controlSlot n));
+            mind = like .mind;
             long = like .long;
           })
       at (yes e) = subst (λ (t : ℕ). LikeAccount (serving t x) (served t a)) (sym e) result
@@ -185,6 +191,7 @@ module _ (x : Claims) (a : Account) (like : LikeAccount x a) where
                 wants = λ t h. ap (λ (r : Account). has (r .subscribed) t) is ∙ like .wants t h;
                 due = λ t h n. ap (λ (r : Account). has (r .owed) t) is ∙ left t n (ltb 1 (a .waiting)) ∙ like .due t h n ∙ others t n;
                 waiting = served-queue a (some e) (like .long) few ∙ ap (drop 1) (like .waiting) ∙ dropped-one (x .waiting);
+                mind = λ c h. ap (λ (r : Account). has (r .fresh) c) is ∙ like .mind c h;
                 long = ap (λ (r : Account). length (r .results)) is ∙ shifted-long (a .results) (like .long);
               }
 

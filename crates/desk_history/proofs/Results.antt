@@ -3,7 +3,7 @@
 use mathlib.Core.Path.{_≡_, refl, sym, ap, _∙_, subst}
 use mathlib.Core.Bool.{Bool, true, false, not, _&&_, _||_, true≢false}
 use mathlib.Core.Option.{none, some}
-use mathlib.Core.List.{List, [], _∷_, _++_, map}
+use mathlib.Core.List.{List, [], _∷_, _++_, append-nil}
 use Prim.Native.Nat.{ℕ, _-_, _≤_, _<_}
 use native.Mathlib.Decide.{ℕ-discrete}
 use native.Mathlib.Omega.{arith}
@@ -31,21 +31,20 @@ use Rattle.desk_console.specs.Console.{nameRows, activateRows, quietAdvance}
 use Rattle.desk_exchange.specs.Write.{firstOctet, writeRows}
 use Rattle.desk_take.specs.Serving.{resultOctets}
 use Rattle.desk_history.specs.Calls.{Call, setName, activate, deactivate, advance, connect, disconnect, subscribe, unsubscribe, read, write, take}
-use Rattle.desk_history.specs.Ledger.{Side, Ledger, linked, nobody, changing, onAccount, becoming, joining, leaving, resulting, behind, passing, anyWaits as any, owes, nextIn, slotIn, servingNext, mayConnect, asks, mayJoin, mayWrite, mayTake, outcome, resultOf, controlWriting, writing, after}
+use Rattle.desk_history.specs.Ledger.{Side, Ledger, linked, nobody, changing, onAccount, becoming, joining, leaving, reading, resulting, behind, passing, anyWaits as any, owes, nextIn, slotIn, servingNext, mayConnect, asks, mayJoin, mayRead, mayWrite, mayTake, outcome, resultOf, controlWriting, writing, after}
 use Rattle.desk_history.specs.Rounds.{prepend}
-use Rattle.desk_history.specs.History.{oldest, octetsIn, answerIn, dueOut, resultBy, handoutsTo}
+use Rattle.desk_history.specs.History.{oldest, octetsIn, answerIn, dueOut, resultBy, handoutsTo, shown}
 use Rattle.desk_history.proofs.LedgerLaws.{InRange, slot-near}
 
--- results as they are handed out
-abbrev pub shown : List Entry → List (List ℕ)
-shown l = map resultOctets l
-
 -- W waited, R is the call's result, H was handed out, T waits
-pub data Turn (before later : Bool) (W R H T : List (List ℕ)) : Type 0 where
-  adds : H ≡ [] → T ≡ W ++ R → Turn before later W R H T
-  keeps : H ≡ [] → T ≡ W → (before ≡ true → R ≡ []) → Turn before later W R H T
-  drops : H ≡ [] → T ≡ [] → (later ≡ true → ⊥) → Turn before later W R H T
-  hands : R ≡ [] → W ≡ H ++ T → Turn before later W R H T
+pub data Turn (later : Bool) (W R H T : List (List ℕ)) : Type 0 where
+  adds : H ≡ [] → T ≡ W ++ R → Turn later W R H T
+  drops : H ≡ [] → R ≡ [] → T ≡ [] → (later ≡ true → ⊥) → Turn later W R H T
+  hands : R ≡ [] → W ≡ H ++ T → Turn later W R H T
+
+-- where a call has no result, what waited still waits
+keeps : {later : Bool} {W R T : List (List ℕ)} → R ≡ [] → T ≡ W → Turn later W R [] T
+keeps {later} {W} e f = adds refl (f ∙ sym (append-nil W) ∙ (λ i. W ++ sym e i))
 
 shown-append : (l r : List Entry) → shown (l ++ r) ≡ shown l ++ shown r
 shown-append [] r = refl
@@ -58,63 +57,71 @@ may-in L who x value e = not-false _ (none-of (writeRows who (L .side who .link 
 -- a side and what becomes of it, by a call that hands out nothing and has no result for it
 module _ (c : ℕ) where
   abbrev Now : Ledger → Ledger → List (List ℕ) → Type 0
-  Now L M R = Turn (L .side c .account .wants controlSlot) (M .side c .account .wants controlSlot) (shown (L .side c .account .waiting)) R [] (shown (M .side c .account .waiting))
+  Now L M R = Turn (M .side c .account .wants controlSlot) (shown (L .side c .account .waiting)) R [] (shown (M .side c .account .waiting))
 
   same : (L : Ledger) → Now L L []
-  same L = keeps refl refl (λ e. refl)
+  same L = keeps refl refl
 
   by-test : (t : Bool) (M L : Ledger) → Now L M [] → Now L (pick t M L) []
   by-test true M L f = f
   by-test false M L f = same L
 
   becoming-turn : (k : Tables) (cause : Cause) (q : Player) (L : Ledger) → Now L (becoming k cause q L) []
-  becoming-turn k cause q L = keeps refl refl (λ e. refl)
+  becoming-turn k cause q L = keeps refl refl
 
   abbrev OfSide : Side → Side → List (List ℕ) → Type 0
-  OfSide x y R = Turn (x .account .wants controlSlot) (y .account .wants controlSlot) (shown (x .account .waiting)) R [] (shown (y .account .waiting))
+  OfSide x y R = Turn (y .account .wants controlSlot) (shown (x .account .waiting)) R [] (shown (y .account .waiting))
 
   changing-turn : (who : ℕ) (f : Side → Side) (L : Ledger) → OfSide (L .side c) (f (L .side c)) [] → Now L (changing who f L) []
   changing-turn who f L g = go (eqb c who)
     where
       go : (t : Bool) → OfSide (L .side c) (pick t (f (L .side c)) (L .side c)) []
       go true = g
-      go false = keeps refl refl (λ e. refl)
+      go false = keeps refl refl
 
   gone : (x : Side) (on safe : Bool) (mtu : ℕ) → OfSide x (linked on safe mtu) []
-  gone x on safe mtu = drops refl refl (λ e. true≢false (sym e))
+  gone x on safe mtu = drops refl refl refl (λ e. true≢false (sym e))
 
   left-side : (x : Side) (s : ℕ) → OfSide x (onAccount (leaving s) x) []
   left-side x s = go (eqb s controlSlot) refl
     where
-      go : (t : Bool) → eqb s controlSlot ≡ t → Turn (x .account .wants controlSlot) (x .account .wants controlSlot && not (eqb s controlSlot)) (shown (x .account .waiting)) [] [] (shown (pick (eqb s controlSlot) [] (x .account .waiting)))
-      go true e = drops refl (ap (λ (b : Bool). shown (pick b [] (x .account .waiting))) e) (λ w. true≢false (sym (sym (λ i. x .account .wants controlSlot && not (e i)) ∙ w) ∙ never (x .account .wants controlSlot)))
+      go : (t : Bool) → eqb s controlSlot ≡ t → Turn (x .account .wants controlSlot && not (eqb s controlSlot)) (shown (x .account .waiting)) [] [] (shown (pick (eqb s controlSlot) [] (x .account .waiting)))
+      go true e = drops refl refl (ap (λ (b : Bool). shown (pick b [] (x .account .waiting))) e) (λ w. true≢false (sym (sym (λ i. x .account .wants controlSlot && not (e i)) ∙ w) ∙ never (x .account .wants controlSlot)))
         where
           never : (b : Bool) → (b && false) ≡ false
           never true = refl
           never false = refl
-      go false e = keeps refl (ap (λ (b : Bool). shown (pick b [] (x .account .waiting))) e) (λ w. refl)
+      go false e = keeps refl (ap (λ (b : Bool). shown (pick b [] (x .account .waiting))) e)
 
 module _ (k : Tables) (c : ℕ) where
   -- a control write: its result behind the others, for a writer that is subscribed
-  control-turn : (who : ℕ) (value : List ℕ) (L : Ledger) → Now c L (controlWriting k L who value) (pick (eqb c who) (resultOctets (resultOf k L value) ∷ []) [])
+  control-turn : (who : ℕ) (value : List ℕ) (L : Ledger)
+      → Now c L (controlWriting k L who value) (pick (eqb c who && L .side c .account .wants controlSlot) (resultOctets (resultOf k L value) ∷ []) [])
   control-turn who value L = go (eqb c who) (L .side c .account .wants controlSlot) refl
     where
       go : (t w : Bool) → L .side c .account .wants controlSlot ≡ w
-          → Turn (L .side c .account .wants controlSlot) (pick t (onAccount (resulting (resultOf k L value)) (becoming k (byWriter who 18) (outcome k L value .player) L .side c)) (becoming k (byWriter who 18) (outcome k L value .player) L .side c) .account .wants controlSlot)
-          (shown (L .side c .account .waiting)) (pick t (resultOctets (resultOf k L value) ∷ []) []) []
+          → Turn (pick t (onAccount (resulting (resultOf k L value)) (becoming k (byWriter who 18) (outcome k L value .player) L .side c)) (becoming k (byWriter who 18) (outcome k L value .player) L .side c) .account .wants controlSlot)
+          (shown (L .side c .account .waiting)) (pick (t && L .side c .account .wants controlSlot) (resultOctets (resultOf k L value) ∷ []) []) []
           (shown (pick t (onAccount (resulting (resultOf k L value)) (becoming k (byWriter who 18) (outcome k L value .player) L .side c)) (becoming k (byWriter who 18) (outcome k L value .player) L .side c) .account .waiting))
-      go true true e = adds refl (ap (λ (b : Bool). shown (pick b (L .side c .account .waiting ++ (resultOf k L value ∷ [])) (L .side c .account .waiting))) e ∙ shown-append (L .side c .account .waiting) (resultOf k L value ∷ []))
-      go true false e = keeps refl (ap (λ (b : Bool). shown (pick b (L .side c .account .waiting ++ (resultOf k L value ∷ [])) (L .side c .account .waiting))) e) (λ w. absurd (true≢false (sym w ∙ e)))
-      go false w e = keeps refl refl (λ v. refl)
+      go true true e =
+          adds refl
+          (ap (λ (b : Bool). shown (pick b (L .side c .account .waiting ++ (resultOf k L value ∷ [])) (L .side c .account .waiting))) e
+          ∙ shown-append (L .side c .account .waiting) (resultOf k L value ∷ [])
+          ∙ (λ i. shown (L .side c .account .waiting) ++ pick (sym e i) (resultOctets (resultOf k L value) ∷ []) []))
+      go true false e =
+          keeps (λ i. pick (e i) (resultOctets (resultOf k L value) ∷ []) [])
+          (ap (λ (b : Bool). shown (pick b (L .side c .account .waiting ++ (resultOf k L value ∷ [])) (L .side c .account .waiting))) e)
+      go false w e = keeps refl refl
 
   -- the result of a write that is accepted
   abbrev own : Ledger → ℕ → ℕ → List ℕ → List (List ℕ)
-  own L who x value = pick (eqb c who) (pick (eqb x 18) (resultOctets (resultOf k L value) ∷ []) []) []
+  own L who x value = pick (eqb c who && (eqb x 18 && L .side c .account .wants controlSlot)) (resultOctets (resultOf k L value) ∷ []) []
 
   not-18 : (L : Ledger) (who x : ℕ) (value : List ℕ) → eqb x 18 ≡ false → own L who x value ≡ []
-  not-18 L who x value e = (λ i. pick (eqb c who) (pick (e i) (resultOctets (resultOf k L value) ∷ []) []) []) ∙ nothing (eqb c who)
+  not-18 L who x value e =
+      (λ i. pick (eqb c who && (e i && L .side c .account .wants controlSlot)) (resultOctets (resultOf k L value) ∷ []) []) ∙ nothing (eqb c who)
     where
-      nothing : (t : Bool) → _≡_ {A = List (List ℕ)} (pick t [] []) []
+      nothing : (t : Bool) → pick (t && false) (resultOctets (resultOf k L value) ∷ []) [] ≡ []
       nothing true = refl
       nothing false = refl
 
@@ -124,7 +131,7 @@ module _ (k : Tables) (c : ℕ) where
   written-turn who x value L may = go (eqb x 7) refl (eqb x 8) refl (eqb x 15) refl
     where
       plain : (n : ℕ) → eqb x n ≡ true → (n ≡ 18 → ⊥) → (cause : Cause) (q : Player) → Now c L (becoming k cause q L) (own L who x value)
-      plain n e h cause q = keeps refl refl (λ w. not-18 L who x value (ne-eqb x 18 (λ f. h (sym (eqb-true x n e) ∙ f))))
+      plain n e h cause q = keeps (not-18 L who x value (ne-eqb x 18 (λ f. h (sym (eqb-true x n e) ∙ f)))) refl
 
       flip : (n : ℕ) → eqb x n ≡ false → eqb n x ≡ false
       flip n h = ne-eqb n x (λ e. eqb-false x n h (sym e))
@@ -149,7 +156,7 @@ module _ (k : Tables) (c : ℕ) where
       go false a false b false f =
           let e : eqb x 18 ≡ true = eq-eqb x 18 (sym (eqb-true 18 x (only (eqb 7 x) (eqb 8 x) (eqb 15 x) (eqb 18 x) (flip 7 a) (flip 8 b) (flip 15 f) may))) in
           subst (λ (M : Ledger). Now c L M (own L who x value)) (past _ a (past _ b (past _ f refl)))
-          (subst (Now c L (controlWriting k L who value)) (λ i. pick (eqb c who) (pick (sym e i) (resultOctets (resultOf k L value) ∷ []) []) []) (control-turn who value L))
+          (subst (Now c L (controlWriting k L who value)) (λ i. pick (eqb c who && (sym e i && L .side c .account .wants controlSlot)) (resultOctets (resultOf k L value) ∷ []) []) (control-turn who value L))
 
   -- a client that is served: the oldest result, where it is 18's turn
   served-turn : (L : Ledger) (m : 23 ≤ L .side c .link .mtu) (s : ℕ) → (s ≡ controlSlot → any (L .side c .account .waiting) ≡ true)
@@ -172,7 +179,7 @@ module _ (k : Tables) (c : ℕ) where
 
   -- every call
   pub turn : (call : Call) (L : Ledger) → InRange L → 23 ≤ L .side c .link .mtu
-      → Turn (L .side c .account .wants controlSlot) (after k call L .side c .account .wants controlSlot) (shown (L .side c .account .waiting)) (resultBy k c call L) (handoutsTo c controlSlot (prepend (dueOut k call L) []))
+      → Turn (after k call L .side c .account .wants controlSlot) (shown (L .side c .account .waiting)) (resultBy k c call L) (handoutsTo c controlSlot (prepend (dueOut k call L) []))
       (shown (after k call L .side c .account .waiting))
   turn (setName name) L g m = by-test c (accepted (nameRows name)) (becoming k (noWriter false) (renamed name (L .player)) L) L (becoming-turn c k (noWriter false) (renamed name (L .player)) L)
   turn (activate n) L g m =
@@ -184,9 +191,10 @@ module _ (k : Tables) (c : ℕ) where
       by-test c (mayConnect L who mtu) (changing who (λ x. linked true encrypted mtu) L) L
       (changing-turn c who (λ x. linked true encrypted mtu) L (gone c (L .side c) true encrypted mtu))
   turn (disconnect who) L g m = by-test c (asks L who) (changing who (λ x. nobody) L) L (changing-turn c who (λ x. nobody) L (gone c (L .side c) false false 23))
-  turn (subscribe who x) L g m = by-test c (mayJoin L who x) (changing who (onAccount (joining (slotOf x))) L) L (changing-turn c who (onAccount (joining (slotOf x))) L (keeps refl refl (λ e. refl)))
+  turn (subscribe who x) L g m = by-test c (mayJoin L who x) (changing who (onAccount (joining (slotOf x))) L) L (changing-turn c who (onAccount (joining (slotOf x))) L (keeps refl refl))
   turn (unsubscribe who x) L g m = by-test c (mayJoin L who x) (changing who (onAccount (leaving (slotOf x))) L) L (changing-turn c who (onAccount (leaving (slotOf x))) L (left-side c (L .side c) (slotOf x)))
-  turn (read who x offset room) L g m = same c L
+  turn (read who x offset room) L g m =
+      by-test c (mayRead k L who x offset room) (changing who (onAccount (reading x offset)) L) L (changing-turn c who (onAccount (reading x offset)) L (keeps refl refl))
   turn (write who x value) L g m = go (mayWrite L who x value) refl
     where
       go : (t : Bool) → mayWrite L who x value ≡ t → Now c L (pick t (writing k L who x value) L) (pick t (own L who x value) [])
@@ -195,7 +203,7 @@ module _ (k : Tables) (c : ℕ) where
   turn (take room) L g m = go (mayTake room) (leb clientCount (nextIn L)) refl
     where
       go : (t u : Bool) → leb clientCount (nextIn L) ≡ u
-          → Turn (L .side c .account .wants controlSlot) (pick t (pick u L (servingNext L (nextIn L))) L .side c .account .wants controlSlot) (shown (L .side c .account .waiting)) []
+          → Turn (pick t (pick u L (servingNext L (nextIn L))) L .side c .account .wants controlSlot) (shown (L .side c .account .waiting)) []
           (handoutsTo c controlSlot (prepend (pick t (pick u none (some (answerIn k L (nextIn L)))) none) [])) (shown (pick t (pick u L (servingNext L (nextIn L))) L .side c .account .waiting))
       go true true e = same c L
       go true false e = hands refl (who (ℕ-discrete c (nextIn L)))

@@ -38,9 +38,10 @@ use Rattle.desk_replies.specs.Replies.{stateRight, fronted, ofClient, ofCharact
 use Rattle.desk_links.specs.Links.{connectRows, connectCall, disconnectCall, slotRows, slotCall, subscribeCall, unsubscribeCall}
 use Rattle.desk_console.specs.Console.{nameRows, nameCall, activateRows, activateCall, deactivateCall, quietAdvance, advanceCall}
 use Rattle.desk_history.specs.Ledger.{Claims, Side, Ledger, linked, nobody, changing, onAccount, becoming, joining, leaving, mayConnect, asks, mayJoin}
-use Rattle.desk_history.proofs.Likeness.{Like, LikeAccount, like-start, like-connected, like-joined, like-dropped}
+use Rattle.desk_history.specs.Stored.{Like, LikeAccount, Agrees}
+use Rattle.desk_history.proofs.Likeness.{like-start, like-connected, like-joined, like-dropped}
 use Rattle.player_values.specs.Values.{sourceOf}
-use Rattle.desk_history.proofs.Agreement.{Agrees, agree-changing, agree-becoming, settled-stands, client-kept}
+use Rattle.desk_history.proofs.Agreement.{agree-changing, agree-becoming, settled-stands, client-kept}
 
 -- ---- alike and standing
 module _ (k : Tables) where

@@ -43,7 +43,8 @@ use Rattle.desk_take.specs.Take.{owedSets, nextClient, withServed, takenBy, tak
 use Rattle.desk_take.proofs.Laws.{set-of}
 use Rattle.desk_history.specs.Ledger.{Side, Ledger, passing, anyWaits as any, owes, owedAny, nextIn, slotIn, servingNext, taking, mayTake}
 use Rattle.desk_history.specs.History.{oldest, octetsIn, answerIn, spoken}
-use Rattle.desk_history.proofs.Likeness.{Like, like-passed}
+use Rattle.desk_history.specs.Stored.{Like}
+use Rattle.desk_history.proofs.Likeness.{like-passed}
 use Rattle.desk_history.proofs.Steps.{Ok, ok-call, guard, like, rule}
 use Rattle.desk_history.proofs.Exchanges.{as-many}
 use Rattle.desk_history.proofs.Serving.{owed-any, any-owed}

@@ -2,18 +2,18 @@
 -- it, and what its takes hand out.
 -- Assumes nothing.
 use mathlib.Core.Path.{_≡_}
-use mathlib.Core.Bool.{true}
+use mathlib.Core.Bool.{true, _&&_}
 use mathlib.Core.Option.{Option, none, some}
-use mathlib.Core.List.{List, [], _∷_, _++_}
-use Prim.Native.Nat.{ℕ, _-_}
+use mathlib.Core.List.{List, [], _∷_, _++_, map}
+use Prim.Native.Nat.{ℕ, suc, _-_, _*_, _≤_, _<_}
 use lib.Dec.{eqb, leb}
-use lib.ListN.{take as firsts}
+use lib.ListN.{length, take as firsts}
 use Rattle.ground.specs.Cases.{pick}
 use Rattle.catalogue_tables.specs.Tables.{Tables}
 use Rattle.player_state.specs.declared.Player.{Player}
 use Rattle.player_state.specs.Player.{startedPlayer}
 use Rattle.player_values.specs.Values.{sourceOf, valueOf}
-use Rattle.desk_slots.specs.Slots.{clientCount, slotOf, characteristicOf}
+use Rattle.desk_slots.specs.Slots.{placeCount, clientCount, slotOf, characteristicOf}
 use Rattle.desk_client.specs.declared.Entry.{Entry}
 use Rattle.desk_client.specs.Client.{controlSlot, isControl}
 use Rattle.desk_state.specs.declared.Desk.{Desk}
@@ -71,7 +71,7 @@ handedOut k (read who c offset room) d = none
 handedOut k (write who c value) d = none
 handedOut k (take room) d = spoken (takeCall k d room .said .values) (takeOctets k d)
 
--- the result of an accepted control write by client c
+-- the result of an accepted control write by client c, subscribed to 18 at the time: "requested opcode and result"
 abbrev pub resultBy : Tables → ℕ → Call → Ledger → List (List ℕ)
 resultBy k c (setName name) L = []
 resultBy k c (activate g) L = []
@@ -83,7 +83,8 @@ resultBy k c (subscribe who x) L = []
 resultBy k c (unsubscribe who x) L = []
 resultBy k c (read who x offset room) L = []
 resultBy k c (write who x value) L =
-    pick (mayWrite L who x value) (pick (eqb c who) (pick (eqb x 18) (resultOctets (resultOf k L value) ∷ []) []) []) []
+    pick (mayWrite L who x value)
+    (pick (eqb c who && (eqb x 18 && L .side c .account .wants controlSlot)) (resultOctets (resultOf k L value) ∷ []) []) []
 resultBy k c (take room) L = []
 
 module _ (k : Tables) (name : List ℕ) (mask ccid : ℕ) where
@@ -110,28 +111,48 @@ module _ (k : Tables) (name : List ℕ) (mask ccid : ℕ) where
   Stays who s h [] = ledgerAt h .side who .account .wants s ≡ true
   Stays who s h (c ∷ ks) = (ledgerAt h .side who .account .wants s ≡ true) × Stays who s (c ∷ h) ks
 
-  -- the results of all accepted control writes of client who, and all results that it was handed, oldest first
-  abbrev pub allWritten : ℕ → List Call → List (List ℕ)
-  allWritten who [] = []
-  allWritten who (c ∷ h) = allWritten who h ++ resultBy k who c (ledgerAt h)
+  -- a call's place in a history is the number of calls before it: the result that the call at place p has for client who
+  abbrev pub resultAt : ℕ → List Call → ℕ → List (List ℕ)
+  resultAt who [] p = []
+  resultAt who (c ∷ h) p = pick (eqb p (length h)) (resultBy k who c (ledgerAt h)) (resultAt who h p)
 
-  -- the results of the accepted control writes of client who among the calls ks
+  -- the results that the calls ks have for client who
   abbrev pub writtenIn : ℕ → List Call → List Call → List (List ℕ)
   writtenIn who h [] = []
   writtenIn who h (c ∷ ks) = resultBy k who c (ledgerAt h) ++ writtenIn who (c ∷ h) ks
+
+-- as many answered takes as there are places in the rounds of all clients
+abbrev pub bound : ℕ
+bound = clientCount * placeCount
 
 -- what these answers hand to client who at slot s
 abbrev pub handoutsTo : ℕ → ℕ → List Handout → List (List ℕ)
 handoutsTo who s [] = []
 handoutsTo who s (a ∷ l) = pick (isFor who s a) (a .octets ∷ handoutsTo who s l) (handoutsTo who s l)
 
-module _ (k : Tables) (name : List ℕ) (mask ccid : ℕ) where
-  abbrev pub allHanded : ℕ → List Call → List (List ℕ)
-  allHanded who [] = []
-  allHanded who (c ∷ h) = allHanded who h ++ handoutsTo who controlSlot (prepend (handedOut k c (deskAt k name mask ccid h)) [])
+-- results as they are handed out
+abbrev pub shown : List Entry → List (List ℕ)
+shown l = map resultOctets l
 
--- l is m with some of it left out: the same things, each at most once, in the same order
-pub data Among : List (List ℕ) → List (List ℕ) → Type 0 where
-  stop : Among [] []
-  skip : {y : List ℕ} {l m : List (List ℕ)} → Among l m → Among l (y ∷ m)
-  keep : {x y : List ℕ} {l m : List (List ℕ)} → x ≡ y → Among l m → Among (x ∷ l) (y ∷ m)
+-- what was handed out, and the place of the take that did it
+pub record Handed : Type 0 where
+  pub place : ℕ
+  pub octets : List ℕ
+
+abbrev pub handedBy : ℕ → List (List ℕ) → List Handed
+handedBy place l = map (λ o. record { place = place; octets = o }) l
+
+module _ (k : Tables) (name : List ℕ) (mask ccid who : ℕ) where
+  -- what client who was handed at 18, first first
+  abbrev pub allHanded : List Call → List Handed
+  allHanded [] = []
+  allHanded (c ∷ h) = allHanded h ++ handedBy (length h) (handoutsTo who controlSlot (prepend (handedOut k c (deskAt k name mask ccid h)) []))
+
+  -- ps are the places of the writes whose results these are: from n on and strictly rising, so that none is there twice; each before the take that handed
+  -- its result out, and the octets are that write's opcode and result
+  abbrev pub OwnWrites : List Call → ℕ → List ℕ → List Handed → Type 0
+  OwnWrites h n [] [] = Unit {0}
+  OwnWrites h n [] (a ∷ l) = ⊥
+  OwnWrites h n (p ∷ ps) [] = ⊥
+  OwnWrites h n (p ∷ ps) (a ∷ l) =
+      (n ≤ p) × (p < a .place) × (resultAt k name mask ccid who h p ≡ a .octets ∷ []) × OwnWrites h (suc p) ps l

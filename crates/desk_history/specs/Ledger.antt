@@ -8,7 +8,7 @@ use lib.Dec.{eqb, leb, ltb}
 use lib.ListN.{length}
 use Rattle.ground.specs.Cases.{pick}
 use Rattle.ground.specs.Limits.{leastOutput}
-use Rattle.ground.specs.Refusals.{row, accepted}
+use Rattle.ground.specs.Refusals.{Row, row, accepted}
 use Rattle.ground.specs.Words.{wordAt}
 use Rattle.catalogue_tables.specs.Tables.{Tables}
 use Rattle.player_state.specs.declared.Player.{Player}
@@ -26,8 +26,9 @@ use Rattle.desk_notices.specs.Owed.{fallsDue, spared, noWriter, byWriter}
 use Rattle.desk_replies.specs.Replies.{ofClient}
 use Rattle.desk_links.specs.Links.{connectRows, slotRows}
 use Rattle.desk_console.specs.Console.{nameRows, activateRows, quietAdvance}
+use Rattle.desk_exchange.specs.Read.{readRows}
 use Rattle.desk_exchange.specs.Write.{firstOctet, writeRows, numberOf}
-use Rattle.player_values.specs.Values.{sourceOf}
+use Rattle.player_values.specs.Values.{sourceOf, valueOf}
 use Rattle.desk_history.specs.Calls.{Call, setName, activate, deactivate, advance, connect, disconnect, subscribe, unsubscribe, read, write, take}
 
 -- of a client's link: whether it is connected, encrypted, its ATT_MTU, and the place of its round that was served last
@@ -37,11 +38,13 @@ pub record Line : Type 0 where
   pub mtu : ℕ
   pub last : ℕ
 
--- of its account: the slots that it is subscribed to, the values that are owed, and the results that wait, oldest first
+-- of its account: the slots that it is subscribed to, the values that are owed, the results that wait, oldest first, and the characteristics whose values
+-- it has in mind
 pub record Claims : Type 0 where
   pub wants : ℕ → Bool
   pub due : ℕ → Bool
   pub waiting : List Entry
+  pub mind : ℕ → Bool
 
 pub record Side : Type 0 where
   pub link : Line
@@ -58,7 +61,7 @@ abbrev pub linked : Bool → Bool → ℕ → Side
 linked on safe mtu =
     record {
       link = record { on = on; safe = safe; mtu = mtu; last = placeCount - 1 };
-      account = record { wants = λ s. false; due = λ s. false; waiting = [] };
+      account = record { wants = λ s. false; due = λ s. false; waiting = []; mind = λ c. false };
     }
 
 abbrev pub nobody : Side
@@ -77,7 +80,7 @@ changing who f L =
 abbrev pub onAccount : (Claims → Claims) → Side → Side
 onAccount f x = record { link = x .link; account = f (x .account) }
 
--- "A slot is owed to a subscribed client when a call changes its value": whatever was owed stays owed
+-- "A slot is owed to a subscribed client when a call changes its value": whatever was owed stays owed; what changed is no longer in mind
 abbrev pub noticing : Tables → Player → Player → Cause → ℕ → Claims → Claims
 noticing k p q cause who a =
     record {
@@ -88,6 +91,7 @@ noticing k p q cause who a =
           && (fallsDue (changed (sourceOf k) p q (characteristicOf s)) (trackChanged p q) (characteristicOf s)
           && not (spared cause who (characteristicOf s))));
       waiting = a .waiting;
+      mind = λ c. a .mind c && not (changed (sourceOf k) p q c);
     }
 
 abbrev pub becoming : Tables → Cause → Player → Ledger → Ledger
@@ -96,7 +100,7 @@ becoming k cause q L =
 
 -- subscribing and unsubscribing: "Unsubscribing drops what the slot owes"
 abbrev pub joining : ℕ → Claims → Claims
-joining s a = record { wants = λ t. a .wants t || eqb s t; due = a .due; waiting = a .waiting }
+joining s a = record { wants = λ t. a .wants t || eqb s t; due = a .due; waiting = a .waiting; mind = a .mind }
 
 abbrev pub leaving : ℕ → Claims → Claims
 leaving s a =
@@ -104,6 +108,17 @@ leaving s a =
       wants = λ t. a .wants t && not (eqb s t);
       due = λ t. a .due t && not (eqb s t);
       waiting = pick (isControl s) [] (a .waiting);
+      mind = a .mind;
+    }
+
+-- an accepted read at 0 brings the value to mind
+abbrev pub reading : ℕ → ℕ → Claims → Claims
+reading c offset a =
+    record {
+      wants = a .wants;
+      due = a .due;
+      waiting = a .waiting;
+      mind = λ x. a .mind x || (eqb offset 0 && eqb c x);
     }
 
 -- "one for each accepted control write by a client subscribed to 18 at the time"
@@ -113,6 +128,7 @@ resulting e a =
       wants = a .wants;
       due = a .due;
       waiting = pick (a .wants controlSlot) (a .waiting ++ (e ∷ [])) (a .waiting);
+      mind = a .mind;
     }
 
 -- the oldest goes
@@ -127,6 +143,7 @@ serving s a =
       wants = a .wants;
       due = λ u. a .due u && not (eqb s u);
       waiting = pick (isControl s) (behind (a .waiting)) (a .waiting);
+      mind = a .mind;
     }
 
 abbrev pub passing : ℕ → Side → Side
@@ -183,6 +200,15 @@ mayJoin L who c = accepted (slotRows who (L .side who .link .on) (L .side who .l
 abbrev pub mayWrite : Ledger → ℕ → ℕ → List ℕ → Bool
 mayWrite L who c value = accepted (writeRows who (L .side who .link .on) (L .side who .link .safe) (length (L .side who .account .waiting)) c value)
 
+-- 0x80: "read at offset above 0, and some call changed the value .. since the client's last accepted read of it at 0, or no such read since connecting"
+abbrev pub rowsOfRead : Tables → Ledger → ℕ → ℕ → ℕ → ℕ → List Row
+rowsOfRead k L who c offset room =
+    row 205 (ltb room leastOutput)
+    ∷ readRows who (L .side who .link .on) (L .side who .link .safe) (L .side who .account .mind c) c offset (length (valueOf (sourceOf k) (L .player) c))
+
+abbrev pub mayRead : Tables → Ledger → ℕ → ℕ → ℕ → ℕ → Bool
+mayRead k L who c offset room = accepted (rowsOfRead k L who c offset room)
+
 abbrev pub mayTake : ℕ → Bool
 mayTake room = accepted (row 205 (ltb room leastOutput) ∷ [])
 
@@ -217,6 +243,6 @@ after k (connect who mtu encrypted) L =
 after k (disconnect who) L = pick (asks L who) (changing who (λ x. nobody) L) L
 after k (subscribe who c) L = pick (mayJoin L who c) (changing who (onAccount (joining (slotOf c))) L) L
 after k (unsubscribe who c) L = pick (mayJoin L who c) (changing who (onAccount (leaving (slotOf c))) L) L
-after k (read who c offset room) L = L
+after k (read who c offset room) L = pick (mayRead k L who c offset room) (changing who (onAccount (reading c offset)) L) L
 after k (write who c value) L = pick (mayWrite L who c value) (writing k L who c value) L
 after k (take room) L = pick (mayTake room) (taking L (nextIn L)) L

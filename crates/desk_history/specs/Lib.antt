@@ -3,3 +3,5 @@ pub mod Calls
 pub mod Ledger
 pub mod Rounds
 pub mod History
+pub mod Stored
+pub mod Forty

@@ -25,7 +25,7 @@ use Rattle.desk_client.specs.Client.{controlSlot, blankEntry}
 use Rattle.desk_state.specs.declared.Desk.{Desk}
 use Rattle.desk_replies.specs.Replies.{fronted, caller}
 use Rattle.desk_replies.proofs.Gates.{right, player}
-use Rattle.desk_exchange.specs.Read.{valueNow, readRows, readOctets, readCall}
+use Rattle.desk_exchange.specs.Read.{valueNow, readerRows, readOctets, readCall}
 use Rattle.desk_take.specs.Serving.{nextSlot, resultOctets, handedOctets, handedValues, afterServing}
 use Rattle.desk_take.specs.Take.{nextClient, withServed, takeCall}
 use Rattle.mcs.specs.Calls.{lowWord, toldOf, toldAfter, saidWords, wordsAfter}
@@ -108,7 +108,7 @@ module _ (k : Tables) (d : Desk) where
   pub read-words : (who characteristic offset room : ℕ) → AllWords (readCall k d who characteristic offset room .said .values)
   unfolding readCall readOctets bare
   read-words who characteristic offset room =
-      let rows = readRows who (caller d who) characteristic offset (length (valueNow k d characteristic)) in
+      let rows = readerRows d who characteristic offset (length (valueNow k d characteristic)) in
       let small = ltb room leastOutput in
       behind-rows (λ (l : Left Desk). l .said) (keeping d) (λ said. refl) (fronted k small d ++ rows) (refl, (refl, (refl, (refl, (refl, (refl, (refl, (refl, (refl, (refl, tt)))))))))) _ (λ n.
       let short : length (valueNow k d characteristic) ≤ 128 = value-fits k (right k small d rows n) (d .player) (player k small d rows n) characteristic in

@@ -29,7 +29,7 @@ use Rattle.desk_state.specs.Desk.{withAccountOf}
 use Rattle.desk_state.proofs.Laws.{client-stands}
 use Rattle.desk_replies.specs.Replies.{fronted, caller}
 use Rattle.desk_replies.proofs.Gates.{refuses, none, right, stands, player, as-it-was, shown}
-use Rattle.desk_exchange.specs.Read.{valueNow, readRows, afterRead, readOctets, readCall}
+use Rattle.desk_exchange.specs.Read.{valueNow, readerRows, afterRead, readOctets, readCall}
 use borrow.Author.Needs.{needs}
 use Rattle.desk_exchange.proofs.read.Statement.{statement}
 use Rattle.desk_exchange.proofs.read.Tie as tie
@@ -45,7 +45,7 @@ room s = length (s .args .out .now)
 
 abbrev mine : tie.Start → List Row
 mine s =
-    readRows (s .args .who) (caller (s .args .d) (s .args .who)) (s .args .characteristic) (s .args .offset) (length (valueNow (lent s) (s .args .d) (s .args .characteristic)))
+    readerRows (s .args .d) (s .args .who) (s .args .characteristic) (s .args .offset) (length (valueNow (lent s) (s .args .d) (s .args .characteristic)))
 
 abbrev rows : tie.Start → List Row
 rows s = fronted (lent s) (ltb (room s) leastOutput) (s .args .d) ++ mine s
