@@ -1,0 +1,84 @@
+-- The contracts of the library's functions, as the check reads them, are what the calls of a history are said to do. Assumes nothing.
+use mathlib.Core.Path.{_≡_, refl, subst}
+use mathlib.Core.Option.{none}
+use mathlib.Core.List.{List, [], _∷_}
+use Prim.Native.Nat.{ℕ}
+use contract.Lifetimes.{Lfts}
+use denote.Ref.{RefT, at-last}
+use lib.ListN.{length}
+use Rattle.catalogue_tables.specs.Tables.{Tables, tables}
+use Rattle.desk_history.specs.Calls.{Call, setName, activate, deactivate, advance, connect, disconnect, subscribe, unsubscribe, read, write, take}
+use Rattle.mcs_state.specs.Codec.{flag}
+use Rattle.mcs.proofs.mcs_start.Reads as start-call
+use Rattle.mcs.proofs.mcs_set_name.Reads as set-name-call
+use Rattle.mcs.proofs.mcs_activate.Reads as activate-call
+use Rattle.mcs.proofs.mcs_deactivate.Reads as deactivate-call
+use Rattle.mcs.proofs.mcs_advance.Reads as advance-call
+use Rattle.mcs.proofs.mcs_connect.Reads as connect-call
+use Rattle.mcs.proofs.mcs_disconnect.Reads as disconnect-call
+use Rattle.mcs.proofs.mcs_subscribe.Reads as subscribe-call
+use Rattle.mcs.proofs.mcs_unsubscribe.Reads as unsubscribe-call
+use Rattle.mcs.proofs.mcs_read.Reads as read-call
+use Rattle.mcs.proofs.mcs_write.Reads as write-call
+use Rattle.mcs.proofs.mcs_take.Reads as take-call
+use Rattle.mcs_history.specs.Library.{Taken, heard, Made, other, taken, Run, started}
+
+module _ (groups tracks segments text state : RefT (List ℕ)) (n : ℕ) (new : List ℕ) where
+  -- what every call is lent first
+  abbrev lent : {A : Type 0} → A → RefT (List ℕ) × (RefT (List ℕ) × (RefT (List ℕ) × (RefT (List ℕ) × A)))
+  lent rest = (groups, (tracks, (segments, (text, rest))))
+
+  abbrev k : Tables
+  k = tables (groups .now) (tracks .now) (segments .now) (text .now)
+
+  abbrev MadeBy : Call → Type 0
+  MadeBy call = Made k call (state .now) new none
+
+  module _ (κs : Lfts 5) where
+    pub activate-made : (group : ℕ) → activate-call.Post κs (lent (state, (group, tt))) n (lent (at-last state new, (group, tt))) → MadeBy (activate group)
+    activate-made group p = other (activate group) refl p
+
+    pub deactivate-made : deactivate-call.Post κs (lent (state, tt)) n (lent (at-last state new, tt)) → MadeBy deactivate
+    deactivate-made p = other deactivate refl p
+
+    pub advance-made : (step : ℕ) → advance-call.Post κs (lent (state, (step, tt))) n (lent (at-last state new, (step, tt))) → MadeBy (advance step)
+    advance-made step p = other (advance step) refl p
+
+    pub connect-made : (client mtu encrypted : ℕ) → connect-call.Post κs (lent (state, (client, (mtu, (encrypted, tt))))) n (lent (at-last state new, (client, (mtu, (encrypted, tt)))))
+        → MadeBy (connect client mtu (flag encrypted))
+    connect-made client mtu encrypted p = other (connect client mtu (flag encrypted)) refl p
+
+    pub disconnect-made : (client : ℕ) → disconnect-call.Post κs (lent (state, (client, tt))) n (lent (at-last state new, (client, tt))) → MadeBy (disconnect client)
+    disconnect-made client p = other (disconnect client) refl p
+
+    pub subscribe-made : (client x : ℕ) → subscribe-call.Post κs (lent (state, (client, (x, tt)))) n (lent (at-last state new, (client, (x, tt)))) → MadeBy (subscribe client x)
+    subscribe-made client x p = other (subscribe client x) refl p
+
+    pub unsubscribe-made : (client x : ℕ) → unsubscribe-call.Post κs (lent (state, (client, (x, tt)))) n (lent (at-last state new, (client, (x, tt)))) → MadeBy (unsubscribe client x)
+    unsubscribe-made client x p = other (unsubscribe client x) refl p
+
+  module _ (κs : Lfts 6) where
+    -- a start that answers 0 begins a history
+    pub start-begins : (name : RefT (List ℕ)) (mask ccid : ℕ) → start-call.Post κs (lent (name, (mask, (ccid, (state, tt))))) 0 (lent (name, (mask, (ccid, (at-last state new, tt)))))
+        → Run k (name .now) mask ccid [] new
+    start-begins name mask ccid p = started p
+
+    pub set-name-made : (name : RefT (List ℕ)) → set-name-call.Post κs (lent (state, (name, tt))) n (lent (at-last state new, (name, tt))) → MadeBy (setName (name .now))
+    set-name-made name p = other (setName (name .now)) refl p
+
+    pub write-made : (client x : ℕ) (value : RefT (List ℕ)) → write-call.Post κs (lent (state, (client, (x, (value, tt))))) n (lent (at-last state new, (client, (x, (value, tt)))))
+        → MadeBy (write client x (value .now))
+    write-made client x value p = other (write client x (value .now)) refl p
+
+  module _ (κs : Lfts 7) (out told : RefT (List ℕ)) (out′ told′ : List ℕ) where
+    pub read-made : (client x offset : ℕ)
+        → read-call.Post κs (lent (state, (client, (x, (offset, (out, (told, tt))))))) n (lent (at-last state new, (client, (x, (offset, (at-last out out′, (at-last told told′, tt)))))))
+        → MadeBy (read client x offset (length (out .now)))
+    read-made client x offset p = other (read client x offset (length (out .now))) refl (p .0)
+
+    -- the three words that a take is lent
+    pub take-made : (a b c : ℕ) → told .now ≡ a ∷ b ∷ c ∷ []
+        → take-call.Post κs (lent (state, (out, (told, tt)))) n (lent (at-last state new, (at-last out out′, (at-last told told′, tt))))
+        → Made k (take (length (out .now))) (state .now) new (heard n told′ out′)
+    take-made a b c words p =
+        taken (subst (λ (w : List ℕ). Taken k (state .now) (out .now) w n new out′ told′) words (record { leaves = p .0; output = p .1 .0; words = p .1 .1 }))

@@ -1,0 +1,103 @@
+-- What C hears of a take is what the desk hands out. Assumes nothing.
+use mathlib.Core.Path.{_≡_, refl, sym, ap, _∙_, subst}
+use mathlib.Core.Bool.{Bool, true, false, not}
+use mathlib.Core.Logic.{⊎-elim}
+use mathlib.Core.Option.{Option, none, some}
+use mathlib.Core.List.{List, [], _∷_, _++_}
+use Prim.Native.Nat.{ℕ, _<_}
+use native.Mathlib.Omega.{arith}
+use borrow.Author.Tests.{eqb-true}
+use lib.Dec.{eqb, ltb, leb}
+use lib.ListN.{length, drop, take as firsts}
+use lib.Seq.{take-append-seam}
+use Rattle.ground.specs.Cases.{pick}
+use Rattle.ground.specs.Limits.{leastOutput}
+use Rattle.ground.specs.Lists.{tableAfter}
+use Rattle.ground.specs.Refusals.{Said, granted, Row, row, accepted, saidBy, leaves}
+use Rattle.ground.proofs.Cases.{past, true-or}
+use Rattle.ground.proofs.Rows.{said-of}
+use Rattle.catalogue_tables.specs.Tables.{Tables}
+use Rattle.catalogue_check.specs.Catalogue.{catalogueRule}
+use Rattle.player_check.specs.Standing.{textRule}
+use Rattle.desk_slots.specs.Slots.{placeCount, clientCount, slotOf, characteristicOf}
+use Rattle.desk_client.specs.declared.Client.{Client}
+use Rattle.desk_state.specs.declared.Desk.{Desk}
+use Rattle.desk_replies.specs.Replies.{stateRight, fronted, caller}
+use Rattle.desk_take.specs.Serving.{nextSlot, handedOctets, handedValues, afterServing}
+use Rattle.desk_take.specs.Take.{nextClient, withServed, takenBy, takeCall, takeOctets}
+use Rattle.desk_history.specs.Calls.{Call, take}
+use Rattle.desk_history.specs.Rounds.{Handout}
+use Rattle.desk_history.specs.History.{deskAt, spoken, handedOut}
+use Rattle.desk_history.proofs.Agree.{slot-there}
+use Rattle.mcs.specs.Calls.{wordsAfter}
+use Rattle.mcs_history.specs.Library.{heard}
+
+-- no slot has the characteristic 0
+none-is-0 : slotOf 0 < placeCount → ⊥
+unfolding slotOf
+none-is-0 h = omega (arith, h)
+
+module _ (k : Tables) (right : catalogueRule k ≡ true) (name : List ℕ) (named : textRule name ≡ true) (mask ccid : ℕ) (h : List Call) (out : List ℕ) (a b c : ℕ) where
+  abbrev d : Desk
+  d = deskAt k name mask ccid h
+
+  abbrev O : List ℕ
+  O = takeOctets k d
+
+  abbrev small : Bool
+  small = ltb (length out) leastOutput
+
+  abbrev R : List Row
+  R = fronted k small d ++ []
+
+  abbrev own : Client
+  own = caller d (nextClient d)
+
+  -- what C hears, and what the desk hands out, by what is said
+  abbrev hears : Said → Option Handout
+  hears said = heard (said .number) (wordsAfter said (a ∷ b ∷ c ∷ [])) (tableAfter said O out)
+
+  abbrev hands : Said → Option Handout
+  hands said = spoken (said .values) O
+
+  refused-heard : (x y z : Bool) → hears (saidBy (row 200 x ∷ row 205 y ∷ row 201 z ∷ [])) ≡ hands (saidBy (row 200 x ∷ row 205 y ∷ row 201 z ∷ []))
+  refused-heard true y z = refl
+  refused-heard false true z = refl
+  refused-heard false false true = refl
+  refused-heard false false false = refl
+
+  abbrev ch : ℕ
+  ch = characteristicOf (nextSlot own)
+
+  abbrev served : Said
+  served = granted (nextClient d ∷ handedValues k (d .player) own)
+
+  -- a take that serves somebody
+  served-heard : O ≡ handedOctets k (d .player) own → handedOut k (take (length out)) d ≡ some (record { client = nextClient d; slot = slotOf ch; octets = O }) → hears served ≡ hands served
+  served-heard e q =
+      (λ i. pick (there i) none (some (record { client = nextClient d; slot = slotOf ch; octets = firsts (length (sym e i)) (O ++ drop (length O) out) })))
+      ∙ ap (λ (o : List ℕ). some (record { client = nextClient d; slot = slotOf ch; octets = o })) (take-append-seam O (drop (length O) out))
+    where
+      there : eqb ch 0 ≡ false
+      there =
+          ⊎-elim
+          (λ (z : eqb ch 0 ≡ true). absurd (none-is-0 (subst (λ (n : ℕ). slotOf n < placeCount) (eqb-true ch 0 z) (slot-there k right name named mask ccid (take (length out)) h _ q))))
+          (λ z. z) (true-or (eqb ch 0))
+
+  pub heard-is : hears (takeCall k d (length out) .said) ≡ handedOut k (take (length out)) d
+  unfolding takeCall takeOctets
+  heard-is = (λ i. hears (e i)) ∙ go (accepted R) refl ∙ sym (λ i. hands (e i))
+    where
+      e : takeCall k d (length out) .said ≡ pick (accepted R) (takenBy k d (nextClient d) .said) (saidBy R)
+      e = said-of d R (takenBy k d (nextClient d))
+
+      serve : (u : Bool) → leb clientCount (nextClient d) ≡ u
+          → (takeCall k d (length out) .said ≡ pick u (leaves (granted []) d) (leaves served (withServed (nextClient d) (afterServing own) d)) .said)
+          → hears (pick u (leaves (granted []) d) (leaves served (withServed (nextClient d) (afterServing own) d)) .said)
+          ≡ hands (pick u (leaves (granted []) d) (leaves served (withServed (nextClient d) (afterServing own) d)) .said)
+      serve true v q = refl
+      serve false v q = served-heard (sym (past [] v refl)) (λ i. spoken (q i .values) O)
+
+      go : (t : Bool) → accepted R ≡ t → hears (pick t (takenBy k d (nextClient d) .said) (saidBy R)) ≡ hands (pick t (takenBy k d (nextClient d) .said) (saidBy R))
+      go true q = serve (leb clientCount (nextClient d)) refl (e ∙ (λ i. pick (q i) (takenBy k d (nextClient d) .said) (saidBy R)))
+      go false q = refused-heard (not (catalogueRule k)) small (not (stateRight k d))

@@ -1,0 +1,2 @@
+-- A history of the library's calls.
+pub mod Library

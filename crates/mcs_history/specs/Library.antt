@@ -1,0 +1,72 @@
+-- A history of the library's calls: after an accepted `mcs_start`, any calls on the state, each given the octets that the last one left, with one catalogue
+-- throughout (demand 3). What a call is said to do here is its contract.
+-- Assumes nothing.
+use mathlib.Core.Path.{_≡_}
+use mathlib.Core.Bool.{Bool, true, false}
+use mathlib.Core.Option.{Option, none, some}
+use mathlib.Core.List.{List, [], _∷_, _++_}
+use Prim.Native.Nat.{ℕ}
+use lib.Dec.{eqb}
+use lib.ListN.{length, getD, take as firsts}
+use Rattle.ground.specs.Cases.{pick}
+use Rattle.ground.specs.Lists.{tableAfter}
+use Rattle.catalogue_tables.specs.Tables.{Tables}
+use Rattle.desk_slots.specs.Slots.{slotOf}
+use Rattle.desk_client.specs.Client.{controlSlot}
+use Rattle.desk_console.specs.Console.{startCall}
+use Rattle.desk_take.specs.Take.{takeCall, takeOctets}
+use Rattle.desk_history.specs.Calls.{Call, setName, activate, deactivate, advance, connect, disconnect, subscribe, unsubscribe, read, write, take, left}
+use Rattle.desk_history.specs.Rounds.{Handout, prepend}
+use Rattle.desk_history.specs.History.{handoutsTo, Handed, handedBy}
+use Rattle.mcs_state.specs.Codec.{deskOf}
+use Rattle.mcs.specs.Calls.{Leaves, wordsAfter}
+
+-- what `mcs_take` promises of the state's octets, of the lent output and of the three words for client, characteristic and length
+pub record Taken (k : Tables) (state out served : List ℕ) (number : ℕ) (state′ out′ served′ : List ℕ) : Type 0 where
+  pub leaves : Leaves (takeCall k (deskOf state) (length out)) state number state′
+  pub output : out′ ≡ tableAfter (takeCall k (deskOf state) (length out) .said) (takeOctets k (deskOf state)) out
+  pub words : served′ ≡ wordsAfter (takeCall k (deskOf state) (length out) .said) served
+
+-- what C reads off a take: nothing where the number is not 0 or the characteristic is 0; else the client, the slot, and so many octets of the output
+abbrev pub heard : ℕ → List ℕ → List ℕ → Option Handout
+heard number served out =
+    pick (eqb number 0)
+    (pick (eqb (getD served 1 0) 0) none
+    (some (record { client = getD served 0 0; slot = slotOf (getD served 1 0); octets = firsts (getD served 2 0) out })))
+    none
+
+-- a call of another function
+abbrev pub isTake : Call → Bool
+isTake (setName name) = false
+isTake (activate g) = false
+isTake deactivate = false
+isTake (advance step) = false
+isTake (connect who mtu encrypted) = false
+isTake (disconnect who) = false
+isTake (subscribe who c) = false
+isTake (unsubscribe who c) = false
+isTake (read who c offset room) = false
+isTake (write who c value) = false
+isTake (take room) = true
+
+-- a call of the library on the state's octets: the octets afterwards, and what C hears
+pub data Made (k : Tables) : Call → List ℕ → List ℕ → Option Handout → Type 0 where
+  other : {state state′ : List ℕ} {number : ℕ} (call : Call) → isTake call ≡ false → Leaves (left k call (deskOf state)) state number state′ → Made k call state state′ none
+  taken : {state state′ out out′ served′ : List ℕ} {number a b c : ℕ} → Taken k state out (a ∷ b ∷ c ∷ []) number state′ out′ served′
+      → Made k (take (length out)) state state′ (heard number served′ out′)
+
+module _ (k : Tables) (name : List ℕ) (mask ccid : ℕ) where
+  -- the calls, newest first, and the state's octets after them; start answered 0
+  pub data Run : List Call → List ℕ → Type 0 where
+    started : {old state : List ℕ} → Leaves (startCall k name mask ccid) old 0 state → Run [] state
+    then : {h : List Call} {call : Call} {state state′ : List ℕ} {o : Option Handout} → Run h state → Made k call state state′ o → Run (call ∷ h) state′
+
+-- what client who heard at 18, first first, each with the place of its take
+abbrev pub heardBy : {k : Tables} {name : List ℕ} {mask ccid : ℕ} → ℕ → {h : List Call} {state : List ℕ} → Run k name mask ccid h state → List Handed
+heardBy who (started l) = []
+heardBy who (then {h = h} {o = o} run m) = heardBy who run ++ handedBy (length h) (handoutsTo who controlSlot (prepend o []))
+
+-- from these octets on: further calls, first call first, and all that C hears, first answer first
+pub data Onward (k : Tables) : List ℕ → List Call → List Handout → Type 0 where
+  done : {state : List ℕ} → Onward k state [] []
+  and : {call : Call} {ks : List Call} {state state′ : List ℕ} {o : Option Handout} {l : List Handout} → Made k call state state′ o → Onward k state′ ks l → Onward k state (call ∷ ks) (prepend o l)
