@@ -8,7 +8,7 @@ use denote.Ref.{RefT, at-last}
 use lib.ListN.{length}
 use Rattle.catalogue_tables.specs.Tables.{Tables, tables}
 use Rattle.desk_history.specs.Calls.{Call, setName, activate, deactivate, advance, connect, disconnect, subscribe, unsubscribe, read, write, take}
-use Rattle.mcs_state.specs.Codec.{flag}
+use Rattle.mcs_state.specs.Codec.{flag, deskOf}
 use Rattle.mcs.proofs.mcs_start.Reads as start-call
 use Rattle.mcs.proofs.mcs_set_name.Reads as set-name-call
 use Rattle.mcs.proofs.mcs_activate.Reads as activate-call
@@ -21,7 +21,7 @@ use Rattle.mcs.proofs.mcs_unsubscribe.Reads as unsubscribe-call
 use Rattle.mcs.proofs.mcs_read.Reads as read-call
 use Rattle.mcs.proofs.mcs_write.Reads as write-call
 use Rattle.mcs.proofs.mcs_take.Reads as take-call
-use Rattle.mcs_history.specs.Library.{Taken, heard, Made, other, taken, Run, started}
+use Rattle.mcs_history.specs.Library.{Shown, Taken, heard, Made, other, taken, Run, started}
 
 module _ (groups tracks segments text state : RefT (List ℕ)) (n : ℕ) (new : List ℕ) where
   -- what every call is lent first
@@ -75,6 +75,11 @@ module _ (groups tracks segments text state : RefT (List ℕ)) (n : ℕ) (new : 
         → read-call.Post κs (lent (state, (client, (x, (offset, (out, (told, tt))))))) n (lent (at-last state new, (client, (x, (offset, (at-last out out′, (at-last told told′, tt)))))))
         → MadeBy (read client x offset (length (out .now)))
     read-made client x offset p = other (read client x offset (length (out .now))) refl (p .0)
+
+    pub read-shown : (client x offset : ℕ)
+        → read-call.Post κs (lent (state, (client, (x, (offset, (out, (told, tt))))))) n (lent (at-last state new, (client, (x, (offset, (at-last out out′, (at-last told told′, tt)))))))
+        → Shown k (deskOf (state .now)) client x offset (out .now) (told .now) out′ told′
+    read-shown client x offset p = record { output = p .1 .0; word = p .1 .1 }
 
     -- the three words that a take is lent
     pub take-made : (a b c : ℕ) → told .now ≡ a ∷ b ∷ c ∷ []

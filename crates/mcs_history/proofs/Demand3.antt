@@ -23,7 +23,7 @@ use Rattle.desk_history.specs.History.{octetsIn, answerIn, handedOut, ledgerAt,
 use Rattle.desk_history.proofs.Demand3 as desk
 use Rattle.mcs_state.specs.Codec.{deskOf}
 use Rattle.mcs.specs.Calls.{Leaves, wordsAfter}
-use Rattle.mcs_history.specs.Library.{isTake, heard, Made, other, taken, Run, started, then, heardBy, Onward, done, and}
+use Rattle.mcs_history.specs.Library.{Shown, isTake, heard, Made, other, taken, Run, started, then, heardBy, Onward, done, and}
 use Rattle.mcs_history.proofs.Meaning.{began-right, means}
 use Rattle.mcs_history.proofs.Hearing.{heard-is}
 
@@ -65,6 +65,12 @@ module _ (k : Tables) (name : List ℕ) (mask ccid : ℕ) where
   pub answers : {h : List Call} {state state′ : List ℕ} {number : ℕ} (call : Call) → Run k name mask ccid h state → Leaves (left k call (deskOf state)) state number state′
       → number ≡ left k call (deskAt k name mask ccid h) .said .number
   answers call run l = l .told ∙ (λ i. left k call (means k name mask ccid run i) .said .number)
+
+  -- the output of every read, and the word for its length, are those of the desk of the history
+  pub shows : {h : List Call} {state out told out′ told′ : List ℕ} (who characteristic offset : ℕ) → Run k name mask ccid h state
+      → Shown k (deskOf state) who characteristic offset out told out′ told′ → Shown k (deskAt k name mask ccid h) who characteristic offset out told out′ told′
+  shows {out = out} {told = told} {out′ = out′} {told′ = told′} who characteristic offset run p =
+      subst (λ (d : Desk). Shown k d who characteristic offset out told out′ told′) (means k name mask ccid run) p
 
   module _ {h : List Call} {state : List ℕ} (run : Run k name mask ccid h state) where
     right : catalogueRule k ≡ true

@@ -14,12 +14,19 @@ use Rattle.catalogue_tables.specs.Tables.{Tables}
 use Rattle.desk_slots.specs.Slots.{slotOf}
 use Rattle.desk_client.specs.Client.{controlSlot}
 use Rattle.desk_console.specs.Console.{startCall}
+use Rattle.desk_state.specs.declared.Desk.{Desk}
+use Rattle.desk_exchange.specs.Read.{readCall, readOctets}
 use Rattle.desk_take.specs.Take.{takeCall, takeOctets}
 use Rattle.desk_history.specs.Calls.{Call, setName, activate, deactivate, advance, connect, disconnect, subscribe, unsubscribe, read, write, take, left}
 use Rattle.desk_history.specs.Rounds.{Handout, prepend}
 use Rattle.desk_history.specs.History.{handoutsTo, Handed, handedBy}
 use Rattle.mcs_state.specs.Codec.{deskOf}
 use Rattle.mcs.specs.Calls.{Leaves, wordsAfter}
+
+-- what a read of this desk gives in the lent output and in the word for the length
+pub record Shown (k : Tables) (d : Desk) (who characteristic offset : ℕ) (out told out′ told′ : List ℕ) : Type 0 where
+  pub output : out′ ≡ tableAfter (readCall k d who characteristic offset (length out) .said) (readOctets k d who characteristic offset) out
+  pub word : told′ ≡ wordsAfter (readCall k d who characteristic offset (length out) .said) told
 
 -- what `mcs_take` promises of the state's octets, of the lent output and of the three words for client, characteristic and length
 pub record Taken (k : Tables) (state out served : List ℕ) (number : ℕ) (state′ out′ served′ : List ℕ) : Type 0 where
