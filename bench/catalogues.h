@@ -1,19 +1,12 @@
-/* The catalogues and cards that the calls are timed on. */
+/* The catalogues that the calls are timed on. */
 #ifndef CATALOGUES_H
 #define CATALOGUES_H
 
-#include <stddef.h>
-#include <stdint.h>
-
-#include "mcs.h"
+#include "tables.h"
 
 typedef struct {
     const char *name; /* as the tables of the report call it */
-    uint32_t groups[MCS_MOST_GROUPS * MCS_GROUP_WORDS];
-    uint32_t tracks[MCS_MOST_TRACKS * MCS_TRACK_WORDS];
-    uint32_t segments[MCS_MOST_SEGMENTS * MCS_SEGMENT_WORDS];
-    uint8_t text[MCS_MOST_TEXT];
-    size_t groups_len, tracks_len, segments_len, text_len; /* in words, and in octets */
+    tables tables;
 } catalogue;
 
 enum letters { ASCII, MIXED };
@@ -31,8 +24,5 @@ void make_uneven(catalogue *c, const char *name);
 
 /* A text of `len` octets; MIXED has characters of one, two, three and four octets in turn. */
 void make_text(uint8_t *text, uint32_t len, enum letters letters);
-
-/* The card of a catalogue, every block but the last of its kind full. Its length. */
-size_t make_card(const catalogue *c, uint8_t card[MCS_CARD_OCTETS]);
 
 #endif

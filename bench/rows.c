@@ -4,98 +4,135 @@
 #include <stdlib.h>
 #include <string.h>
 
+#include "rival.h"
+#include "service.h"
+#include "sheets.h"
+#include "state.h"
+
 #define ACCEPTED 0u
 
 /* A group with tracks in every catalogue here. */
 #define GROUP 1u
 
-static const uint32_t SLOTS[10] = {MCS_NAME,          MCS_TRACK_CHANGED,  MCS_TITLE,         MCS_DURATION,    MCS_POSITION,
-                                   MCS_PLAYBACK_SPEED, MCS_SEEKING_SPEED, MCS_PLAYING_ORDER, MCS_MEDIA_STATE, MCS_CONTROL_POINT};
+/* What a call hands back beside its number and the state. */
+typedef struct {
+    uint8_t out[MCS_OUTPUT_OCTETS];
+    uint32_t word, served[3], counts[4], line;
+    tables loaded;
+    uint32_t starts[MOST_STARTS];
+} answers;
 
-static answers from_library, from_program;
+/* More card loads than the report has. */
+#define MOST_CARDS 16u
 
-/* The answers are filled alike beforehand, so that what a call leaves alone is compared as well. */
-static void fill_answers(answers *a, int tables_too)
+static answers from_library, from_rival;
+
+/* ---- The call by each program */
+
+/* The answers are lent to the call, filled alike, so that what a call leaves alone is compared as well. */
+static call lend(call made, void *state, answers *a)
 {
-    memset(a->out, 0x5A, sizeof a->out);
-    memset(a->served, 0x5A, sizeof a->served);
-    memset(a->counts, 0x5A, sizeof a->counts);
-    a->length = a->line = 0x5A;
-    if (tables_too) {
-        memset(&a->loaded, 0x5A, sizeof a->loaded);
-        memset(a->starts, 0x5A, sizeof a->starts);
+    memset(a, 0x5A, sizeof *a);
+    made.state = state;
+    made.out = a->out;
+    made.out_len = sizeof a->out;
+    made.room = whole_room(&a->loaded);
+    made.starts = a->starts;
+    made.starts_len = MOST_STARTS;
+    made.word = &a->word;
+    made.served = a->served;
+    made.counts = a->counts;
+    made.line = &a->line;
+    return made;
+}
+
+/* Whether a rival leaves what the library did: answers, and a state that means the same, in the struct or in octets. */
+static int answers_alike(const call *made, const desk *d, uint32_t number, uint32_t (*rival)(const call *), int behind_octets,
+                         const uint8_t *by_library, desk *after)
+{
+    ref_state meant;
+    call c;
+    *after = *d;
+    c = lend(*made, behind_octets ? (void *)after->octets : (void *)&after->state, &from_rival);
+    if (rival(&c) != number || memcmp(&from_library, &from_rival, sizeof from_library) != 0) {
+        return 0;
     }
+    if (behind_octets) {
+        state_of_octets(after->octets, &after->state);
+    }
+    state_of_octets(by_library, &meant);
+    return same_meaning(&meant, &after->state, NULL, 0);
 }
 
-static int same_tables(const catalogue *a, const catalogue *b)
+/* The call by all programs on d, which is then as they left it. Whether they agree that it gives this number and on all else. */
+static int all_give(const call *made, desk *d, uint32_t number)
 {
-    return memcmp(a->groups, b->groups, sizeof a->groups) == 0 && memcmp(a->tracks, b->tracks, sizeof a->tracks) == 0 &&
-           memcmp(a->segments, b->segments, sizeof a->segments) == 0 && memcmp(a->text, b->text, sizeof a->text) == 0;
-}
-
-static int same_answers(const answers *a, const answers *b, int tables_too)
-{
-    return memcmp(a->out, b->out, sizeof a->out) == 0 && memcmp(a->served, b->served, sizeof a->served) == 0 &&
-           memcmp(a->counts, b->counts, sizeof a->counts) == 0 && a->length == b->length && a->line == b->line &&
-           (!tables_too ||
-            (same_tables(&a->loaded, &b->loaded) && memcmp(a->starts, b->starts, sizeof a->starts) == 0));
-}
-
-/* The call by both programs on d. Whether they agree that it gives this number and on all else. */
-static int both_give(const catalogue *c, const arguments *a, desk *d, uint32_t number)
-{
-    uint32_t by_library, by_program;
-    int loads = a->call == CARD_LOAD || a->call == CUE_SHEET;
-    fill_answers(&from_library, loads);
-    fill_answers(&from_program, loads);
-    by_library = library_call(c, a, d->octets, &from_library);
-    by_program = program_call(c, a, &d->state, &from_program);
-    return by_library == number && by_program == number && same_state(d->octets, &d->state) &&
-           same_answers(&from_library, &from_program, loads);
+    desk by_library = *d, by_rival;
+    call c = lend(*made, by_library.octets, &from_library);
+    int same = call_library(&c) == number;
+    same &= answers_alike(made, d, number, gcc_lent_call, 1, by_library.octets, &by_rival);
+    same &= answers_alike(made, d, number, clang_lent_call, 1, by_library.octets, &by_rival);
+    same &= answers_alike(made, d, number, clang_call, 0, by_library.octets, &by_rival);
+    same &= answers_alike(made, d, number, gcc_call, 0, by_library.octets, &by_rival);
+    by_library.state = by_rival.state;
+    *d = by_library;
+    return same;
 }
 
 int row_agrees(const row *r)
 {
     desk d = r->before;
-    return both_give(r->lent, &r->arguments, &d, r->number);
+    return all_give(&r->made, &d, r->number);
 }
 
 /* A call on the way to the state of a row. */
-static void make(desk *d, const catalogue *c, arguments a)
+static void make(desk *d, const catalogue *c, call made)
 {
-    if (!both_give(c, &a, d, ACCEPTED)) {
-        fprintf(stderr, "bench: the programs differ in call %d on the catalogue '%s'\n", (int)a.call, c->name);
+    made.catalogue = lent(&c->tables);
+    if (!all_give(&made, d, ACCEPTED)) {
+        fprintf(stderr, "bench: the programs differ in '%s' on the catalogue '%s'\n", CALL_NAME[made.kind], c->name);
         exit(1);
     }
 }
 
 /* ---- Arguments */
 
-static arguments plain(enum call call, uint32_t number, uint32_t second, uint32_t third)
+static call plain(uint32_t kind, uint32_t who, uint32_t what, uint32_t number)
 {
-    arguments a = {call, number, second, third, NULL, 0};
-    return a;
+    call c;
+    memset(&c, 0, sizeof c);
+    c.kind = kind;
+    c.who = who;
+    c.what = what;
+    c.number = number;
+    return c;
 }
 
-static arguments with_octets(enum call call, uint32_t number, uint32_t second, const uint8_t *octets, size_t len)
+static call with_octets(uint32_t kind, uint32_t who, uint32_t what, const uint8_t *octets, size_t length)
 {
-    arguments a = {call, number, second, 0, octets, len};
-    return a;
+    call c = plain(kind, who, what, 0);
+    c.octets = octets;
+    c.length = length;
+    return c;
 }
 
-static arguments opcode(uint32_t client, uint8_t opcode)
+static call start(const uint8_t *name, size_t length)
 {
-    static uint8_t values[256];
-    values[opcode] = opcode;
-    return with_octets(WRITE, client, MCS_CONTROL_POINT, values + opcode, 1);
+    call c = with_octets(START, 0, 7, name, length);
+    c.number = MCS_ALL_OPCODES;
+    return c;
 }
 
-static arguments written(uint32_t client, uint32_t characteristic, uint8_t octet)
+static call connect_with(uint32_t client, uint32_t mtu) { return plain(CONNECT, client, 1, mtu); }
+
+static call written(uint32_t client, uint32_t characteristic, uint8_t octet)
 {
     static uint8_t values[256];
     values[octet] = octet;
     return with_octets(WRITE, client, characteristic, values + octet, 1);
 }
+
+static call opcode(uint32_t client, uint8_t opcode) { return written(client, MCS_CONTROL_POINT, opcode); }
 
 /* Goto Segment -2, and so on: Last, and one step before it. */
 static const uint8_t BACK_2_SEGMENTS[5] = {MCS_OPCODE_GOTO_SEGMENT, 0xFE, 0xFF, 0xFF, 0xFF};
@@ -113,11 +150,11 @@ static desk idle(const catalogue *c)
     desk d;
     uint32_t k, s;
     memset(&d, 0, sizeof d);
-    make(&d, c, with_octets(START, 0, MCS_ALL_OPCODES, NAME, sizeof NAME - 1u));
+    make(&d, c, start(NAME, sizeof NAME - 1u));
     for (k = 0; k < MCS_CLIENTS; k++) {
-        make(&d, c, plain(CONNECT, k, MTU[k], 0));
-        for (s = 0; s < 10u; s++) {
-            make(&d, c, plain(SUBSCRIBE, k, SLOTS[s], 0));
+        make(&d, c, connect_with(k, MTU[k]));
+        for (s = 0; s < SLOTS; s++) {
+            make(&d, c, plain(SUBSCRIBE, k, slot_at(s), 0));
         }
     }
     return d;
@@ -141,7 +178,7 @@ static desk paused(const catalogue *c, uint8_t order)
 {
     desk d = idle(c);
     make(&d, c, written(0, MCS_PLAYING_ORDER, order));
-    make(&d, c, plain(ACTIVATE, GROUP, 0, 0));
+    make(&d, c, plain(ACTIVATE, 0, 0, GROUP));
     take_until(&d, c, 0);
     return d;
 }
@@ -172,7 +209,7 @@ static desk unsubscribed(const catalogue *c, uint32_t client, uint32_t character
 static desk owing_title(const catalogue *c)
 {
     desk d = idle(c);
-    make(&d, c, plain(ACTIVATE, GROUP, 0, 0));
+    make(&d, c, plain(ACTIVATE, 0, 0, GROUP));
     take_until(&d, c, MCS_TITLE);
     return d;
 }
@@ -199,7 +236,7 @@ static desk wrong_turn(const catalogue *c)
 
 /* ---- Rows */
 
-static void add(table *t, const char *call, const catalogue *c, arguments a, desk before, uint32_t number)
+static void add(table *t, const char *name, const catalogue *c, call made, desk before, uint32_t number)
 {
     row *r = &t->rows[t->count];
     if (t->count == MOST_ROWS) {
@@ -207,9 +244,10 @@ static void add(table *t, const char *call, const catalogue *c, arguments a, des
         exit(1);
     }
     t->count += 1u;
-    r->call = call;
+    r->name = name;
     r->lent = c;
-    r->arguments = a;
+    r->made = made;
+    r->made.catalogue = lent(&c->tables);
     r->before = before;
     r->number = number;
 }
@@ -223,21 +261,30 @@ static void add_refusals(table *t, const catalogue *c)
     desk before = playing(c);
     used += 2u;
     *cut = *c;
-    cut->groups_len -= 1u;
+    cut->tables.length[GROUPS] -= 1u;
     *spoilt = *c;
-    spoilt->text[spoilt->text_len - 1u] = 0xFF;
-    add(t, "advance, refused at once (200)", cut, plain(ADVANCE, 1, 0, 0), before, MCS_BAD_CATALOGUE);
-    add(t, "advance, refused for the last title (200)", spoilt, plain(ADVANCE, 1, 0, 0), before, MCS_BAD_CATALOGUE);
-    add(t, "advance, refused for the state (201)", c, plain(ADVANCE, 1, 0, 0), wrong_turn(c), MCS_BAD_STATE);
-    add(t, "activate, refused (208)", c, plain(ACTIVATE, MCS_MOST_GROUPS, 0, 0), before, MCS_BAD_GROUP);
+    spoilt->tables.text[spoilt->tables.length[TEXT] - 1u] = 0xFF;
+    add(t, "advance, refused at once (200)", cut, plain(ADVANCE, 0, 0, 1), before, MCS_BAD_CATALOGUE);
+    add(t, "advance, refused for the last title (200)", spoilt, plain(ADVANCE, 0, 0, 1), before, MCS_BAD_CATALOGUE);
+    add(t, "advance, refused for the state (201)", c, plain(ADVANCE, 0, 0, 1), wrong_turn(c), MCS_BAD_STATE);
+    add(t, "activate, refused (208)", c, plain(ACTIVATE, 0, 0, MCS_MOST_GROUPS), before, MCS_BAD_GROUP);
 }
 
-void add_card_load(table *t, const catalogue *c, const uint8_t *card, size_t card_len)
+void add_card_load(table *t, const catalogue *c)
 {
+    static card cards[MOST_CARDS];
+    static size_t used;
+    card *made = &cards[used];
     desk none;
+    if (used == MOST_CARDS) {
+        fprintf(stderr, "bench: more than %u cards\n", MOST_CARDS);
+        exit(1);
+    }
+    used += 1u;
+    make_card(&c->tables, made);
     memset(&none, 0, sizeof none);
-    make(&none, c, with_octets(START, 0, MCS_ALL_OPCODES, NAME, 0));
-    add(t, "card load", c, with_octets(CARD_LOAD, 0, 0, card, card_len), none, ACCEPTED);
+    make(&none, c, start(NAME, 0));
+    add(t, "card load", c, with_octets(CARD_LOAD, 0, 0, made->octets, made->length), none, ACCEPTED);
 }
 
 void add_cue_sheets(table *t)
@@ -250,7 +297,7 @@ void add_cue_sheets(table *t)
         make_sheet((enum sheet_of)k, sheets[k]);
         make_even(&none[k], SHEET_NAME[k], 0, 0, 0, 0, ASCII);
         memset(&before, 0, sizeof before);
-        make(&before, &none[k], with_octets(START, 0, MCS_ALL_OPCODES, NAME, 0));
+        make(&before, &none[k], start(NAME, 0));
         add(t, "cue sheet, 65,536 octets", &none[k], with_octets(CUE_SHEET, 0, 0, sheets[k], MCS_SHEET_OCTETS), before,
             k == WRONG_AT_ONCE ? MCS_BAD_LINE : ACCEPTED);
     }
@@ -260,28 +307,28 @@ void add_check(table *t, const catalogue *c)
 {
     desk none;
     memset(&none, 0, sizeof none);
-    make(&none, c, with_octets(START, 0, MCS_ALL_OPCODES, NAME, 0));
+    make(&none, c, start(NAME, 0));
     add(t, "deactivate, no client", c, plain(DEACTIVATE, 0, 0, 0), none, ACCEPTED);
 }
 
-void add_calls(table *t, const catalogue *c, const uint8_t *card, size_t card_len)
+void add_calls(table *t, const catalogue *c)
 {
     desk by_number = paused(c, 3), by_stamp = paused(c, 5), plays = playing(c), inactive = idle(c);
-    uint32_t end = c->tracks[MCS_TRACK_WORDS * plays.state.track];
+    uint32_t end = track_word(&c->tables, plays.state.track, DURATION);
     desk falling = inactive;
 
     make(&falling, c, written(0, MCS_PLAYING_ORDER, 7));
     take_until(&falling, c, 0);
 
-    add_card_load(t, c, card, card_len);
-    add(t, "start", c, with_octets(START, 0, MCS_ALL_OPCODES, NAME, sizeof NAME - 1u), inactive, ACCEPTED);
+    add_card_load(t, c);
+    add(t, "start", c, start(NAME, sizeof NAME - 1u), inactive, ACCEPTED);
     add(t, "set name", c, with_octets(SET_NAME, 0, 0, NAME, 10), plays, ACCEPTED);
-    add(t, "activate, order 3", c, plain(ACTIVATE, GROUP, 0, 0), inactive, ACCEPTED);
-    add(t, "activate, order 7", c, plain(ACTIVATE, GROUP, 0, 0), falling, ACCEPTED);
+    add(t, "activate, order 3", c, plain(ACTIVATE, 0, 0, GROUP), inactive, ACCEPTED);
+    add(t, "activate, order 7", c, plain(ACTIVATE, 0, 0, GROUP), falling, ACCEPTED);
     add(t, "deactivate", c, plain(DEACTIVATE, 0, 0, 0), plays, ACCEPTED);
-    add(t, "advance, within a track", c, plain(ADVANCE, 10, 0, 0), plays, ACCEPTED);
-    add(t, "advance, to the next track", c, plain(ADVANCE, end, 0, 0), plays, ACCEPTED);
-    add(t, "connect", c, plain(CONNECT, 2, 185, 0), disconnected(c, 2), ACCEPTED);
+    add(t, "advance, within a track", c, plain(ADVANCE, 0, 0, 10), plays, ACCEPTED);
+    add(t, "advance, to the next track", c, plain(ADVANCE, 0, 0, end), plays, ACCEPTED);
+    add(t, "connect", c, connect_with(2, 185), disconnected(c, 2), ACCEPTED);
     add(t, "disconnect", c, plain(DISCONNECT, 2, 0, 0), plays, ACCEPTED);
     add(t, "subscribe", c, plain(SUBSCRIBE, 2, MCS_TITLE, 0), unsubscribed(c, 2, MCS_TITLE), ACCEPTED);
     add(t, "unsubscribe", c, plain(UNSUBSCRIBE, 2, MCS_TITLE, 0), plays, ACCEPTED);
@@ -313,7 +360,7 @@ void add_text_checks(table *t)
     make_text(mixed_text, sizeof mixed_text, MIXED);
     make_even(&none, "none", 0, 0, 0, 0, ASCII);
     memset(&before, 0, sizeof before);
-    make(&before, &none, with_octets(START, 0, MCS_ALL_OPCODES, NAME, 0));
+    make(&before, &none, start(NAME, 0));
     add(t, "set name, no octets", &none, with_octets(SET_NAME, 0, 0, plain_text, 0), before, ACCEPTED);
     add(t, "set name, 128 octets, ASCII", &none, with_octets(SET_NAME, 0, 0, plain_text, 128), before, ACCEPTED);
     add(t, "set name, 128 octets, mixed", &none, with_octets(SET_NAME, 0, 0, mixed_text, 128), before, ACCEPTED);

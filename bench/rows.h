@@ -1,8 +1,11 @@
-/* The rows of the report: a call on a catalogue and a state, the same for both programs. */
+/* The rows of the report: a call on a catalogue and a state, the same for all programs. */
 #ifndef ROWS_H
 #define ROWS_H
 
 #include "calls.h"
+#include "card.h"
+#include "catalogues.h"
+#include "ref.h"
 
 /* A state, as each program holds it. */
 typedef struct {
@@ -11,11 +14,11 @@ typedef struct {
 } desk;
 
 typedef struct {
-    const char *call;
+    const char *name;
     const catalogue *lent;
-    arguments arguments;
+    call made; /* without a state */
     desk before;
-    uint32_t number; /* what both must return */
+    uint32_t number; /* what all must return */
 } row;
 
 #define MOST_ROWS 256u
@@ -25,8 +28,8 @@ typedef struct {
     size_t count;
 } table;
 
-/* Every call on a catalogue, and refusals of one. `card` is the catalogue's. */
-void add_calls(table *t, const catalogue *c, const uint8_t *card, size_t card_len);
+/* Every call on a catalogue, and refusals of one. */
+void add_calls(table *t, const catalogue *c);
 
 /* No call is the text check alone: a name is set where there is no catalogue to check, and the name that stands is empty. */
 void add_text_checks(table *t);
@@ -37,9 +40,9 @@ void add_check(table *t, const catalogue *c);
 /* A sheet of every kind. */
 void add_cue_sheets(table *t);
 
-void add_card_load(table *t, const catalogue *c, const uint8_t *card, size_t card_len);
+void add_card_load(table *t, const catalogue *c);
 
-/* Whether both programs give the same to a row: number, state, output, counts, line, starts and loaded tables. */
+/* Whether all programs give the same to a row: number, state, output, counts, line, starts and loaded tables. */
 int row_agrees(const row *r);
 
 #endif

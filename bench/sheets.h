@@ -14,6 +14,7 @@ enum sheet_of {
     TRACKS_OF_A_FILE, /* FILE, then TRACK, TITLE, INDEX 00 and INDEX 01 over and over, with CR LF */
     ALL_STARTS,       /* INDEX 01 in every line, with LF */
     LONG_REMARKS,     /* REM lines of 200 octets */
+    ODD_TITLES,       /* the first, with titles of 0 to 60 octets in no order: lines that no two ends of which are alike */
     WRONG_AT_ONCE,    /* the first, with a first line that is not understood */
     SHEETS
 };

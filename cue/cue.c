@@ -8,26 +8,12 @@
  */
 #include <stdio.h>
 
-#include "mcs.h"
+#include "file.h"
+#include "mcs_desk.h"
 
-/* One octet more than the longest sheet: a longer file is then refused for its length, as it should be. */
+/* One octet more than the longest sheet, so that a longer file is refused for its length. */
 static uint8_t sheet[MCS_SHEET_OCTETS + 1u];
 static uint32_t starts[MCS_MOST_SEGMENTS];
-
-/* Fills the sheet from a file, and *len with its length. 0 where there is no such file, or it cannot be read. */
-static int read_sheet(const char *path, size_t *len)
-{
-    FILE *file = fopen(path, "rb");
-    int broken;
-
-    if (file == NULL) {
-        return 0;
-    }
-    *len = fread(sheet, 1, sizeof sheet, file);
-    broken = ferror(file);
-    fclose(file);
-    return !broken;
-}
 
 static void print_starts(uint32_t count)
 {
@@ -37,22 +23,6 @@ static void print_starts(uint32_t count)
         printf("%4u  %02u:%02u.%02u  %u\n", k + 1u, start / 6000u, start / 100u % 60u, start % 100u, start);
     }
     printf("The sheet has %u start%s.\n", count, count == 1u ? "" : "s");
-}
-
-static const char *refusal_meaning(uint32_t number)
-{
-    switch (number) {
-    case MCS_LONG_SHEET:
-        return "the sheet has over 65,536 octets";
-    case MCS_BAD_LINE:
-        return "a line is not understood";
-    case MCS_NOT_RISING:
-        return "the first start is not 0, or a start is not above the one before";
-    case MCS_MANY_STARTS:
-        return "the sheet has more than 1,024 starts";
-    default:
-        return "unknown refusal";
-    }
 }
 
 /* A line of the sheet, counted from 1, without the LF or CR LF that ends it. Octets that are no printable ASCII are written
@@ -85,7 +55,7 @@ static void print_line(size_t len, uint32_t line)
 
 static void print_refusal(uint32_t number, size_t len, uint32_t line)
 {
-    printf("Refused, %u: %s.\n", number, refusal_meaning(number));
+    printf("Refused, %u: %s.\n", number, mcs_refusal_words(number));
     if (number == MCS_BAD_LINE || number == MCS_NOT_RISING) {
         printf("Line %u reads \"", line);
         print_line(len, line);
@@ -95,22 +65,23 @@ static void print_refusal(uint32_t number, size_t len, uint32_t line)
 
 int main(int count, char **words)
 {
-    uint32_t number, found = 0, line = 0;
+    struct mcs_cue cue = {0, 0};
+    uint32_t number;
     size_t len;
 
     if (count != 2) {
         fprintf(stderr, "cue FILE prints the segment starts of a cue sheet.\n");
         return 2;
     }
-    if (!read_sheet(words[1], &len)) {
+    if (!read_file(words[1], sheet, sizeof sheet, &len)) {
         fprintf(stderr, "cue: cannot read %s\n", words[1]);
         return 2;
     }
-    number = mcs_cue_sheet(sheet, len, starts, MCS_MOST_SEGMENTS, &found, &line);
+    number = mcs_cue_load(sheet, len, starts, MCS_MOST_SEGMENTS, &cue);
     if (number != MCS_OK) {
-        print_refusal(number, len, line);
+        print_refusal(number, len, cue.line);
         return 1;
     }
-    print_starts(found);
+    print_starts(cue.count);
     return 0;
 }

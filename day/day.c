@@ -11,11 +11,11 @@
 #include <unistd.h>
 
 #include "books.h"
-#include "card.h"
 #include "devices.h"
+#include "file.h"
 #include "lines.h"
 #include "office.h"
-#include "words.h"
+#include "tables.h"
 
 #define SAMPLE_CARD "crates/orders/stdin"
 
@@ -153,34 +153,49 @@ static void evening(void)
 
 static int refuse(const char *what, uint32_t number)
 {
-    fprintf(stderr, "day: %s: %u: %s\n", what, number, refusal_meaning(number));
+    fprintf(stderr, "day: %s: %u: %s\n", what, number, mcs_refusal_words(number));
     return 1;
+}
+
+/* The first group with tracks, or the number of groups where there is none. */
+static uint32_t first_group_with_tracks(const struct mcs_catalogue *c, uint32_t groups)
+{
+    uint32_t g = 0;
+    while (g < groups && c->groups[MCS_GROUP_WORDS * g + TRACK_COUNT] == 0) {
+        g++;
+    }
+    return g;
 }
 
 int main(int count, char **words)
 {
-    static catalogue c;
+    static uint8_t card[MCS_CARD_OCTETS + 1u];
+    static tables loaded;
     const char *path = count > 1 ? words[1] : SAMPLE_CARD;
-    uint32_t number, group;
+    struct mcs_room room = whole_room(&loaded);
+    struct mcs_catalogue c;
+    uint32_t number, groups, group;
+    size_t len;
 
     if (isatty(STDOUT_FILENO) && getenv("NO_COLOR") == NULL) {
         use_colours();
     }
-    number = load_card_file(path, &c);
-    if (number == FILE_UNREADABLE) {
+    if (!read_file(path, card, sizeof card, &len)) {
         fprintf(stderr, "day: cannot read %s\n", path);
         return 1;
     }
+    number = mcs_catalogue_load(card, len, &room, &c);
+    if (number == MCS_OK) {
+        number = open_office(&c);
+    }
     if (number != MCS_OK) {
         return refuse(path, number);
     }
-    number = open_office(&c);
-    if (number != MCS_OK) {
-        return refuse(path, number);
-    }
-    printf("Card: %u groups, %u tracks, %u segments, %u octets of text\n", c.counts[0], c.counts[1], c.counts[2], c.counts[3]);
-    group = first_group_with_tracks(&c);
-    if (group == c.counts[0]) {
+    groups = (uint32_t)c.groups_len / MCS_GROUP_WORDS;
+    printf("Card: %u groups, %u tracks, %u segments, %u octets of text\n", groups, (uint32_t)c.tracks_len / MCS_TRACK_WORDS,
+           (uint32_t)c.segments_len, (uint32_t)c.text_len);
+    group = first_group_with_tracks(&c, groups);
+    if (group == groups) {
         printf("No group of the card has tracks: there is nothing to play.\n");
         return 0;
     }

@@ -6,30 +6,31 @@
 #include "books.h"
 #include "devices.h"
 #include "lines.h"
+#include "service.h"
+#include "tables.h"
+#include "values.h"
 #include "words.h"
 
 #define CONTENT_CONTROL_ID 1u
-#define CONTROL_SLOT 9u
 
-static const catalogue *lent;
-static uint8_t state[MCS_STATE_OCTETS];
+static struct mcs_desk desk;
 
 /* ---- What the state says, at the offsets that mcs.h gives */
 
-static int is_active(void) { return state[MCS_AT_MEDIA_STATE] != 0; }
-static uint32_t current_track(void) { return word_at(state + MCS_AT_TRACK); }
-static const uint32_t *track_record(void) { return lent->tracks + (size_t)MCS_TRACK_WORDS * current_track(); }
+static int is_active(void) { return desk.state[MCS_AT_MEDIA_STATE] != MCS_INACTIVE; }
+static uint32_t current_track(void) { return word_at(desk.state + MCS_AT_TRACK); }
+static const uint32_t *track_record(void) { return desk.catalogue.tracks + (size_t)MCS_TRACK_WORDS * current_track(); }
 
-uint32_t track_duration(void) { return is_active() ? track_record()[0] : 0; }
+uint32_t track_duration(void) { return is_active() ? track_record()[DURATION] : 0; }
 
-static const uint8_t *client_at(uint32_t who) { return state + MCS_AT_CLIENT(who); }
+static const uint8_t *client_at(uint32_t who) { return desk.state + MCS_AT_CLIENT(who); }
 static uint32_t waiting_of(uint32_t who) { return word_at(client_at(who) + MCS_IN_WAITING); }
 
 static uint32_t values_owed(uint32_t who)
 {
     uint32_t owed = word_at(client_at(who) + MCS_IN_OWED), count = 0, slot;
-    for (slot = 0; slot < CONTROL_SLOT; slot++) {
-        count += owed >> slot & 1u;
+    for (slot = 0; slot < SLOTS; slot++) {
+        count += slot_at(slot) != MCS_CONTROL_POINT ? owed >> slot & 1u : 0;
     }
     return count;
 }
@@ -39,23 +40,23 @@ static void show_desk(void)
 {
     begin_desk_line("desk");
     paint(BOLD);
-    printf("%-8s  ", media_state_name(state[MCS_AT_MEDIA_STATE]));
+    printf("%-8s  ", mcs_media_state_words(desk.state[MCS_AT_MEDIA_STATE]));
     if (is_active()) {
-        printf("group %u  track %u  ", word_at(state + MCS_AT_GROUP), current_track());
-        print_time(word_at(state + MCS_AT_POSITION));
+        printf("group %u  track %u  ", word_at(desk.state + MCS_AT_GROUP), current_track());
+        print_time(word_at(desk.state + MCS_AT_POSITION));
         printf(" of ");
         print_time(track_duration());
         printf("  ");
     }
-    printf("%s  speed ", order_name(state[MCS_AT_ORDER]));
-    print_value(MCS_PLAYBACK_SPEED, state + MCS_AT_SPEED, 1);
-    if (state[MCS_AT_SEEKING] != 0) {
+    printf("%s  speed ", mcs_playing_order_words(desk.state[MCS_AT_ORDER]));
+    print_value(MCS_PLAYBACK_SPEED, desk.state + MCS_AT_SPEED, 1);
+    if (desk.state[MCS_AT_SEEKING] != 0) {
         printf("  seeking ");
-        print_value(MCS_SEEKING_SPEED, state + MCS_AT_SEEKING, 1);
+        print_value(MCS_SEEKING_SPEED, desk.state + MCS_AT_SEEKING, 1);
     }
     if (is_active()) {
         printf("  ");
-        print_value(MCS_TITLE, lent->text + track_record()[4], track_record()[5]);
+        print_value(MCS_TITLE, desk.catalogue.text + track_record()[TITLE], track_record()[TITLE_LENGTH]);
     }
     end_line();
 }
@@ -85,11 +86,11 @@ static void show_owed(void)
 
 /* ---- The desk */
 
-uint32_t open_office(const catalogue *c)
+uint32_t open_office(const struct mcs_catalogue *c)
 {
     static const uint8_t NAME[] = "Mantelhona";
-    lent = c;
-    return mcs_start(LENT(lent), NAME, sizeof NAME - 1u, MCS_ALL_OPCODES, CONTENT_CONTROL_ID, state);
+    desk.catalogue = *c;
+    return mcs_desk_start(&desk, NAME, sizeof NAME - 1u, MCS_ALL_OPCODES, CONTENT_CONTROL_ID);
 }
 
 void introduce(void)
@@ -101,7 +102,7 @@ void introduce(void)
         print_device(who, 14);
         printf("%9u  ", DEVICES[who].mtu);
         for (slot = DEVICES[who].slots; *slot != 0; slot++) {
-            printf("%s%s", slot == DEVICES[who].slots ? "" : ", ", characteristic_name(*slot));
+            printf("%s%s", slot == DEVICES[who].slots ? "" : ", ", mcs_characteristic_words(*slot));
         }
         putchar('\n');
     }
@@ -114,14 +115,14 @@ static void must(uint32_t number, const char *what)
 {
     if (number != MCS_OK) {
         fflush(stdout);
-        fprintf(stderr, "day: %s was refused, %u: %s\n", what, number, refusal_meaning(number));
+        fprintf(stderr, "day: %s was refused, %u: %s\n", what, number, mcs_refusal_words(number));
         exit(1);
     }
 }
 
 void open_group(uint32_t group)
 {
-    must(mcs_activate(LENT(lent), state, group), "activate");
+    must(mcs_desk_activate(&desk, group), "activate");
     begin_desk_line("open");
     printf("group %u", group);
     end_line();
@@ -130,7 +131,7 @@ void open_group(uint32_t group)
 
 void close_group(void)
 {
-    must(mcs_deactivate(LENT(lent), state), "deactivate");
+    must(mcs_desk_deactivate(&desk), "deactivate");
     begin_desk_line("close");
     printf("the group");
     end_line();
@@ -139,7 +140,7 @@ void close_group(void)
 
 void let_pass(uint32_t hundredths)
 {
-    must(mcs_advance(LENT(lent), state, hundredths), "advance");
+    must(mcs_desk_advance(&desk, hundredths), "advance");
     begin_desk_line("time");
     print_time(hundredths);
     printf(" pass");
@@ -152,9 +153,9 @@ void let_pass(uint32_t hundredths)
 void join(uint32_t who)
 {
     const uint32_t *slot;
-    must(mcs_connect(LENT(lent), state, who, DEVICES[who].mtu, 1), "connect");
+    must(mcs_desk_connect(&desk, who, DEVICES[who].mtu, 1), "connect");
     for (slot = DEVICES[who].slots; *slot != 0; slot++) {
-        must(mcs_subscribe(LENT(lent), state, who, *slot), "subscribe");
+        must(mcs_desk_subscribe(&desk, who, *slot), "subscribe");
     }
     begin_line("join", who);
     printf("connected");
@@ -164,7 +165,7 @@ void join(uint32_t who)
 void leave(uint32_t who)
 {
     uint32_t held = waiting_of(who);
-    must(mcs_disconnect(LENT(lent), state, who), "disconnect");
+    must(mcs_desk_disconnect(&desk, who), "disconnect");
     book_leave(who, held);
     begin_line("leave", who);
     printf("disconnected");
@@ -182,32 +183,18 @@ static void print_reply(uint32_t number)
     } else {
         /* The numbers of ATT are written in hexadecimal, those of the desk in decimal. */
         paint(RED);
-        printf(number < 200u ? "  refused 0x%02X, %s" : "  refused %u, %s", number, refusal_meaning(number));
+        printf(MCS_IS_ATT_ERROR(number) ? "  refused 0x%02X, %s" : "  refused %u, %s", number, mcs_refusal_words(number));
     }
-}
-
-static long long signed_word(const uint8_t *octets)
-{
-    long long word = word_at(octets);
-    return word < 0x80000000 ? word : word - 0x100000000;
-}
-
-static void put_word(uint8_t *octets, uint32_t word)
-{
-    octets[0] = (uint8_t)(word & 0xFFu);
-    octets[1] = (uint8_t)(word >> 8 & 0xFFu);
-    octets[2] = (uint8_t)(word >> 16 & 0xFFu);
-    octets[3] = (uint8_t)(word >> 24);
 }
 
 static void write_control(uint32_t who, const uint8_t *value, size_t len)
 {
-    uint32_t number = mcs_write(LENT(lent), state, who, MCS_CONTROL_POINT, value, len);
+    uint32_t number = mcs_desk_write(&desk, who, MCS_CONTROL_POINT, value, len);
     begin_line("press", who);
     printf("#%u ", book_press(who, value[0], number == MCS_OK));
     print_opcode(value[0]);
     if (len == 5u) {
-        printf(" %lld", signed_word(value + 1));
+        printf(" %lld", (long long)signed_word(value + 1));
     }
     print_reply(number);
     end_line();
@@ -219,19 +206,17 @@ void press(uint32_t who, uint8_t opcode) { write_control(who, &opcode, 1); }
 void press_with(uint32_t who, uint8_t opcode, int32_t number)
 {
     uint8_t value[5];
-    value[0] = opcode;
-    put_word(value + 1, (uint32_t)number);
-    write_control(who, value, sizeof value);
+    write_control(who, value, control_value(value, opcode, number));
 }
 
 /* Any other write. */
 static void write_value(uint32_t who, uint32_t characteristic, const uint8_t *value, size_t len)
 {
-    uint32_t number = mcs_write(LENT(lent), state, who, characteristic, value, len);
+    uint32_t number = mcs_desk_write(&desk, who, characteristic, value, len);
     begin_line("write", who);
-    printf("%s ", characteristic_name(characteristic));
+    printf("%s ", mcs_characteristic_words(characteristic));
     if (characteristic == MCS_POSITION && signed_word(value) < 0) {
-        printf("%lld from the end", signed_word(value));
+        printf("%lld from the end", (long long)signed_word(value));
     } else {
         print_value(characteristic, value, len);
     }
@@ -259,9 +244,9 @@ uint32_t read_part(uint32_t who, uint32_t characteristic, uint32_t offset)
 {
     uint8_t out[MCS_OUTPUT_OCTETS];
     uint32_t length = 0;
-    uint32_t number = mcs_read(LENT(lent), state, who, characteristic, offset, out, sizeof out, &length);
+    uint32_t number = mcs_desk_read(&desk, who, characteristic, offset, out, sizeof out, &length);
     begin_line("read", who);
-    printf("%s at %u", characteristic_name(characteristic), offset);
+    printf("%s at %u", mcs_characteristic_words(characteristic), offset);
     if (number == MCS_OK) {
         printf(": ");
         print_value(characteristic, out, length);
@@ -305,17 +290,18 @@ static void show_result(uint32_t who, const uint8_t *value, size_t len)
     }
 }
 
-static void show_take(uint32_t take, const uint32_t served[3], const uint8_t *value)
+static void show_take(uint32_t take, const struct mcs_served *served, const uint8_t *value)
 {
     char label[16];
     snprintf(label, sizeof label, "take %u", take);
-    begin_line(label, served[0]);
-    book_told(served[0]);
-    if (served[1] == MCS_CONTROL_POINT) {
-        show_result(served[0], value, served[2]);
+    begin_line(label, served->client);
+    book_told(served->client);
+    if (served->characteristic == MCS_CONTROL_POINT) {
+        show_result(served->client, value, served->length);
     } else {
-        printf("%s%s", characteristic_name(served[1]), served[1] == MCS_TRACK_CHANGED ? "" : " ");
-        print_value(served[1], value, served[2]);
+        printf("%s%s", mcs_characteristic_words(served->characteristic),
+               served->characteristic == MCS_TRACK_CHANGED ? "" : " ");
+        print_value(served->characteristic, value, served->length);
     }
     end_line();
 }
@@ -323,14 +309,15 @@ static void show_take(uint32_t take, const uint32_t served[3], const uint8_t *va
 void tell_all(void)
 {
     uint8_t out[MCS_OUTPUT_OCTETS];
-    uint32_t served[3], take = 0;
+    struct mcs_served served;
+    uint32_t take = 0;
     show_owed();
     for (;;) {
-        must(mcs_take(LENT(lent), state, out, sizeof out, served), "take");
-        if (served[1] == 0) {
+        must(mcs_desk_take(&desk, out, sizeof out, &served), "take");
+        if (served.characteristic == MCS_NOTHING) {
             return;
         }
         take += 1u;
-        show_take(take, served, out);
+        show_take(take, &served, out);
     }
 }

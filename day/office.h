@@ -2,10 +2,10 @@
 #ifndef OFFICE_H
 #define OFFICE_H
 
-#include "card.h"
+#include "mcs_desk.h"
 
-/* Starts the desk. 0, or the number of the refusal. */
-uint32_t open_office(const catalogue *c);
+/* Starts the desk on a catalogue. 0, or the number of the refusal. */
+uint32_t open_office(const struct mcs_catalogue *c);
 
 /* Who is in the office, and how to read what follows. */
 void introduce(void);

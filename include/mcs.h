@@ -24,6 +24,12 @@
 extern "C" {
 #endif
 
+/* MCS_VERSION moves when a function of this file is added or changes its arguments or the numbers that it returns;
+ * MCS_STATE_LAYOUT when the octets of a state change their number, place or meaning: a host that stores states stores it with
+ * them. */
+#define MCS_VERSION 1u
+#define MCS_STATE_LAYOUT 1u
+
 /* ---- Numbers that a call returns ------------------------------------------------------------------------------------------ */
 
 /* Accepted. */
@@ -160,7 +166,8 @@ extern "C" {
  */
 #define MCS_STATE_OCTETS 338u
 
-#define MCS_AT_NAME 0u            /* 128 octets, of which the first MCS_AT_NAME_LENGTH says are the name; those behind it mean nothing */
+#define MCS_AT_NAME 0u            /* 128 octets, of which the first MCS_AT_NAME_LENGTH says are the name. Those behind it mean nothing:
+                                   * mcs_start makes them 0, and every other call leaves those that no name covers as they were */
 #define MCS_AT_NAME_LENGTH 128u   /* 1 octet, 0 to 128 */
 #define MCS_AT_CCID 129u          /* 1 octet */
 #define MCS_AT_MEDIA_STATE 130u   /* 1 octet */
@@ -183,7 +190,10 @@ extern "C" {
 #define MCS_IN_READ 14u           /* 4 octets: bit c where characteristic c was read at 0 since connecting and has not changed since */
 #define MCS_IN_MARK 18u           /* 4 octets: the slot that was served last, 0 to 9 */
 #define MCS_IN_WAITING 22u        /* 8 octets: how many results wait, 0 to 8 */
-#define MCS_IN_RESULTS 30u        /* 8 times 2 octets: requested opcode, result; oldest first; those that do not wait mean nothing */
+#define MCS_IN_RESULTS 30u        /* 8 times 2 octets: requested opcode, result; oldest first. Those that do not wait mean nothing: start,
+                                   * connect and disconnect make a record's results 0; a new result is written over the first of
+                                   * them; a take that hands one out moves all eight forward by one and makes the last 0, 0;
+                                   * everything else, unsubscribing too, leaves them where they were */
 
 /* ---- Calls ------------------------------------------------------------------------------------------------------------------
  * The catalogue is lent to every call but card load and cue sheet: three tables of words and the text, lengths in words and in

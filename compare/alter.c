@@ -1,0 +1,127 @@
+#include "alter.h"
+#include "blocks.h"
+#include "lend.h"
+
+#include <string.h>
+
+void remember(run *r)
+{
+    memcpy(r->kept_octets, r->octets, sizeof r->octets);
+    memcpy(&r->kept_second, &r->second, sizeof r->second);
+    r->undos = 0;
+}
+
+static void put_back(run *r)
+{
+    memcpy(r->octets, r->kept_octets, sizeof r->octets);
+    memcpy(&r->second, &r->kept_second, sizeof r->second);
+    while (r->undos > 0) {
+        const undo *u = &r->undone[--r->undos];
+        if (u->kind == POKE_TABLE) {
+            set_table_entry(&r->lent, u->who, u->number, u->what);
+        } else {
+            r->lent.length[u->who] = u->what;
+        }
+        table_changed(r, u->who);
+    }
+}
+
+static void note_undo(run *r, const step *s, uint32_t what)
+{
+    undo *u = &r->undone[r->undos++];
+    u->kind = s->kind;
+    u->who = s->who;
+    u->number = s->number;
+    u->what = what;
+    table_changed(r, s->who);
+}
+
+static void alter_state(run *r, const step *s)
+{
+    uint32_t at = s->kind == SET_STATE ? 0 : s->number;
+    if (at <= MCS_STATE_OCTETS && s->length <= MCS_STATE_OCTETS - at) {
+        memcpy(r->octets + at, s->octets, s->length);
+        state_of_octets(r->octets, &r->second);
+    }
+}
+
+static void alter_tables(run *r, const step *s)
+{
+    if (r->undos == UNDO_ROOM) {
+        return;
+    }
+    if (s->kind == POKE_TABLE && s->number < table_room(s->who)) {
+        note_undo(r, s, table_entry(&r->lent, s->who, s->number));
+        set_table_entry(&r->lent, s->who, s->number, s->what);
+    }
+    if (s->kind == TABLE_LENGTH && s->number <= table_room(s->who)) {
+        note_undo(r, s, r->lent.length[s->who]);
+        r->lent.length[s->who] = s->number;
+    }
+}
+
+static void alter_card(run *r, const step *s)
+{
+    card *c = &r->lent_card;
+    if (s->kind == MAKE_CARD) {
+        fill_card(&r->lent, s->number, c);
+    }
+    if (s->kind == POKE_CARD && s->number < CARD_ROOM) {
+        c->octets[s->number] = (uint8_t)s->what;
+    }
+    if (s->kind == CARD_LENGTH && s->number <= CARD_ROOM) {
+        c->length = s->number;
+    }
+    if (s->kind == SWAP_BLOCKS && s->who < MOST_BLOCKS && s->what < MOST_BLOCKS) {
+        swap_blocks(c, s->who, s->what);
+    }
+    if (s->kind == MEND_BLOCK && s->number < MOST_BLOCKS) {
+        mend_block(c, s->number);
+    }
+}
+
+static void alter_sheet(run *r, const step *s)
+{
+    sheet *c = &r->lent_sheet;
+    if (s->kind == NEW_SHEET) {
+        c->length = 0;
+    }
+    if (s->kind == ADD_TEXT) {
+        add_text(c, s->octets, s->length, s->number);
+    }
+    if (s->kind == ADD_STARTS) {
+        add_starts(c, s->who, s->what, s->number, s->octets, s->length);
+    }
+    if (s->kind == CUT_SHEET && s->number < c->length) {
+        c->length = s->number;
+    }
+}
+
+void alter(run *r, const step *s)
+{
+    switch (s->kind) {
+    case SET_STATE:
+    case POKE_STATE:
+        alter_state(r, s);
+        break;
+    case POKE_TABLE:
+    case TABLE_LENGTH:
+        alter_tables(r, s);
+        break;
+    case NEW_SHEET:
+    case ADD_TEXT:
+    case ADD_STARTS:
+    case CUT_SHEET:
+        alter_sheet(r, s);
+        break;
+    case KEEP:
+        remember(r);
+        break;
+    case PUT_BACK:
+        put_back(r);
+        break;
+    default:
+        alter_card(r, s);
+        break;
+    }
+}

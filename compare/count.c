@@ -1,0 +1,397 @@
+#include "count.h"
+#include "octets.h"
+#include "service.h"
+
+#include <stdarg.h>
+#include <string.h>
+
+#define NUMBERS 256u /* the greatest is 228; what is beyond is counted as 255 */
+#define MOVES 5u
+#define LEAST_TRUTHS 500u
+enum { CONNECTED, ENCRYPTED, ENCRYPTED_UNCONNECTED, TRUTHS };
+enum { NO_STARTS, NO_ROOM_LEFT, LONGEST, ONE_TOO_LONG, BOUNDS };
+
+static unsigned long calls, by_share[SHARES], by_number[CALLS][NUMBERS], by_twice[CALLS][2], unchanged[CALLS],
+    by_dead[DEAD_RULES][CALLS];
+static unsigned long by_media[4], by_order[9], by_rung[256], by_result[OPCODES + 1][5], by_move[9][MOVES][5];
+static unsigned long taken[CHARACTERISTIC_BOUND], read_whole[CHARACTERISTIC_BOUND], read_on[CHARACTERISTIC_BOUND],
+    written[CHARACTERISTIC_BOUND];
+static unsigned long by_truth[TRUTHS][REF_CLIENTS], by_truth_value[NUMBERS], by_mended[CALLS][NUMBERS];
+static unsigned long by_next[3][4], by_bound[BOUNDS];
+
+static uint32_t counted_as(uint32_t number) { return number < NUMBERS ? number : NUMBERS - 1u; }
+
+/* ---- Accepted calls */
+
+/* The code is seen where the writer is subscribed to the results: it is the last of those that wait. */
+static void count_result(const run *r, const step *s)
+{
+    const ref_client *c = &r->second.clients[s->who];
+    if ((c->subscribed >> (REF_SLOTS - 1u)) != 0 && c->waiting > 0) {
+        uint32_t result = c->results[c->waiting - 1u].code % 5u;
+        by_result[opcode_place(s->octets[0])][result]++;
+        if (s->octets[0] >= MCS_OPCODE_PREVIOUS_TRACK && s->octets[0] <= MCS_OPCODE_GOTO_TRACK) {
+            by_move[r->second.order % 9u][s->octets[0] - MCS_OPCODE_PREVIOUS_TRACK][result]++;
+        }
+    }
+}
+
+static void count_accepted(const run *r, const step *s)
+{
+    if (s->kind == READ) {
+        (s->number == 0 ? read_whole : read_on)[s->what % CHARACTERISTIC_BOUND]++;
+    }
+    if (s->kind == TAKE) {
+        taken[r->second_said.served[1] % CHARACTERISTIC_BOUND]++;
+    }
+    if (s->kind == WRITE) {
+        written[s->what % CHARACTERISTIC_BOUND]++;
+    }
+    if (s->kind == WRITE && s->what == MCS_CONTROL_POINT) {
+        count_result(r, s);
+    }
+    if (has_state(s->kind)) {
+        by_media[r->second.media & 3u]++;
+        by_order[r->second.order % 9u]++;
+        by_rung[(uint8_t)r->second.seeking]++;
+    }
+    for (uint32_t rule = 0; rule < DEAD_RULES; rule++) {
+        by_dead[rule][s->kind] += r->seen_dead >> rule & 1u;
+    }
+}
+
+/* ---- Cue sheets: what would have come next, so that the order of the refusals is seen to matter; and those at a bound */
+
+static const uint8_t NEXT[4] = {0, MCS_BAD_LINE, MCS_NOT_RISING, MCS_MANY_STARTS};
+
+/* The number of the sheet without what it was refused for: cut to the limit, or with an empty line in that one's place. */
+static uint32_t next_number(const run *r, const step *s)
+{
+    static sheet rest;
+    static uint32_t starts[STARTS_ROOM];
+    uint32_t count, line;
+    rest.length = r->lent_sheet.length;
+    memcpy(rest.octets, r->lent_sheet.octets, rest.length);
+    if (r->second_said.number == MCS_LONG_SHEET) {
+        rest.length = MCS_SHEET_OCTETS;
+    } else {
+        blank_line(&rest, r->second_said.line);
+    }
+    return ref_cue_sheet(rest.octets, rest.length, starts, s->room[0], &count, &line);
+}
+
+static void count_sheet(const run *r, const step *s)
+{
+    const answer *a = &r->second_said;
+    uint32_t octets = r->lent_sheet.length;
+    by_bound[NO_STARTS] += a->number == 0 && a->length == 0;
+    by_bound[NO_ROOM_LEFT] += a->number == 0 && a->length > 0 && a->length == s->room[0];
+    by_bound[LONGEST] += a->number == 0 && octets == MCS_SHEET_OCTETS;
+    by_bound[ONE_TOO_LONG] += a->number == MCS_LONG_SHEET && octets == MCS_SHEET_OCTETS + 1u;
+    if (a->number >= MCS_LONG_SHEET && a->number <= MCS_NOT_RISING) {
+        uint32_t next = next_number(r, s);
+        for (uint32_t k = 0; k < 4; k++) {
+            by_next[a->number - MCS_LONG_SHEET][k] += next == NEXT[k];
+        }
+    }
+}
+
+/* ---- A yes or no that is neither 1 nor 0: which octet, with what value, and the number of the same call without it, so that
+ * 201 is seen to come before that number */
+
+/* A state that only these octets make wrong; counted where it is one octet. */
+static void count_alone(const ref_state *s)
+{
+    uint32_t kind = 0, client = 0, found = 0;
+    uint8_t value = 0;
+    for (uint32_t k = 0; k < 2u * REF_CLIENTS; k++) {
+        const ref_client *c = &s->clients[k / 2u];
+        uint8_t truth = k % 2u == 0 ? c->connected : c->encrypted;
+        if (truth > 1) {
+            kind = k % 2u == 0 ? CONNECTED : c->connected != 0 ? ENCRYPTED : ENCRYPTED_UNCONNECTED;
+            client = k / 2u;
+            value = truth;
+            found++;
+        }
+    }
+    if (found == 1) {
+        by_truth[kind][client]++;
+        by_truth_value[value]++;
+    }
+}
+
+/* The second program's number for the call with a yes in each one's place, or a no where nobody is connected. */
+static uint32_t mended_number(const run *r, const step *s)
+{
+    static ref_state mended;
+    static uint8_t out[OUT_ROOM];
+    uint32_t word, served[3];
+    call c;
+    mended = r->second;
+    for (uint32_t k = 0; k < REF_CLIENTS; k++) {
+        ref_client *client = &mended.clients[k];
+        client->connected = client->connected != 0;
+        client->encrypted = client->encrypted > 1 ? client->connected : client->encrypted;
+    }
+    c = (call){.kind = s->kind, .who = s->who, .what = s->what, .number = s->number, .catalogue = lent(&r->lent),
+               .octets = s->octets, .length = s->length, .state = &mended, .out = out, .out_len = s->room[0], .word = &word,
+               .served = served};
+    return call_second(&c);
+}
+
+static void count_truths(const run *r, const step *s)
+{
+    uint32_t number = r->second_said.number;
+    if (number == MCS_BAD_STATE) {
+        number = mended_number(r, s);
+        if (number != MCS_BAD_STATE) {
+            count_alone(&r->second);
+        }
+    }
+    by_mended[s->kind][counted_as(number)]++;
+}
+
+void count_call(const run *r, const step *s, uint32_t share)
+{
+    uint32_t number = r->second_said.number;
+    calls++;
+    by_share[share]++;
+    by_number[s->kind][counted_as(number)]++;
+    by_twice[s->kind][number == 0] += s->twice;
+    unchanged[s->kind] += r->unchanged != 0;
+    if (number == 0) {
+        count_accepted(r, s);
+    }
+    if (s->kind == CUE_SHEET) {
+        count_sheet(r, s);
+    }
+    if (has_state(s->kind) && s->kind != START && !plain_truths(r->octets)) {
+        count_truths(r, s);
+    }
+}
+
+unsigned long calls_counted(void) { return calls; }
+
+/* ---- All counts, one after the other: printed, or looked at */
+
+static FILE *to;
+static int printing, asking_all, right;
+static char row_name[96];
+static const char *before; /* what is printed before the next count */
+
+static void row(const char *format, ...)
+{
+    va_list words;
+    va_start(words, format);
+    vsnprintf(row_name, sizeof row_name, format, words);
+    va_end(words);
+    before = ":";
+    if (printing) {
+        fprintf(to, "\n%s", row_name);
+    }
+}
+
+/* A count of the row that has to be at least so much, where all is asked; of 0 for what cannot be. */
+static void tell(unsigned long count, unsigned long least, const char *format, ...)
+{
+    char name[64];
+    va_list words;
+    va_start(words, format);
+    vsnprintf(name, sizeof name, format, words);
+    va_end(words);
+    if (printing && (least > 0 || count > 0)) {
+        fprintf(to, "%s %s %lu", before, name, count);
+        before = ",";
+    }
+    if (!printing && (least > 0 ? asking_all && count < least : count > 0)) {
+        fprintf(to, "compare: %s: %s: %lu times, not %s%lu\n", row_name, name, count, least > 0 ? "at least " : "", least);
+        right = 0;
+    }
+}
+
+/* The rows of document 01's table that can apply, of a cue sheet document 02's, in their order; 0, accepted, ends each list. */
+static const uint8_t ROWS[CALLS][12] = {
+    [START] = {200, 207, 0},
+    [SET_NAME] = {200, 201, 207, 0},
+    [ACTIVATE] = {200, 201, 208, 0},
+    [DEACTIVATE] = {200, 201, 0},
+    [ADVANCE] = {200, 201, 0},
+    [CONNECT] = {200, 201, 202, 204, 206, 0},
+    [DISCONNECT] = {200, 201, 202, 203, 0},
+    [SUBSCRIBE] = {200, 201, 202, 203, 0x01, 209, 0x0F, 0},
+    [UNSUBSCRIBE] = {200, 201, 202, 203, 0x01, 209, 0x0F, 0},
+    [READ] = {200, 205, 201, 202, 203, 0x01, 0x02, 0x0F, 0x80, 0x07, 0},
+    [WRITE] = {200, 201, 202, 203, 0x01, 0x03, 0x0F, 0x0D, 0x13, 0x11, 0},
+    [TAKE] = {200, 205, 201, 0},
+    [CARD_LOAD] = {210, 211, 212, 0},
+    [CUE_SHEET] = {225, 226, 227, 228, 0},
+};
+
+static void tell_numbers(uint32_t kind, const unsigned long counts[NUMBERS])
+{
+    for (uint32_t number = 0; number < NUMBERS; number++) {
+        unsigned long least = number == 0;
+        for (uint32_t k = 0; ROWS[kind][k] != 0; k++) {
+            least |= ROWS[kind][k] == number;
+        }
+        tell(counts[number], least, number == 0 ? "accepted" : number < 200 ? "0x%02X" : "%u", (unsigned)number);
+    }
+}
+
+/* An unknown opcode gives 2 alone. Only a neighbour and a Goto, of tracks and of groups, can be missing. */
+static int result_can_be(uint32_t place, uint32_t result)
+{
+    uint8_t opcode = place < OPCODES ? OPCODE[place] : 0;
+    if (opcode == 0 || result == 0) {
+        return result == MCS_RESULT_NOT_SUPPORTED;
+    }
+    return result != MCS_RESULT_NOT_COMPLETED ||
+           (opcode >= MCS_OPCODE_PREVIOUS_TRACK && (opcode & 15) != 2 && (opcode & 15) != 3);
+}
+
+static void tell_player(void)
+{
+    static const char *const MOVE[MOVES] = {"Previous", "Next", "First", "Last", "Goto"};
+    static const int RUNG[8] = {-32, -16, -8, -4, 4, 8, 16, 32};
+    for (uint32_t k = 0; k <= OPCODES; k++) {
+        row("results of opcode %s", k < OPCODES ? mcs_opcode_words(OPCODE[k]) : "unknown");
+        for (uint32_t result = 0; result <= 4; result++) {
+            tell(by_result[k][result], (unsigned long)result_can_be(k, result), "%u", (unsigned)result);
+        }
+    }
+    /* "past an end, the other end in a repeat order, else result 4"; in order 1 there is no neighbour. */
+    for (uint32_t order = 1; order <= 8; order++) {
+        row("track moves in order %u", (unsigned)order);
+        for (uint32_t move = 0; move < MOVES; move++) {
+            tell(by_move[order][move][1], order != 1 || move > 1, "%s", MOVE[move]);
+            tell(by_move[order][move][4], order % 2u == 1 && move != 2 && move != 3, "%s not made", MOVE[move]);
+        }
+    }
+    row("after accepted calls");
+    for (uint32_t k = 0; k < 4; k++) {
+        tell(by_media[k], 1, "%s", mcs_media_state_words(k));
+    }
+    for (uint32_t k = 1; k <= 8; k++) {
+        tell(by_order[k], 1, "order %u", (unsigned)k);
+    }
+    for (uint32_t k = 0; k < 8; k++) {
+        tell(by_rung[(uint8_t)RUNG[k]], 1, "seeking speed %d", RUNG[k]);
+    }
+}
+
+static void tell_characteristics(const char *name, const unsigned long *counts, uint32_t property)
+{
+    row("%s", name);
+    for (uint32_t k = 1; k < CHARACTERISTIC_BOUND; k++) {
+        tell(counts[k], (properties_of(k) & property) != 0, "%u", (unsigned)k);
+    }
+}
+
+static void tell_truths(void)
+{
+    static const char *const NAME[TRUTHS] = {"connected", "encrypted, connected", "encrypted, not connected"};
+    unsigned long rarest = by_truth_value[2];
+    for (uint32_t kind = SET_NAME; kind <= TAKE; kind++) {
+        row("%s with a yes or no that is neither, by its number without it", CALL_NAME[kind]);
+        tell_numbers(kind, by_mended[kind]);
+    }
+    for (uint32_t kind = 0; kind < TRUTHS; kind++) {
+        row("refused for a yes or no alone, %s, by client", NAME[kind]);
+        for (uint32_t k = 0; k < REF_CLIENTS; k++) {
+            tell(by_truth[kind][k], LEAST_TRUTHS, "%u", (unsigned)k);
+        }
+    }
+    for (uint32_t value = 2; value < NUMBERS; value++) {
+        rarest = by_truth_value[value] < rarest ? by_truth_value[value] : rarest;
+    }
+    row("refused for a yes or no alone");
+    tell(rarest, 1, "with the rarest octet of 2 to 255");
+}
+
+/* Octets that mean nothing, where they are seen to be as they have to be: by the calls that can show it. */
+static void tell_dead(void)
+{
+    enum { BUT_START = (2u << TAKE) - 2u, CLEARING = 1u << START | 1u << CONNECT | 1u << DISCONNECT };
+    static const struct {
+        const char *words;
+        uint32_t kinds;
+    } RULE[DEAD_RULES] = {
+        [TAIL_STAYS] = {"octets behind a name stay", BUT_START},
+        [TAIL_CLEARED] = {"octets behind a name become 0", 1u << START},
+        [RESULTS_STAY] = {"results that do not wait stay", BUT_START},
+        [RESULTS_CLEARED] = {"results become 0", CLEARING},
+        [RESULTS_MOVED] = {"results that do not wait move forward", 1u << TAKE},
+        [RESULT_ADDED] = {"a result is written over another", 1u << WRITE},
+        [RESULTS_DROPPED] = {"results are dropped and stay", 1u << UNSUBSCRIBE},
+    };
+    for (uint32_t rule = 0; rule < DEAD_RULES; rule++) {
+        row("%s", RULE[rule].words);
+        for (uint32_t kind = 0; kind < CALLS; kind++) {
+            tell(by_dead[rule][kind], RULE[rule].kinds >> kind & 1u, "%s", CALL_NAME[kind]);
+        }
+    }
+}
+
+static void tell_sheets(void)
+{
+    static const char *const NAME[BOUNDS] = {"accepted without starts", "accepted with no room left",
+                                             "accepted with 65,536 octets", "refused with 65,537 octets"};
+    for (uint32_t k = 0; k < 12; k++) {
+        if (k % 4u == 0) {
+            row("cue sheets with %u, by what would have come next", (unsigned)(MCS_LONG_SHEET + k / 4u));
+        }
+        tell(by_next[k / 4u][k % 4u], 1, "%u", (unsigned)NEXT[k % 4u]);
+    }
+    row("cue sheets");
+    for (uint32_t k = 0; k < BOUNDS; k++) {
+        tell(by_bound[k], 1, "%s", NAME[k]);
+    }
+}
+
+static void tell_all(void)
+{
+    static const char *const SHARE_NAME[SHARES] = {"histories",          "valid states",
+                                                   "damaged states",     "any octets as a state",
+                                                   "damaged catalogues", "any words as a catalogue",
+                                                   "cards",              "cue sheets"};
+    row("calls by where what they are lent came from");
+    for (uint32_t k = 0; k < SHARES; k++) {
+        tell(by_share[k], 1, "%s", SHARE_NAME[k]);
+    }
+    for (uint32_t kind = 0; kind < CALLS; kind++) {
+        row("%s", CALL_NAME[kind]);
+        tell_numbers(kind, by_number[kind]);
+    }
+    row("made twice, over two stacks");
+    for (uint32_t kind = 0; kind < CALLS; kind++) {
+        tell(by_twice[kind][1], 1, "%s accepted", CALL_NAME[kind]);
+        tell(by_twice[kind][0], 1, "refused");
+    }
+    /* A connect and a disconnect change the record's first octet; every other call can change nothing. */
+    row("accepted and changed nothing");
+    for (uint32_t kind = SET_NAME; kind <= TAKE; kind++) {
+        tell(unchanged[kind], kind != CONNECT && kind != DISCONNECT, "%s", CALL_NAME[kind]);
+    }
+    tell_dead();
+    tell_player();
+    tell_characteristics("takes by characteristic", taken, MCS_MAY_NOTIFY);
+    tell(taken[0], 1, "nothing owed");
+    tell_characteristics("reads at 0 by characteristic", read_whole, MCS_MAY_READ);
+    tell_characteristics("reads above 0 by characteristic", read_on, MCS_MAY_READ);
+    tell_characteristics("writes by characteristic", written, MCS_MAY_WRITE);
+    tell_truths();
+    tell_sheets();
+}
+
+int counts_are_right(FILE *out, int all)
+{
+    to = out;
+    asking_all = all;
+    right = 1;
+    printing = 1;
+    tell_all();
+    fprintf(out, "\n");
+    printing = 0;
+    tell_all();
+    return right;
+}

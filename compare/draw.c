@@ -1,0 +1,187 @@
+#include "draw.h"
+#include "arguments.h"
+#include "random_state.h"
+#include "service.h"
+#include "words.h"
+
+#include <string.h>
+
+/* In the order of the calls: start, set name, activate, deactivate, advance, connect, disconnect, subscribe, unsubscribe,
+ * read, write, take. */
+static const uint32_t MOODS[][CARD_LOAD] = {
+    {1, 12, 20, 2, 50, 16, 4, 50, 8, 60, 160, 120}, /* a bit of all */
+    {0, 8, 8, 1, 30, 4, 1, 10, 1, 10, 200, 40},     /* pressing buttons, so that results pile up */
+    {0, 8, 6, 1, 20, 4, 0, 10, 2, 10, 100, 140},    /* handing out what falls due */
+    {0, 6, 4, 1, 20, 4, 1, 4, 2, 200, 30, 10},      /* reading, also in pieces */
+    {0, 2, 8, 1, 150, 2, 0, 4, 1, 20, 100, 40},     /* playing and seeking */
+    {1, 6, 6, 2, 10, 60, 20, 120, 30, 20, 60, 60},  /* coming and going */
+};
+static const uint32_t EVEN[CARD_LOAD] = {1, 1, 1, 1, 1, 1, 1, 1, 1, 1, 1, 1};
+
+static mood mood_of(const uint32_t *weight, uint32_t wrong)
+{
+    mood m;
+    memcpy(m.weight, weight, sizeof m.weight);
+    m.wrong = wrong;
+    return m;
+}
+
+mood even_mood(uint32_t wrong) { return mood_of(EVEN, wrong); }
+mood random_mood(dice *d, uint32_t wrong) { return mood_of(MOODS[below(d, sizeof MOODS / sizeof MOODS[0])], wrong); }
+
+/* ---- What a write, and a read, is about */
+
+static void draw_control(dice *d, const run *r, uint32_t wrong, step *s)
+{
+    uint8_t opcode = OPCODE[below(d, OPCODES)];
+    if (one_in(d, 4)) {
+        opcode = (uint8_t)ONE_OF(d, 0x10, 0x24, 0x34, 0x44); /* their numbers make more cases */
+    }
+    if (r->second.media == REF_SEEKING && one_in(d, 4)) {
+        opcode = (uint8_t)ONE_OF(d, 0x03, 0x04); /* so that the end rungs are reached */
+    }
+    if (one_in(d, 24)) {
+        opcode =
+            (uint8_t)ONE_OF(d, 0x00, 0x06, 0x0F, 0x11, 0x14, 0x1F, 0x25, 0x2F, 0x35, 0x45, 0x50, 0x7F, 0x80, 0x81, 0xFF);
+        s->length = between(d, 1, 5);
+    } else {
+        s->length = carries_number(opcode) ? 5 : 1;
+    }
+    s->octets[0] = opcode;
+    put_word(s->octets + 1, some_number(d, reach(r, opcode)));
+    if (one_in(d, wrong)) {
+        s->length = ONE_OF(d, 0, 1, 2, 3, 4, 5, 6, 7, 9, 257, 261);
+    }
+}
+
+static void draw_write(dice *d, const run *r, uint32_t wrong, step *s)
+{
+    uint32_t kind = below(d, 16);
+    memset(s->octets, 0, 264);
+    if (one_in(d, wrong)) {
+        s->what = one_in(d, 2) ? no_characteristic(d) : ONE_OF(d, 1, 4, 5, 6, 9, 16, 17, 19, 22);
+        s->length = below(d, 6);
+    } else if (kind < 10) {
+        s->what = MCS_CONTROL_POINT;
+        draw_control(d, r, wrong, s);
+    } else if (kind < 12) {
+        s->what = MCS_POSITION;
+        s->length = one_in(d, wrong) ? ONE_OF(d, 0, 1, 2, 3, 5, 6, 8, 260) : 4;
+        put_word(s->octets, one_in(d, 2) && has_track(r) ? random_position(d, &r->lent, r->second.track)
+                                                         : some_number(d, reach(r, 0x10)));
+    } else if (kind < 14) {
+        s->what = MCS_PLAYBACK_SPEED;
+        s->length = one_in(d, wrong) ? ONE_OF(d, 0, 2, 4, 257) : 1;
+        s->octets[0] = (uint8_t)(one_in(d, 2) ? ONE_OF(d, 0, 64, 0x80, 0x7F, 0xFF) : any_word(d));
+    } else {
+        s->what = MCS_PLAYING_ORDER;
+        s->length = one_in(d, wrong) ? ONE_OF(d, 0, 2, 4, 257) : 1;
+        s->octets[0] = (uint8_t)(one_in(d, wrong) ? ONE_OF(d, 0, 9, 10, 16, 128, 255) : between(d, 1, 8));
+    }
+}
+
+static void draw_read(dice *d, const run *r, uint32_t wrong, step *s)
+{
+    uint32_t fresh = s->who < REF_CLIENTS ? r->second.clients[s->who].fresh : 0, length;
+    s->room[0] = some_room(d, wrong);
+    s->what = one_in(d, 3) ? ONE_OF(d, MCS_NAME, MCS_TITLE) : readable_at(below(d, READABLES));
+    if (one_in(d, wrong)) {
+        s->what = one_in(d, 2) ? no_characteristic(d) : ONE_OF(d, MCS_TRACK_CHANGED, MCS_CONTROL_POINT);
+    }
+    if (one_in(d, 2)) {
+        return; /* at 0 */
+    }
+    /* Where one was read at 0 and has not changed, one may go on reading. */
+    for (uint32_t k = 0; k < 4 && s->what < 32 && (fresh >> s->what & 1u) == 0; k++) {
+        s->what = readable_at(below(d, READABLES));
+    }
+    length = value_length(r, s->what);
+    s->number = one_in(d, 4) ? ONE_OF(d, 1, 2, 22, 44, 128, 129, 256, 0x80000000u, 0xFFFFFFFFu) : below(d, length + 2u);
+    if (one_in(d, 4)) {
+        s->number = length + below(d, 2);
+    }
+}
+
+/* ---- Calls */
+
+#define ONE_TWICE_IN 4u
+
+void blank_step(dice *d, uint32_t kind, step *s)
+{
+    uint32_t bits = any_word(d);
+    s->kind = (uint8_t)kind;
+    s->against = bits & 1u;
+    s->null = (uint8_t)(bits >> 1 & 1u);
+    s->twice = (bits >> 2) % ONE_TWICE_IN == 0;
+    s->fill = (uint8_t)(bits >> 8);
+    s->who = s->what = s->number = s->length = 0;
+    memset(s->room, 0, sizeof s->room);
+}
+
+void draw_this_call(dice *d, const run *r, uint32_t kind, uint32_t wrong, step *s)
+{
+    blank_step(d, kind, s);
+    switch (kind) {
+    case START:
+        some_name(d, r, wrong, s);
+        s->number = random_mask(d);
+        s->what = below(d, 256);
+        break;
+    case SET_NAME:
+        some_name(d, r, wrong, s);
+        break;
+    case ACTIVATE:
+        s->number = some_group(d, r, wrong);
+        break;
+    case ADVANCE:
+        s->number = some_time(d, r);
+        break;
+    case CONNECT:
+        s->who = some_client(d, r, 0, wrong);
+        s->number = one_in(d, wrong) ? ONE_OF(d, 0, 22, 518, 0x10017u, 0x80000017u, 0xFFFFFFFFu) : random_mtu(d);
+        s->what = one_in(d, 8) ? 0 : ONE_OF(d, 1, 1, 2, 255);
+        break;
+    case DISCONNECT:
+        s->who = some_client(d, r, 1, wrong);
+        break;
+    case SUBSCRIBE:
+    case UNSUBSCRIBE:
+        s->who = some_client(d, r, 1, wrong);
+        s->what = slot_at(below(d, SLOTS));
+        if (one_in(d, wrong)) {
+            s->what = one_in(d, 2) ? no_characteristic(d)
+                                   : ONE_OF(d, MCS_ORDERS_SUPPORTED, MCS_OPCODES_SUPPORTED, MCS_CONTENT_CONTROL_ID);
+        }
+        break;
+    case READ:
+        s->who = some_client(d, r, 1, wrong);
+        draw_read(d, r, wrong, s);
+        break;
+    case WRITE:
+        s->who = some_writer(d, r, wrong);
+        draw_write(d, r, wrong, s);
+        break;
+    case TAKE:
+        s->room[0] = some_room(d, wrong);
+        break;
+    default:
+        break;
+    }
+}
+
+void draw_call(dice *d, const run *r, const mood *m, step *s)
+{
+    uint32_t all = 0, at, kind = 0;
+    for (uint32_t k = 0; k < CARD_LOAD; k++) {
+        all += m->weight[k];
+    }
+    at = below(d, all);
+    while (at >= m->weight[kind]) {
+        at -= m->weight[kind++];
+    }
+    /* Most is to be seen while there is a current track. */
+    if (r->second.media == REF_INACTIVE && kind != START && one_in(d, 4)) {
+        kind = ACTIVATE;
+    }
+    draw_this_call(d, r, kind, m->wrong, s);
+}

@@ -1,0 +1,202 @@
+#include "expect.h"
+#include "service.h"
+#include "words.h"
+
+#include <string.h>
+
+run *both;
+static FILE *report;
+static unsigned long wrong, expected;
+static const char *now;
+
+void now_trying(const char *what) { now = what; }
+
+void expect(const char *what, int64_t is, int64_t should)
+{
+    expected++;
+    if (is != should) {
+        fprintf(report, "compare: %s: %s is %lld, not %lld\n", now, what, (long long)is, (long long)should);
+        wrong++;
+    }
+}
+
+unsigned long expect_on(run *r, FILE *out, void (*cases)(void))
+{
+    both = r;
+    report = out;
+    wrong = expected = 0;
+    cases();
+    fprintf(out, "compare: %lu expectations, %lu not met\n", expected, wrong);
+    return expected > 0 ? wrong : 1;
+}
+
+step blank(uint32_t kind)
+{
+    step s;
+    memset(&s, 0, sizeof s);
+    s.kind = (uint8_t)kind;
+    s.twice = 1;
+    s.fill = 0xA5;
+    s.room[0] = MCS_OUTPUT_OCTETS;
+    return s;
+}
+
+step with_octets(step s, const void *octets, uint32_t length)
+{
+    s.length = length;
+    memcpy(s.octets, octets, length);
+    return s;
+}
+
+void makes(step s, uint32_t number)
+{
+    s.fill = (uint8_t)(s.fill ^ (expected & 1u)); /* so that the stacks are painted in both ways */
+    if (!do_step(both, &s)) {
+        fprintf(report, "compare: %s: %s: %s\n", now, CALL_NAME[s.kind], both->difference);
+        wrong++;
+    }
+    expect("the number", both->library_said.number, number);
+}
+
+/* ---- Steps */
+
+void start_desk(uint32_t mask)
+{
+    step s = with_octets(blank(START), "Desk", 4);
+    s.number = mask;
+    s.what = 7;
+    makes(s, 0);
+}
+
+void activate(uint32_t group, uint32_t number)
+{
+    step s = blank(ACTIVATE);
+    s.number = group;
+    makes(s, number);
+}
+
+void connect_client(uint32_t client)
+{
+    step s = blank(CONNECT), subscribe = blank(SUBSCRIBE);
+    s.who = subscribe.who = client;
+    s.number = 23;
+    s.what = 1;
+    makes(s, 0);
+    subscribe.what = MCS_CONTROL_POINT;
+    makes(subscribe, 0);
+}
+
+void set_name(const char *name) { makes(with_octets(blank(SET_NAME), name, (uint32_t)strlen(name)), 0); }
+
+void write_value(uint32_t characteristic, const void *octets, uint32_t length)
+{
+    step s = with_octets(blank(WRITE), octets, length);
+    s.what = characteristic;
+    makes(s, 0);
+}
+
+void write_position(int64_t n)
+{
+    uint8_t value[4];
+    put_word(value, (uint32_t)n);
+    write_value(MCS_POSITION, value, 4);
+}
+
+void read_name(uint32_t offset, uint32_t number)
+{
+    step s = blank(READ);
+    s.what = MCS_NAME;
+    s.number = offset;
+    makes(s, number);
+}
+
+void takes(uint32_t client, uint32_t characteristic, const void *octets, uint32_t length)
+{
+    const answer *a = &both->library_said;
+    makes(blank(TAKE), 0);
+    expect("the client served", a->served[0], client);
+    expect("the characteristic served", a->served[1], characteristic);
+    expect("the octets served", a->served[2], length);
+    if (a->served[2] == length && length > 0) {
+        expect("octets that differ", memcmp(a->out, octets, length) != 0, 0);
+    }
+}
+
+void commands(uint8_t opcode, int64_t n, uint8_t result)
+{
+    uint8_t value[5], answered[2] = {opcode, result};
+    write_value(MCS_CONTROL_POINT, value, control_value(value, opcode, n));
+    takes(0, MCS_CONTROL_POINT, answered, 2);
+}
+
+void poke(uint32_t at, const void *octets, uint32_t length)
+{
+    step s = with_octets(blank(POKE_STATE), octets, length);
+    s.number = at;
+    do_step(both, &s);
+}
+
+void poke_number(uint32_t at, uint32_t number, uint32_t octets)
+{
+    uint8_t word[4];
+    put_word(word, number);
+    poke(at, word, octets);
+}
+
+/* ---- States */
+
+ref_state meant(void)
+{
+    ref_state s;
+    state_of_octets(both->octets, &s);
+    return s;
+}
+
+void stands_at(uint32_t group, uint32_t track, uint32_t position)
+{
+    ref_state s = meant();
+    expect("the group", s.group, group);
+    expect("the track", s.track, track);
+    expect("the position", s.position, position);
+}
+
+void stand(const char *what, uint8_t order, uint32_t track, uint32_t position)
+{
+    static tables sample;
+    now_trying(what);
+    sample_catalogue(&sample);
+    begin_run(both, &sample);
+    start_desk(MCS_ALL_OPCODES);
+    activate(1, 0);
+    connect_client(0);
+    commands(MCS_OPCODE_GOTO_TRACK, (int64_t)track + 1, MCS_RESULT_SUCCESS);
+    write_value(MCS_PLAYING_ORDER, &order, 1);
+    write_position(position);
+    stands_at(1, track, position);
+}
+
+void four_clients(const char *what)
+{
+    step s = blank(CONNECT);
+    stand(what, 3, 0, 0);
+    connect_client(1);
+    s.who = 2;
+    s.number = 23;
+    makes(s, 0);
+}
+
+void calls_give(uint32_t number)
+{
+    step small = blank(TAKE), nobody = blank(DISCONNECT), absent = blank(DISCONNECT), name = blank(SET_NAME);
+    small.room[0] = MCS_OUTPUT_OCTETS - 1u;
+    nobody.who = 4;
+    absent.who = 3;
+    name.length = 129;
+    makes(blank(DEACTIVATE), number);
+    makes(small, number == MCS_BAD_CATALOGUE ? number : MCS_SMALL_OUTPUT);
+    small.kind = READ;
+    makes(small, number == MCS_BAD_CATALOGUE ? number : MCS_SMALL_OUTPUT);
+    makes(nobody, number == 0 ? MCS_NO_CLIENT : number);
+    makes(absent, number == 0 ? MCS_NOT_CONNECTED : number);
+    makes(name, number == 0 ? MCS_BAD_NAME : number);
+}

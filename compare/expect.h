@@ -1,0 +1,57 @@
+/* Calls on both programs with what the documents say of them. */
+#ifndef EXPECT_H
+#define EXPECT_H
+
+#include "run.h"
+
+#include <stdio.h>
+
+/* The run of the cases, and where complaints go. Returns how many expectations were not met; 1 where there was none. */
+extern run *both;
+unsigned long expect_on(run *r, FILE *out, void (*cases)(void));
+
+/* The case that is tried now. */
+void now_trying(const char *what);
+void expect(const char *what, int64_t is, int64_t should);
+
+/* A step of that kind with no arguments, and room for an output. */
+step blank(uint32_t kind);
+step with_octets(step s, const void *octets, uint32_t length);
+
+/* Makes the call on both, which have to agree and to return this number. The library's is made twice, at either page. */
+void makes(step s, uint32_t number);
+
+/* ---- Steps with their arguments; those without a number are accepted */
+
+void start_desk(uint32_t mask);
+void activate(uint32_t group, uint32_t number);
+void connect_client(uint32_t client); /* encrypted, and subscribed to the control point */
+void set_name(const char *name);
+void write_value(uint32_t characteristic, const void *octets, uint32_t length);
+void write_position(int64_t n);
+void read_name(uint32_t offset, uint32_t number);
+void takes(uint32_t client, uint32_t characteristic, const void *octets, uint32_t length);
+
+/* A control write by client 0, whose result is then taken. */
+void commands(uint8_t opcode, int64_t n, uint8_t result);
+
+/* Octets of the state; a number of four or fewer octets there. */
+void poke(uint32_t at, const void *octets, uint32_t length);
+void poke_number(uint32_t at, uint32_t number, uint32_t octets);
+
+/* ---- Where the library's state stands */
+
+ref_state meant(void);
+void stands_at(uint32_t group, uint32_t track, uint32_t position);
+
+/* A desk on the sample: group 1 in that order, on that track at that position, with client 0. */
+void stand(const char *what, uint8_t order, uint32_t track, uint32_t position);
+
+/* Client 0 and 1 are connected encrypted, 2 unencrypted, 3 not at all. */
+void four_clients(const char *what);
+
+/* A call that is accepted where the state stands, two with 205, and three with a row behind 201: all refused with the number,
+ * or each as it has to be where it is 0. */
+void calls_give(uint32_t number);
+
+#endif

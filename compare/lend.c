@@ -1,0 +1,168 @@
+#include "lend.h"
+#include "guard.h"
+
+#include <string.h>
+
+/* Where a call has the pointer and the length of a buffer, the octets of an entry, and the most entries, which are always lent
+ * where there is no length. */
+#define NO_LENGTH ((size_t)-1)
+#define TABLE(part, name, entry, most, words)                                                                              \
+    {offsetof(call, part.name), offsetof(call, part.name##_len), entry, most, words}
+#define TABLES_OF(part, words)                                                                                             \
+    TABLE(part, groups, 4, GROUPS_ROOM, words), TABLE(part, tracks, 4, TRACKS_ROOM, words),                                \
+        TABLE(part, segments, 4, SEGMENTS_ROOM, words), TABLE(part, text, 1, TEXT_ROOM, words)
+static const struct {
+    size_t pointer, length, entry, most;
+    const char *words;
+} BUFFER[BUFFERS] = {
+    TABLES_OF(catalogue, "the catalogue"),
+    {offsetof(call, state), NO_LENGTH, 1, MCS_STATE_OCTETS, "the state"},
+    {offsetof(call, octets), offsetof(call, length), 1, SHEET_ROOM, "the name, value, card or cue sheet"},
+    {offsetof(call, out), offsetof(call, out_len), 1, OUT_ROOM, "the output"},
+    {offsetof(call, word), NO_LENGTH, 4, 1, "the length of a read or count of a cue sheet"},
+    {offsetof(call, served), NO_LENGTH, 4, 3, "what a take served"},
+    {offsetof(call, counts), NO_LENGTH, 4, 4, "the counts of a card load"},
+    {offsetof(call, line), NO_LENGTH, 4, 1, "the line of a cue sheet"},
+    TABLES_OF(room, "a loaded table"),
+    {offsetof(call, starts), offsetof(call, starts_len), 4, STARTS_ROOM, "the starts"},
+};
+
+void *lent_at(const call *c, uint32_t buffer)
+{
+    void *at;
+    memcpy(&at, (const uint8_t *)c + BUFFER[buffer].pointer, sizeof at);
+    return at;
+}
+
+void lend_at(call *c, uint32_t buffer, void *at) { memcpy((uint8_t *)c + BUFFER[buffer].pointer, &at, sizeof at); }
+
+void lend_entries(call *c, uint32_t buffer, size_t entries)
+{
+    memcpy((uint8_t *)c + BUFFER[buffer].length, &entries, sizeof entries);
+}
+
+size_t lent_entries(const call *c, uint32_t buffer)
+{
+    size_t entries;
+    if (BUFFER[buffer].length == NO_LENGTH) {
+        return lent_at(c, buffer) == NULL ? 0 : BUFFER[buffer].most;
+    }
+    memcpy(&entries, (const uint8_t *)c + BUFFER[buffer].length, sizeof entries);
+    return entries;
+}
+
+size_t lent_octets(const call *c, uint32_t buffer) { return lent_entries(c, buffer) * BUFFER[buffer].entry; }
+
+/* Every buffer has pages of its own for either page that it touches, so that what is behind one is never another, and a
+ * catalogue is laid down once and not at each call. */
+static region guarded[2][BUFFERS];
+
+void prepare_lending(void)
+{
+    for (uint32_t k = 0; k < 2u * BUFFERS; k++) {
+        guarded[k % 2u][k / 2u] = make_region(BUFFER[k / 2u].most * BUFFER[k / 2u].entry);
+    }
+}
+
+void table_changed(run *r, uint32_t table) { r->stale[AGAINST_END][table] = r->stale[AGAINST_START][table] = 1; }
+
+int has_output(uint32_t kind) { return kind == READ || kind == TAKE; }
+
+uint8_t filled(uint8_t fill, uint32_t at) { return (uint8_t)(fill + 37u * at); }
+
+static uint32_t filled_word(const step *s, uint32_t at) { return (s->fill + at) * 0x9E3779B1u; }
+
+static void fill_answer(const step *s, answer *a)
+{
+    a->number = 0;
+    a->length = 0x01010101u * s->fill;
+    a->served[0] = a->served[1] = a->served[2] = a->length + 1u;
+    a->counts[0] = a->counts[1] = a->counts[2] = a->counts[3] = a->length + 2u;
+    a->line = a->length + 3u;
+    for (uint32_t k = 0; has_output(s->kind) && k < OUT_ROOM; k++) {
+        a->out[k] = filled(s->fill, k);
+    }
+}
+
+static void lend_card(run *r, const step *s, call *c)
+{
+    c->octets = r->lent_card.octets;
+    c->length = r->lent_card.length;
+    c->counts = r->second_said.counts;
+    c->room = whole_room(&r->loaded);
+    for (uint32_t table = 0; table < TABLES; table++) {
+        lend_entries(c, ROOM + table, s->room[table]);
+        for (uint32_t k = 0; k < s->room[table]; k++) {
+            set_table_entry(&r->loaded, table, k, filled_word(s, k));
+        }
+    }
+}
+
+static void lend_sheet(run *r, const step *s, call *c)
+{
+    c->octets = r->lent_sheet.octets;
+    c->length = r->lent_sheet.length;
+    c->line = &r->second_said.line;
+    c->starts = r->starts;
+    c->starts_len = s->room[0];
+    for (uint32_t k = 0; k < s->room[0]; k++) {
+        r->starts[k] = filled_word(s, k);
+    }
+}
+
+void lend_plainly(run *r, const step *s, call *c)
+{
+    answer *a = &r->second_said;
+    memset(c, 0, sizeof *c);
+    c->kind = s->kind;
+    c->who = s->who;
+    c->what = s->what;
+    c->number = s->number;
+    c->octets = s->octets;
+    c->length = s->length;
+    fill_answer(s, a);
+    if (has_state(s->kind)) {
+        c->catalogue = lent(&r->lent);
+        c->state = r->octets;
+    }
+    if (has_output(s->kind)) {
+        c->out = a->out;
+        c->out_len = s->room[0];
+    }
+    c->word = s->kind == READ || s->kind == CUE_SHEET ? &a->length : NULL;
+    c->served = s->kind == TAKE ? a->served : NULL;
+    if (s->kind == CARD_LOAD) {
+        lend_card(r, s, c);
+    } else if (s->kind == CUE_SHEET) {
+        lend_sheet(r, s, c);
+    }
+}
+
+void lend_guarded(run *r, const step *s, const call *plain, uint32_t against, call *c)
+{
+    *c = *plain;
+    for (uint32_t k = 0; k < BUFFERS; k++) {
+        size_t octets = lent_octets(plain, k);
+        void *to = place_in(&guarded[against][k], against, octets);
+        if (octets > 0 && (k >= TABLES || r->stale[against][k])) {
+            memcpy(to, lent_at(plain, k), octets);
+        }
+        if (octets > 0 && k < TABLES) {
+            r->stale[against][k] = 0;
+        }
+        if (lent_at(plain, k) != NULL) {
+            lend_at(c, k, octets == 0 && s->null ? NULL : to);
+        }
+    }
+}
+
+const char *differing(const call *one, const call *other, int states)
+{
+    for (uint32_t k = 0; k < BUFFERS; k++) {
+        size_t octets = lent_octets(one, k);
+        if ((k != THE_STATE || states) && octets > 0 && memcmp(lent_at(one, k), lent_at(other, k), octets) != 0) {
+            return BUFFER[k].words;
+        }
+    }
+    return NULL;
+}

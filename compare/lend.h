@@ -1,0 +1,38 @@
+/* What is lent to each program: to the second program in plain memory, to the library copies in guarded memory. */
+#ifndef LEND_H
+#define LEND_H
+
+#include "run.h"
+
+/* What calls are lent, inputs and outputs. The tables of a catalogue come first, by their numbers. */
+enum { THE_STATE = TABLES, OCTETS, OUTPUT, WORD, SERVED, COUNTS, LINE, ROOM, STARTS = ROOM + TABLES, BUFFERS };
+
+/* Where a buffer of a call lies, its entries, which are words or octets, and its octets. One of a fixed size has none where the
+ * call is not lent it. */
+void *lent_at(const call *c, uint32_t buffer);
+size_t lent_entries(const call *c, uint32_t buffer);
+size_t lent_octets(const call *c, uint32_t buffer);
+void lend_at(call *c, uint32_t buffer, void *at);
+void lend_entries(call *c, uint32_t buffer, size_t entries); /* of one that is not of a fixed size */
+
+/* Once, before the first run. */
+void prepare_lending(void);
+
+/* The guarded copies of a table are no longer what is lent. */
+void table_changed(run *r, uint32_t table);
+
+/* The call of a step in plain memory, its outputs holding what `fill` says. Its state is the library's. */
+void lend_plainly(run *r, const step *s, call *c);
+
+/* The same call in guarded memory, against that page. There is one at a time for each page. */
+void lend_guarded(run *r, const step *s, const call *plain, uint32_t against, call *c);
+
+/* What differs in the lent buffers of two calls of one step, in words; a null pointer where nothing does. The states are
+ * compared where it is asked for. */
+const char *differing(const call *one, const call *other, int states);
+
+/* Whether a call is lent an output, and what an output holds before the call. */
+int has_output(uint32_t kind);
+uint8_t filled(uint8_t fill, uint32_t at);
+
+#endif

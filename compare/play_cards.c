@@ -1,0 +1,113 @@
+/* Cards: made of a catalogue, damaged, and loaded into tables of any room. */
+#include "blocks.h"
+#include "damage.h"
+#include "play.h"
+
+static int room_suffices(const run *r, const step *s)
+{
+    for (uint32_t table = 0; table < TABLES; table++) {
+        if (s->room[table] < r->lent.length[table]) {
+            return 0;
+        }
+    }
+    return 1;
+}
+
+static void draw_room(play *p, step *s)
+{
+    for (uint32_t table = 0; table < TABLES; table++) {
+        uint32_t length = p->r->lent.length[table], record = record_entries(table);
+        s->room[table] = length + below(&p->d, 2u * record + 2u);
+        if (one_in(&p->d, 16)) {
+            s->room[table] = ONE_OF(&p->d, 0, length - 1u, length - record, length / 2u, table_room(table));
+        }
+        if (s->room[table] > table_room(table)) {
+            s->room[table] = table_room(table);
+        }
+    }
+}
+
+/* Whether the tables are loaded that the card was made of. */
+static int gave_the_catalogue(const run *r)
+{
+    const answer *a = &r->second_said;
+    return a->number == 0 && a->counts[GROUPS] == group_count(&r->lent) && a->counts[TRACKS] == track_count(&r->lent) &&
+           a->counts[SEGMENTS] == r->lent.length[SEGMENTS] && a->counts[TEXT] == r->lent.length[TEXT] &&
+           loaded_what_is_lent(r);
+}
+
+static void load(play *p, int right)
+{
+    step *s = new_step(p);
+    if (!p->going) {
+        return;
+    }
+    blank_step(&p->d, CARD_LOAD, s);
+    draw_room(p, s);
+    right = right && room_suffices(p->r, s);
+    take_step(p);
+    if (right && !gave_the_catalogue(p->r)) {
+        cannot_be(p, "both load something else from a card that was made right");
+    }
+}
+
+static void poke_card(play *p, uint32_t at, uint32_t to)
+{
+    step *s = new_step(p);
+    if (p->going) {
+        blank_step(&p->d, POKE_CARD, s);
+        s->number = at;
+        s->what = to;
+        take_step(p);
+    }
+}
+
+/* A block whose sum is 0; or 255, which leaves the same remainder, and is wrong. */
+static void sum_of_0(play *p)
+{
+    uint32_t blocks = p->r->lent_card.length / MCS_BLOCK_OCTETS, block, of_sums = below(&p->d, 2);
+    if (blocks == 0) {
+        return;
+    }
+    block = below(&p->d, blocks);
+    poke_card(p, MCS_BLOCK_OCTETS * block + ANY_OCTET_AT, octet_for_sum_0(&p->r->lent_card, block, of_sums));
+    bare_step(p, MEND_BLOCK, block);
+    if (one_in(&p->d, 2)) {
+        poke_card(p, MCS_BLOCK_OCTETS * block + (of_sums ? SUM_OF_SUMS_AT : SUM_AT), 255);
+    }
+}
+
+/* Records beyond a limit. */
+static void too_many(play *p)
+{
+    static const uint32_t LEAST[TABLES] = {MCS_GROUP_WORDS * MCS_MOST_GROUPS, MCS_TRACK_WORDS * MCS_MOST_TRACKS,
+                                           MCS_MOST_SEGMENTS, MCS_MOST_TEXT};
+    step *s = new_step(p);
+    if (!p->going) {
+        return;
+    }
+    blank_step(&p->d, TABLE_LENGTH, s);
+    s->who = one_in(&p->d, 8) ? (uint32_t)TEXT : below(&p->d, 3);
+    s->number = between(&p->d, LEAST[s->who] - 1u, table_room(s->who));
+    take_step(p);
+}
+
+void play_cards(play *p)
+{
+    p->share = FROM_CARD;
+    for (uint32_t round = 0; round < 12 && goes_on(p); round++) {
+        int beyond = one_in(&p->d, 10), right = !beyond && one_in(&p->d, 4);
+        bare_step(p, KEEP, 0);
+        if (beyond) {
+            too_many(p);
+        }
+        bare_step(p, MAKE_CARD, one_in(&p->d, 3) ? 0 : any_word(&p->d));
+        if (!right && one_in(&p->d, 8)) {
+            sum_of_0(p);
+        } else if (!right && !(beyond && one_in(&p->d, 2))) {
+            damage(p, few_times(p), damage_card);
+        }
+        load(p, right);
+        bare_step(p, PUT_BACK, 0);
+    }
+}

@@ -1,0 +1,71 @@
+/* Long histories of calls from a start. */
+#include "play.h"
+#include "service.h"
+
+static void start(play *p)
+{
+    if (p->going) {
+        draw_this_call(&p->d, p->r, START, NONE, new_step(p));
+        take_step(p);
+    }
+}
+
+static void call_of(play *p, uint32_t kind, uint32_t client, uint32_t characteristic)
+{
+    step *s = new_step(p);
+    if (p->going) {
+        draw_this_call(&p->d, p->r, kind, NONE, s);
+        s->who = client;
+        s->what = kind == SUBSCRIBE ? characteristic : s->what;
+        take_step(p);
+    }
+}
+
+/* Clients come and subscribe, many to all there is, and a group is put on. */
+void open_desk(play *p)
+{
+    for (uint32_t client = 0; client < REF_CLIENTS; client++) {
+        uint32_t left_out = one_in(&p->d, 2) ? NONE : ONE_OF(&p->d, 1, 2, 3);
+        if (one_in(&p->d, 4)) {
+            continue;
+        }
+        call_of(p, CONNECT, client, 0);
+        for (uint32_t k = 0; k < REF_SLOTS; k++) {
+            if (!one_in(&p->d, left_out)) {
+                call_of(p, SUBSCRIBE, client, slot_at(k));
+            }
+        }
+    }
+    if (!one_in(&p->d, 8)) {
+        call_of(p, ACTIVATE, 0, 0);
+    }
+}
+
+void start_and_open(play *p)
+{
+    p->share = FROM_HISTORY;
+    start(p);
+    if (!one_in(&p->d, 8)) {
+        open_desk(p);
+    }
+}
+
+void play_history(play *p)
+{
+    uint32_t calls = one_in(&p->d, 8) ? between(&p->d, 2000, 5000) : between(&p->d, 100, 1200), left = 0;
+    mood m = random_mood(&p->d, FEW);
+    start_and_open(p);
+    for (uint32_t k = 0; k < calls && goes_on(p); k++) {
+        if (left == 0) {
+            m = random_mood(&p->d, FEW);
+            left = between(&p->d, 10, 120);
+        }
+        left--;
+        call_in(p, &m);
+        expect_standing(p);
+        /* After another start nobody is there. */
+        if (p->t->steps[p->t->count - 1u].kind == START && p->r->second_said.number == 0) {
+            open_desk(p);
+        }
+    }
+}

@@ -1,0 +1,142 @@
+#include "print.h"
+
+static void print_octets(FILE *out, const uint8_t *octets, uint32_t length)
+{
+    fprintf(out, " (%u)", (unsigned)length);
+    for (uint32_t k = 0; k < length; k++) {
+        fprintf(out, " %02x", octets[k]);
+    }
+}
+
+/* As a string of C. */
+static void print_text(FILE *out, const uint8_t *octets, uint32_t length)
+{
+    fprintf(out, " \"");
+    for (uint32_t k = 0; k < length; k++) {
+        uint8_t octet = octets[k];
+        if (octet == '\n' || octet == '\r' || octet == '\t') {
+            fprintf(out, "\\%c", octet == '\n' ? 'n' : octet == '\r' ? 'r' : 't');
+        } else if (octet < ' ' || octet > '~') {
+            fprintf(out, "\\%03o", (unsigned)octet);
+        } else {
+            fprintf(out, octet == '"' || octet == '\\' ? "\\%c" : "%c", octet);
+        }
+    }
+    fprintf(out, "\"");
+}
+
+/* What the parts mean; behind a stroke what means nothing. */
+static void print_state(FILE *out, const uint8_t octets[MCS_STATE_OCTETS])
+{
+    static ref_state s;
+    uint32_t end = REF_NAME_ROOM;
+    state_of_octets(octets, &s);
+    fprintf(out,
+            " mask 0x%08x ccid %u media %u order %u speed %d seeking %d group %u track %u position %u turn %u name (%u)",
+            (unsigned)s.mask, s.ccid, s.media, s.order, s.speed, s.seeking, (unsigned)s.group, (unsigned)s.track,
+            (unsigned)s.position, (unsigned)s.turn, (unsigned)s.name_len);
+    for (; end > s.name_len && s.name[end - 1u] == 0; end--) {
+    }
+    for (uint32_t k = 0; k < end; k++) {
+        fprintf(out, k == s.name_len ? " | %02x" : " %02x", s.name[k]);
+    }
+    for (uint32_t k = 0; k < REF_CLIENTS; k++) {
+        const ref_client *c = &s.clients[k];
+        fprintf(out,
+                "\n     client %u: connected %u encrypted %u mtu %u subscribed 0x%03x owed 0x%03x read 0x%06x mark %u "
+                "results (%u)",
+                (unsigned)k, c->connected, c->encrypted, (unsigned)c->mtu, (unsigned)c->subscribed, (unsigned)c->owed,
+                (unsigned)c->fresh, (unsigned)c->mark, (unsigned)c->waiting);
+        for (uint32_t j = 0; j < REF_RESULTS; j++) {
+            fprintf(out, j == c->waiting ? " | %02x %u" : " %02x %u", c->results[j].opcode, c->results[j].code);
+        }
+    }
+}
+
+static void print_step(FILE *out, step *s)
+{
+    fprintf(out, "%s", is_call(s) ? CALL_NAME[s->kind] : STEP_NAME[s->kind]);
+    for (const step_number *n = STEP_NUMBERS[s->kind]; n < STEP_NUMBERS[s->kind] + MOST_NUMBERS && n->words != NULL; n++) {
+        uint32_t number = *number_at(s, n->place);
+        fprintf(out, number > 0xFFFFu ? " %s 0x%x" : " %s %u", n->words, (unsigned)number);
+    }
+    if (s->kind == SET_STATE) {
+        print_state(out, s->octets);
+    } else if (s->kind == ADD_TEXT || s->kind == ADD_STARTS) {
+        print_text(out, s->octets, s->length);
+    } else if (s->kind == START || s->kind == SET_NAME || s->kind == WRITE || s->kind == POKE_STATE) {
+        fprintf(out, " octets");
+        print_octets(out, s->octets, s->length);
+    }
+    if (is_call(s) && (s->against != 0 || s->null != 0 || s->fill != 0 || s->twice != 0)) {
+        fprintf(out, " [buffers %s the barred page%s, filled with %02x%s]", s->against == 0 ? "end at" : "begin at",
+                s->null ? ", empty ones null" : "", s->fill, s->twice ? "; made twice" : "");
+    }
+    fprintf(out, "\n");
+}
+
+static void print_answer(FILE *out, const char *program, const step *s, const answer *a, int faulted)
+{
+    fprintf(out, "     %-8s ", program);
+    fprintf(out, faulted ? "fault" : a->number >= 200 || a->number == 0 ? "%u" : "0x%02X", (unsigned)a->number);
+    if (s->kind == CUE_SHEET) {
+        fprintf(out, ", count %u, line %u", (unsigned)a->length, (unsigned)a->line);
+    } else if (s->kind == READ && a->number == 0) {
+        print_octets(out, a->out, a->length < OUT_ROOM ? a->length : OUT_ROOM);
+    } else if (s->kind == TAKE && a->number == 0) {
+        fprintf(out, ", client %u, characteristic %u,", (unsigned)a->served[0], (unsigned)a->served[1]);
+        print_octets(out, a->out, a->served[2] < OUT_ROOM ? a->served[2] : OUT_ROOM);
+    } else if (s->kind == CARD_LOAD && a->number == 0) {
+        fprintf(out, ", counts %u %u %u %u", (unsigned)a->counts[0], (unsigned)a->counts[1], (unsigned)a->counts[2],
+                (unsigned)a->counts[3]);
+    }
+    fprintf(out, "\n");
+}
+
+static void print_catalogue(FILE *out, const tables *c)
+{
+    fprintf(out, "catalogue of %u and %u and %u words and %u octets of text\n", (unsigned)c->length[GROUPS],
+            (unsigned)c->length[TRACKS], (unsigned)c->length[SEGMENTS], (unsigned)c->length[TEXT]);
+    for (uint32_t g = 0; g < group_count(c); g++) {
+        fprintf(out, "  group %u: parent %u, tracks from %u, %u of them\n", (unsigned)g, (unsigned)group_word(c, g, PARENT),
+                (unsigned)group_word(c, g, FIRST_TRACK), (unsigned)group_word(c, g, TRACK_COUNT));
+    }
+    for (uint32_t k = 0; k < track_count(c); k++) {
+        fprintf(out, "  track %u: duration %u, stamp %u, segments from %u, %u of them, title at %u of %u octets\n",
+                (unsigned)k, (unsigned)track_word(c, k, DURATION), (unsigned)track_word(c, k, STAMP),
+                (unsigned)track_word(c, k, FIRST_SEGMENT), (unsigned)track_word(c, k, SEGMENT_COUNT),
+                (unsigned)track_word(c, k, TITLE), (unsigned)track_word(c, k, TITLE_LENGTH));
+    }
+    for (uint32_t k = 0; k < c->length[SEGMENTS]; k++) {
+        fprintf(out, k == 0 ? "  starts: %u" : ", %u", (unsigned)c->segments[k]);
+    }
+    fprintf(out, c->length[SEGMENTS] > 0 ? "\n" : "");
+    if (c->length[TEXT] > 0 && c->length[TEXT] <= 256) {
+        fprintf(out, "  text:");
+        print_octets(out, c->text, c->length[TEXT]);
+        fprintf(out, "\n");
+    }
+}
+
+void print_trial(FILE *out, trial *t, run *r, uint32_t last)
+{
+    print_catalogue(out, &t->catalogue);
+    begin_run(r, &t->catalogue);
+    for (uint32_t k = 0; k < t->count; k++) {
+        step *s = &t->steps[k];
+        int same = do_step(r, s);
+        if (t->count - k > last) {
+            continue;
+        }
+        fprintf(out, "%u. ", (unsigned)k + 1u);
+        print_step(out, s);
+        if (is_call(s)) {
+            print_answer(out, "library:", s, &r->library_said, r->library_faulted);
+            print_answer(out, "second:", s, &r->second_said, r->second_faulted);
+        }
+        if (!same) {
+            fprintf(out, "   difference: %s\n", r->difference);
+            return;
+        }
+    }
+}

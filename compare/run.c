@@ -1,0 +1,182 @@
+#include "run.h"
+#include "alter.h"
+#include "guard.h"
+#include "lend.h"
+#include "octets.h"
+
+#include <stdio.h>
+#include <string.h>
+
+void lend_tables(run *r, const tables *t)
+{
+    r->lent = *t;
+    for (uint32_t table = 0; table < TABLES; table++) {
+        table_changed(r, table);
+    }
+}
+
+void begin_run(run *r, const tables *t)
+{
+    lend_tables(r, t);
+    r->lent_card.length = r->lent_sheet.length = 0;
+    memset(r->octets, 0, sizeof r->octets);
+    state_of_octets(r->octets, &r->second);
+    remember(r);
+    r->difference[0] = 0;
+}
+
+int loaded_what_is_lent(const run *r)
+{
+    for (uint32_t table = 0; table < TABLES; table++) {
+        size_t octets = (size_t)r->lent.length[table] * entry_octets(table);
+        if (octets > 0 && memcmp(table_octets(&r->loaded, table), table_octets(&r->lent, table), octets) != 0) {
+            return 0;
+        }
+    }
+    return 1;
+}
+
+static int differs(run *r, const char *what)
+{
+    snprintf(r->difference, sizeof r->difference, "%s", what);
+    return 0;
+}
+
+static int differs_in(run *r, const char *when, const char *buffer)
+{
+    snprintf(r->difference, sizeof r->difference, "%s: %s", when, buffer);
+    return 0;
+}
+
+/* "A refusal returns its number alone and alters nothing." */
+static int states_stay(run *r, const uint8_t *octets, const ref_state *second)
+{
+    if (memcmp(r->octets, octets, MCS_STATE_OCTETS) != 0) {
+        return differs(r, "a refusal of the library altered the state");
+    }
+    if (memcmp(&r->second, second, sizeof *second) != 0) {
+        return differs(r, "a refusal of the second program altered the state");
+    }
+    return 1;
+}
+
+/* A yes or no that is neither 1 nor 0 is refused with 201, before which 200 and 205 come. A start looks at no state. */
+static int truths_are_plain(run *r, const step *s, const uint8_t *octets)
+{
+    uint32_t number = r->library_said.number;
+    uint32_t should = has_output(s->kind) && s->room[0] < MCS_OUTPUT_OCTETS ? MCS_SMALL_OUTPUT : MCS_BAD_STATE;
+    if (s->kind == START || number == MCS_BAD_CATALOGUE || number == should || plain_truths(octets)) {
+        return 1;
+    }
+    return differs(r, "a yes or no that is neither 1 nor 0 is not refused with 201 in its turn");
+}
+
+/* After an accepted call every octet is what it has to be; and where nothing of what they mean has changed, what it was. */
+static int same_states(run *r, const step *s, const uint8_t *octets, const ref_state *second)
+{
+    static uint8_t should[MCS_STATE_OCTETS];
+    r->seen_dead = octets_after(octets, s, &r->second, &r->second_said, should);
+    for (uint32_t k = 0; k < MCS_STATE_OCTETS; k++) {
+        static ref_state meant;
+        if (r->octets[k] == should[k]) {
+            continue;
+        }
+        state_of_octets(r->octets, &meant);
+        if (same_meaning(&meant, &r->second, r->difference, sizeof r->difference)) {
+            snprintf(r->difference, sizeof r->difference, "octet %u of the state, which means nothing: library %u, not %u",
+                     (unsigned)k, r->octets[k], should[k]);
+        }
+        return 0;
+    }
+    r->unchanged = s->kind != START && same_meaning(second, &r->second, NULL, 0);
+    if (r->unchanged && memcmp(r->octets, octets, MCS_STATE_OCTETS) != 0) {
+        return differs(r, "a call of the library that changes nothing altered octets of the state");
+    }
+    return 1;
+}
+
+/* What the library left, in its answer where the second program's is in its own, and as its state. */
+static void collect(run *r, const call *plain, const call *made)
+{
+    for (uint32_t k = OUTPUT; k <= LINE; k++) {
+        if (lent_octets(plain, k) > 0) {
+            ptrdiff_t at = (uint8_t *)lent_at(plain, k) - (uint8_t *)&r->second_said;
+            memcpy((uint8_t *)&r->library_said + at, lent_at(made, k), lent_octets(plain, k));
+        }
+    }
+    if (has_state(plain->kind)) {
+        memcpy(r->octets, made->state, MCS_STATE_OCTETS);
+    }
+}
+
+/* Made twice, from the same at either page and over two stacks that have no bit in common, the library leaves the same. */
+static int same_twice(run *r, const call made[2], const uint32_t number[2])
+{
+    const char *buffer = differing(&made[1], &made[0], 1);
+    if (number[0] != number[1]) {
+        return differs(r, "over another stack the library returned another number");
+    }
+    return buffer == NULL || differs_in(r, "over another stack the library left something else", buffer);
+}
+
+static int do_call(run *r, const step *s)
+{
+    static call plain, second, made[2];
+    static uint8_t octets_before[MCS_STATE_OCTETS];
+    static ref_state second_before;
+    uint32_t number[2], makings = s->twice ? 2 : 1;
+    const char *buffer;
+    lend_plainly(r, s, &plain);
+    for (uint32_t k = 0; k < makings; k++) {
+        lend_guarded(r, s, &plain, s->against ^ k, &made[k]);
+    }
+    second = plain;
+    second.state = &r->second;
+    r->library_said = r->second_said;
+    memcpy(octets_before, r->octets, MCS_STATE_OCTETS);
+    memcpy(&second_before, &r->second, sizeof r->second);
+    r->unchanged = r->library_faulted = 0;
+    r->seen_dead = 0;
+
+    for (uint32_t k = 0; k < makings; k++) {
+        /* All zeros and all ones, or what lent outputs are filled with. */
+        uint8_t paint = s->fill % 2u == 0 ? 0 : s->fill;
+        if (s->twice) {
+            paint_stack(k == 0 ? paint : (uint8_t)~paint);
+        }
+        r->library_faulted |= !unharmed(call_library, &made[k], &number[k]);
+    }
+    r->second_faulted = !unharmed(call_second, &second, &r->second_said.number);
+    if (r->library_faulted || r->second_faulted) {
+        return differs(r, r->library_faulted ? "the library faulted: it touched what it was not lent, or was stopped"
+                                             : "the second program faulted");
+    }
+    r->library_said.number = number[0];
+    collect(r, &plain, &made[0]);
+
+    if (r->library_said.number != r->second_said.number) {
+        return differs(r, "the numbers differ");
+    }
+    buffer = differing(&made[0], &plain, 0);
+    if (buffer != NULL) {
+        return differs_in(r, "the programs differ in", buffer);
+    }
+    if (s->twice && !same_twice(r, made, number)) {
+        return 0;
+    }
+    if (!has_state(s->kind)) {
+        return 1;
+    }
+    return truths_are_plain(r, s, octets_before) &&
+           (r->library_said.number != 0 ? states_stay(r, octets_before, &second_before)
+                                        : same_states(r, s, octets_before, &second_before));
+}
+
+int do_step(run *r, const step *s)
+{
+    if (is_call(s)) {
+        return do_call(r, s);
+    }
+    alter(r, s);
+    return 1;
+}

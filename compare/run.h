@@ -1,0 +1,60 @@
+/* Both programs side by side: each step is done to both, and all that a call leaves is compared. */
+#ifndef RUN_H
+#define RUN_H
+
+#include "card.h"
+#include "sheet.h"
+#include "state.h"
+#include "step.h"
+
+#define OUT_ROOM 256u
+#define UNDO_ROOM 128u
+
+typedef struct {
+    uint32_t number;
+    uint32_t length;       /* of a read; the count of a cue sheet */
+    uint32_t served[3];    /* of a take */
+    uint32_t counts[4];    /* of a card load */
+    uint32_t line;         /* of a cue sheet */
+    uint8_t out[OUT_ROOM]; /* of a read or a take; behind what was lent it stays as it was filled */
+} answer;
+
+/* What a step altered in the tables since they were remembered. */
+typedef struct {
+    uint8_t kind;
+    uint32_t who, number, what;
+} undo;
+
+typedef struct {
+    tables lent;
+    card lent_card;
+    sheet lent_sheet;
+    uint8_t octets[MCS_STATE_OCTETS]; /* the library's state */
+    ref_state second;                 /* the second program's */
+    uint8_t kept_octets[MCS_STATE_OCTETS];
+    ref_state kept_second;
+    undo undone[UNDO_ROOM];
+    uint32_t undos;
+    int stale[2][TABLES]; /* the guarded copy of a table is not what is lent */
+    tables loaded;        /* by the second program's last card load */
+    uint32_t starts[STARTS_ROOM]; /* by its last cue sheet */
+    int library_faulted, second_faulted;
+    int unchanged;      /* the last call was accepted, was no start, and left the meaning of the state as it was */
+    uint32_t seen_dead; /* the rules for octets that mean nothing that the last call has shown, as bits (octets.h) */
+    answer library_said, second_said;
+    char difference[256]; /* empty while there is none */
+} run;
+
+/* Both begin with this catalogue, a state of 0 octets, no card and no cue sheet. There is one run at a time. */
+void begin_run(run *r, const tables *t);
+
+/* From now on this catalogue is lent; the states stay. */
+void lend_tables(run *r, const tables *t);
+
+/* Whether both did the same; where not, r->difference says what differs. */
+int do_step(run *r, const step *s);
+
+/* Whether the last card load of the second program gave the tables that are lent. */
+int loaded_what_is_lent(const run *r);
+
+#endif

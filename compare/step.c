@@ -1,0 +1,52 @@
+#include "step.h"
+
+#define WHO(words) {words, offsetof(step, who), 0}
+#define WHAT(words, plainest) {words, offsetof(step, what), plainest}
+#define NUMBER(words, plainest) {words, offsetof(step, number), plainest}
+#define ROOM(words, k, plainest) {words, offsetof(step, room) + (k) * sizeof(uint32_t), plainest}
+
+const step_number STEP_NUMBERS[KINDS][MOST_NUMBERS] = {
+    [START] = {NUMBER("mask", MCS_ALL_OPCODES), WHAT("Content Control ID", 0)},
+    [ACTIVATE] = {NUMBER("group", 0)},
+    [ADVANCE] = {NUMBER("hundredths", 0)},
+    [CONNECT] = {WHO("client"), NUMBER("ATT_MTU", 23), WHAT("encrypted", 1)},
+    [DISCONNECT] = {WHO("client")},
+    [SUBSCRIBE] = {WHO("client"), WHAT("characteristic", 0)},
+    [UNSUBSCRIBE] = {WHO("client"), WHAT("characteristic", 0)},
+    [READ] = {WHO("client"), WHAT("characteristic", 0), NUMBER("offset", 0), ROOM("room", 0, MCS_OUTPUT_OCTETS)},
+    [WRITE] = {WHO("client"), WHAT("characteristic", 0)},
+    [TAKE] = {ROOM("room", 0, MCS_OUTPUT_OCTETS)},
+    [CARD_LOAD] = {ROOM("room of groups", 0, 0), ROOM("of tracks", 1, 0), ROOM("of segments", 2, 0), ROOM("of text", 3, 0)},
+    [CUE_SHEET] = {ROOM("room", 0, 0)},
+    [POKE_STATE] = {NUMBER("from", 0)},
+    [POKE_TABLE] = {WHO("table"), NUMBER("entry", 0), WHAT("is", 0)},
+    [TABLE_LENGTH] = {WHO("table"), NUMBER("has", 0)},
+    [MAKE_CARD] = {NUMBER("filled by", 0)},
+    [POKE_CARD] = {NUMBER("at", 0), WHAT("is", 0)},
+    [CARD_LENGTH] = {NUMBER("has", 0)},
+    [SWAP_BLOCKS] = {WHO("block"), WHAT("and", 0)},
+    [MEND_BLOCK] = {NUMBER("block", 0)},
+    [ADD_TEXT] = {NUMBER("times", 0)},
+    [ADD_STARTS] = {NUMBER("lines", 0), WHO("from frame"), WHAT("frames apart", 0)},
+    [CUT_SHEET] = {NUMBER("octets at most", 0)},
+};
+
+const char *const STEP_NAME[KINDS] = {
+    [SET_STATE] = "the state is",
+    [POKE_STATE] = "octets of the state:",
+    [POKE_TABLE] = "an entry of a table (groups 0, tracks 1, segments 2, text 3):",
+    [TABLE_LENGTH] = "entries of a table (groups 0, tracks 1, segments 2, text 3):",
+    [MAKE_CARD] = "the card is the catalogue's, its blocks",
+    [POKE_CARD] = "an octet of the card:",
+    [CARD_LENGTH] = "octets of the card:",
+    [SWAP_BLOCKS] = "blocks of the card change places:",
+    [MEND_BLOCK] = "sums of the card's octets:",
+    [NEW_SHEET] = "the cue sheet is empty",
+    [ADD_TEXT] = "the cue sheet goes on:",
+    [ADD_STARTS] = "the cue sheet goes on with lines INDEX 01:",
+    [CUT_SHEET] = "the cue sheet has",
+    [KEEP] = "state and catalogue are remembered",
+    [PUT_BACK] = "state and catalogue are as remembered",
+};
+
+uint32_t *number_at(step *s, size_t place) { return (uint32_t *)(void *)((uint8_t *)s + place); }

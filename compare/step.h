@@ -1,0 +1,56 @@
+/* What a trial is made of: calls, and what is done to state, catalogue, card and cue sheet between them. */
+#ifndef STEP_H
+#define STEP_H
+
+#include "calls.h"
+
+/* Between calls; a step of a lower kind is that call. */
+enum {
+    SET_STATE = CALLS, /* the state's octets are `octets` */
+    POKE_STATE,        /* its octets from `number` on are `octets` */
+    POKE_TABLE,        /* entry `number` of table `who` is `what` */
+    TABLE_LENGTH,      /* table `who` is lent with `number` entries */
+    MAKE_CARD,         /* the card is one of the catalogue; `number` decides how full its blocks are */
+    POKE_CARD,         /* octet `number` of the card is `what` */
+    CARD_LENGTH,       /* the card is lent with `number` octets */
+    SWAP_BLOCKS,       /* the blocks `who` and `what` change places, and are numbered anew */
+    MEND_BLOCK,        /* block `number` gets the sums that its octets have */
+    NEW_SHEET,         /* the cue sheet is empty */
+    ADD_TEXT,          /* `octets` come behind it, `number` times */
+    ADD_STARTS,        /* `number` lines of starts, from frame `who` on and `what` frames apart, each ending in `octets` */
+    CUT_SHEET,         /* it is lent with at most `number` octets */
+    KEEP,              /* state and catalogue are remembered */
+    PUT_BACK,          /* and are again as they were */
+    KINDS
+};
+
+typedef struct {
+    uint8_t kind;
+    uint8_t against;                  /* which barred page the lent buffers touch */
+    uint8_t twice;                    /* the library is called a second time from the same, at the other page */
+    uint8_t null;                     /* a buffer of no octets is lent as a null pointer */
+    uint8_t fill;                     /* what lent outputs hold before the call; of a call made twice also the stack */
+    uint32_t who;                     /* client */
+    uint32_t what;                    /* characteristic; of start the Content Control ID, of connect whether encrypted */
+    uint32_t number;                  /* mask, group, hundredths, ATT_MTU, offset */
+    uint32_t room[4];                 /* of the output of a read or a take; in entries of a card load's tables, of starts */
+    uint32_t length;                  /* of octets */
+    uint8_t octets[MCS_STATE_OCTETS]; /* name, value or text */
+} step;
+
+static inline int is_call(const step *s) { return s->kind < CALLS; }
+
+/* The numbers that steps of each kind have, in words and by their places in a step, with what is plainest; a list that is not
+ * full ends at a null pointer. */
+typedef struct {
+    const char *words;
+    size_t place;
+    uint32_t plainest;
+} step_number;
+#define MOST_NUMBERS 5u
+extern const step_number STEP_NUMBERS[KINDS][MOST_NUMBERS];
+extern const char *const STEP_NAME[KINDS];
+
+uint32_t *number_at(step *s, size_t place);
+
+#endif

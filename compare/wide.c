@@ -1,0 +1,112 @@
+/* Lengths that need more than 32 bits: whoever drops their upper half takes a long table for a short one. The memory is
+ * address space alone, of which only the first pages are ever looked at. */
+#define _DEFAULT_SOURCE
+#include "wide.h"
+#include "lend.h"
+
+#include <string.h>
+#include <sys/mman.h>
+
+#define MORE ((size_t)1 << 32)
+
+/* What is right but for its length is refused; a room that would be none without its upper half suffices. */
+static const struct {
+    const char *what;
+    uint32_t kind, buffer, characteristic, number;
+} CASES[] = {
+    {"groups", START, GROUPS, 0, MCS_BAD_CATALOGUE},
+    {"groups", TAKE, GROUPS, 0, MCS_BAD_CATALOGUE},
+    {"tracks", START, TRACKS, 0, MCS_BAD_CATALOGUE},
+    {"tracks", TAKE, TRACKS, 0, MCS_BAD_CATALOGUE},
+    {"segments", START, SEGMENTS, 0, MCS_BAD_CATALOGUE},
+    {"segments", TAKE, SEGMENTS, 0, MCS_BAD_CATALOGUE},
+    {"text", START, TEXT, 0, MCS_BAD_CATALOGUE},
+    {"text", TAKE, TEXT, 0, MCS_BAD_CATALOGUE},
+    {"the name of a start", START, OCTETS, 0, MCS_BAD_NAME},
+    {"a name", SET_NAME, OCTETS, 0, MCS_BAD_NAME},
+    {"a position", WRITE, OCTETS, MCS_POSITION, MCS_BAD_LENGTH},
+    {"a playback speed", WRITE, OCTETS, MCS_PLAYBACK_SPEED, MCS_BAD_LENGTH},
+    {"a playing order", WRITE, OCTETS, MCS_PLAYING_ORDER, MCS_BAD_LENGTH},
+    {"a command", WRITE, OCTETS, MCS_CONTROL_POINT, MCS_BAD_LENGTH},
+    {"a card", CARD_LOAD, OCTETS, 0, MCS_BAD_CARD_LENGTH},
+    {"a cue sheet", CUE_SHEET, OCTETS, 0, MCS_LONG_SHEET},
+    {"the output of a read", READ, OUTPUT, MCS_DURATION, MCS_OK},
+    {"the output of a take", TAKE, OUTPUT, 0, MCS_OK},
+    {"the room of groups", CARD_LOAD, ROOM + GROUPS, 0, MCS_OK},
+    {"the room of tracks", CARD_LOAD, ROOM + TRACKS, 0, MCS_OK},
+    {"the room of segments", CARD_LOAD, ROOM + SEGMENTS, 0, MCS_OK},
+    {"the room of text", CARD_LOAD, ROOM + TEXT, 0, MCS_OK},
+    {"the room of starts", CUE_SHEET, STARTS, 0, MCS_OK},
+};
+
+static tables sample, loaded;
+static card made;
+static uint8_t octets[MCS_STATE_OCTETS], out[MCS_OUTPUT_OCTETS], line_of_0[17];
+static ref_state state;
+static uint32_t word, served[3], counts[4], line, starts[1];
+
+/* A call on the sample that is accepted: the octet 1 is a name, a speed, an order and Play. */
+static call right_call(uint32_t kind, uint32_t what)
+{
+    static const uint8_t ONE[4] = {1};
+    call c = {.kind = kind, .what = what, .catalogue = lent(&sample), .octets = ONE, .out = out, .out_len = sizeof out};
+    c.number = kind == CONNECT ? 23 : 0;
+    c.length = what == MCS_POSITION ? 4 : 1;
+    c.word = &word;
+    c.served = served;
+    c.counts = counts;
+    c.line = &line;
+    c.room = whole_room(&loaded);
+    c.starts = starts;
+    c.starts_len = 1;
+    if (kind == CARD_LOAD) {
+        c.octets = made.octets;
+        c.length = made.length;
+    } else if (kind == CUE_SHEET) {
+        c.octets = line_of_0;
+        c.length = sizeof line_of_0;
+    }
+    return c;
+}
+
+/* Whether both programs return that number. */
+static int give(FILE *to, const char *what, call c, uint32_t number)
+{
+    uint32_t library, second;
+    c.state = octets;
+    library = call_library(&c);
+    c.state = &state;
+    second = call_second(&c);
+    if (library != number || second != number) {
+        fprintf(to, "compare: with a length of over 32 bits, %s: library %u, second %u, not %u\n", what, (unsigned)library,
+                (unsigned)second, (unsigned)number);
+        return 0;
+    }
+    return 1;
+}
+
+unsigned long play_wide_lengths(FILE *to)
+{
+    size_t all = (MORE + 65536u) * sizeof(uint32_t);
+    void *space = mmap(NULL, all, PROT_READ | PROT_WRITE, MAP_PRIVATE | MAP_ANONYMOUS | MAP_NORESERVE, -1, 0);
+    unsigned long wrong = 0;
+    if (space == MAP_FAILED) {
+        fprintf(to, "compare: no address space for lengths of more than 32 bits\n");
+        return 1;
+    }
+    sample_catalogue(&sample);
+    make_card(&sample, &made);
+    index_line(line_of_0, 0);
+    wrong += !give(to, "a start without one", right_call(START, 0), 0);
+    wrong += !give(to, "a connect without one", right_call(CONNECT, 1), 0);
+    for (size_t k = 0; k < sizeof CASES / sizeof CASES[0]; k++) {
+        call c = right_call(CASES[k].kind, CASES[k].characteristic);
+        size_t entries = CASES[k].number == MCS_OK ? 0 : lent_entries(&c, CASES[k].buffer);
+        memcpy(space, lent_at(&c, CASES[k].buffer), lent_octets(&c, CASES[k].buffer));
+        lend_at(&c, CASES[k].buffer, space);
+        lend_entries(&c, CASES[k].buffer, MORE + entries);
+        wrong += !give(to, CASES[k].what, c, CASES[k].number);
+    }
+    munmap(space, all);
+    return wrong;
+}

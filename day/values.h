@@ -1,0 +1,19 @@
+/* Values as a person reads them. */
+#ifndef VALUES_H
+#define VALUES_H
+
+#include <stddef.h>
+#include <stdint.h>
+
+void print_opcode(uint8_t opcode);
+
+/* UTF-8, with what would move the cursor or hide made visible: <U+000A>, and <E2> for an octet of a character cut in two. */
+void print_text(const uint8_t *text, size_t len);
+
+/* Hundredths of a second as minutes and seconds. */
+void print_time(uint32_t hundredths);
+
+/* The value of a characteristic, as it was handed out. */
+void print_value(uint32_t characteristic, const uint8_t *octets, size_t len);
+
+#endif

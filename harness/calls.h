@@ -1,0 +1,52 @@
+/* The fourteen calls, with everything that is lent to them: what any program that has the same calls is asked to do. */
+#ifndef CALLS_H
+#define CALLS_H
+
+#include "mcs_desk.h"
+
+enum {
+    START,
+    SET_NAME,
+    ACTIVATE,
+    DEACTIVATE,
+    ADVANCE,
+    CONNECT,
+    DISCONNECT,
+    SUBSCRIBE,
+    UNSUBSCRIBE,
+    READ,
+    WRITE,
+    TAKE,
+    CARD_LOAD,
+    CUE_SHEET,
+    CALLS
+};
+
+extern const char *const CALL_NAME[CALLS];
+
+typedef struct {
+    uint32_t kind;
+    uint32_t who;    /* client */
+    uint32_t what;   /* characteristic; of start the Content Control ID, of connect whether encrypted */
+    uint32_t number; /* mask, group, hundredths, ATT_MTU, offset */
+    struct mcs_catalogue catalogue;
+    const uint8_t *octets; /* name or value, card, cue sheet */
+    size_t length;
+    void *state; /* MCS_STATE_OCTETS octets, or the second program's struct */
+    uint8_t *out;
+    size_t out_len;
+    struct mcs_room room; /* of a card load */
+    uint32_t *starts;     /* of a cue sheet */
+    size_t starts_len;
+    uint32_t *word; /* the length of a read, the count of a cue sheet */
+    uint32_t *served, *counts, *line;
+} call;
+
+/* A card load and a cue sheet are lent neither a state nor a catalogue. */
+static inline int has_state(uint32_t kind) { return kind < CARD_LOAD; }
+
+/* Each makes the call and returns its number. */
+uint32_t call_library(const call *c);
+uint32_t call_second(const call *c);
+
+#endif

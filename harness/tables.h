@@ -1,0 +1,81 @@
+/* The tables of a catalogue, with room for a little more than the limits allow. */
+#ifndef TABLES_H
+#define TABLES_H
+
+#include "mcs_desk.h"
+
+enum { GROUPS, TRACKS, SEGMENTS, TEXT, TABLES };
+
+#define GROUPS_ROOM (MCS_GROUP_WORDS * (MCS_MOST_GROUPS + 4u))
+#define TRACKS_ROOM (MCS_TRACK_WORDS * (MCS_MOST_TRACKS + 4u))
+#define SEGMENTS_ROOM (MCS_MOST_SEGMENTS + 8u)
+#define TEXT_ROOM (MCS_MOST_TEXT + 64u)
+
+/* Words of a record. */
+enum { PARENT, FIRST_TRACK, TRACK_COUNT };
+enum { DURATION, STAMP, FIRST_SEGMENT, SEGMENT_COUNT, TITLE, TITLE_LENGTH };
+#define MOST_DURATION 8640000u
+
+typedef struct {
+    uint32_t groups[GROUPS_ROOM], tracks[TRACKS_ROOM], segments[SEGMENTS_ROOM];
+    uint8_t text[TEXT_ROOM];
+    uint32_t length[TABLES]; /* as lent: in words, of the text in octets */
+} tables;
+
+/* The tables as a call is lent them, and as a card is loaded into them: with their whole room. */
+struct mcs_catalogue lent(const tables *t);
+struct mcs_room whole_room(tables *t);
+
+/* The table's octets and their room in entries, its words or octets. */
+const void *table_octets(const tables *t, uint32_t table);
+uint32_t table_room(uint32_t table);
+uint32_t entry_octets(uint32_t table);
+uint32_t table_entry(const tables *t, uint32_t table, uint32_t at);
+void set_table_entry(tables *t, uint32_t table, uint32_t at, uint32_t to);
+
+/* Words of a table's record; of the text 1, an octet. */
+uint32_t record_entries(uint32_t table);
+
+/* Whole records. */
+uint32_t group_count(const tables *t);
+uint32_t track_count(const tables *t);
+uint32_t group_word(const tables *t, uint32_t group, uint32_t word);
+uint32_t track_word(const tables *t, uint32_t track, uint32_t word);
+
+/* ---- Catalogues from lines: runs of tracks, runs of segments and places of titles follow from them */
+
+#define MOST_STARTS_OF_A_LINE 4u
+
+typedef struct {
+    uint32_t parent;
+    uint32_t tracks; /* how many */
+} group_line;
+
+typedef struct {
+    uint32_t duration, stamp;
+    const char *title;
+    uint32_t segments; /* how many */
+    uint32_t starts[MOST_STARTS_OF_A_LINE];
+} track_line;
+
+typedef struct {
+    const group_line *groups;
+    uint32_t group_count;
+    const track_line *tracks;
+    uint32_t track_count;
+} catalogue_lines;
+
+/* The lines of two tables, name_groups and name_tracks. */
+#define LINES(name)                                                                                                        \
+    {                                                                                                                      \
+        name##_groups, sizeof name##_groups / sizeof name##_groups[0], name##_tracks,                                      \
+            sizeof name##_tracks / sizeof name##_tracks[0]                                                                 \
+    }
+
+void tables_of_lines(const catalogue_lines *lines, tables *t);
+
+/* The sample catalogue of document 01, with titles that are chosen here. */
+extern const catalogue_lines SAMPLE_LINES;
+void sample_catalogue(tables *t);
+
+#endif

@@ -1,0 +1,309 @@
+/* The door to the desk player core for C and C++: what a host holds is one struct, and each call of mcs.h has a wrapper that
+ * takes it. There is nothing to link but the library: everything here is inline, and mcs.h, which is proved, lies below it.
+ *
+ *     static struct mcs_desk desk;
+ *     desk.catalogue = ...;                        (the lent tables, or mcs_catalogue_load from a card)
+ *     mcs_desk_start(&desk, name, name_len, MCS_ALL_OPCODES, content_control_id);
+ *
+ * What a host has to know:
+ *
+ * - After every call that is accepted it takes, until nothing is owed, and sends what each take gives:
+ *
+ *       struct mcs_served served;
+ *       uint8_t value[MCS_OUTPUT_OCTETS];
+ *       while (mcs_desk_take(&desk, value, sizeof value, &served) == MCS_OK && served.characteristic != MCS_NOTHING) {
+ *           notify(served.client, served.characteristic, value, served.length);
+ *       }
+ *
+ *   It may take later, or stop in between where the radio has no room: what is owed stays owed. A value is the one of the
+ *   moment of the take, so it takes when it can send.
+ * - Every call looks at the whole catalogue, so its cost grows with the tables: microseconds for a few tracks, milliseconds on
+ *   a small chip for a full catalogue. No call belongs into an interrupt.
+ * - ATT_MTU and encryption are given when a client connects and stay until it disconnects. A host connects a client here when
+ *   both are settled; where one changes later, it disconnects, connects and subscribes the client again.
+ * - One thread at a time for a state. Different states have nothing in common.
+ * - A number that is not MCS_OK says that nothing was altered. MCS_IS_ATT_ERROR tells which numbers are answers to the client,
+ *   to be sent as the error code of an ATT Error Response; all others are faults of the host itself (a wrong catalogue, state,
+ *   client number or buffer, a card or a cue sheet that is refused), and must not go on air.
+ */
+#ifndef MCS_DESK_H
+#define MCS_DESK_H
+
+#include "mcs.h"
+
+/* ---- Numbers in words --------------------------------------------------------------------------------------------------------
+ * Each list names a macro for every row, in the order in which the numbers are given. The words are plain ASCII.
+ */
+
+/* Whether a number that a call returned is the error code of an ATT Error Response. */
+#define MCS_IS_ATT_ERROR(number) ((number)-1u < 0x80u)
+
+/* ROW(number, words), in the order in which a call looks for them. */
+#define MCS_EACH_REFUSAL(ROW)                                                                                                  \
+    ROW(MCS_BAD_CATALOGUE, "a rule of the catalogue fails")                                                                    \
+    ROW(MCS_SMALL_OUTPUT, "the lent output has under 128 octets")                                                              \
+    ROW(MCS_BAD_STATE, "the state breaks a rule")                                                                              \
+    ROW(MCS_NO_CLIENT, "there is no such client")                                                                              \
+    ROW(MCS_NOT_CONNECTED, "the client is not connected")                                                                      \
+    ROW(MCS_ALREADY_CONNECTED, "the client is connected already")                                                              \
+    ROW(MCS_BAD_MTU, "ATT_MTU is not 23 to 517")                                                                               \
+    ROW(MCS_NO_CHARACTERISTIC, "there is no such characteristic")                                                              \
+    ROW(MCS_NO_SLOT, "the characteristic is not notified")                                                                     \
+    ROW(MCS_NOT_READABLE, "the characteristic may not be read")                                                                \
+    ROW(MCS_NOT_WRITABLE, "the characteristic may not be written")                                                             \
+    ROW(MCS_NOT_ENCRYPTED, "the connection is not encrypted")                                                                  \
+    ROW(MCS_VALUE_CHANGED, "the value changed during the long read")                                                           \
+    ROW(MCS_BEYOND_END, "the offset is above the value's length")                                                              \
+    ROW(MCS_BAD_LENGTH, "the value's length is wrong")                                                                         \
+    ROW(MCS_BAD_ORDER, "the playing order is not 1 to 8")                                                                      \
+    ROW(MCS_TOO_MANY_RESULTS, "eight results wait already")                                                                    \
+    ROW(MCS_BAD_NAME, "the name has over 128 octets or is not UTF-8")                                                          \
+    ROW(MCS_BAD_GROUP, "the group is absent or has no tracks")                                                                 \
+    ROW(MCS_BAD_CARD_LENGTH, "the card's length is no multiple of 512, or over 65,536")                                        \
+    ROW(MCS_BAD_BLOCK, "a block of the card breaks a rule")                                                                    \
+    ROW(MCS_NO_ROOM, "the card holds more than a catalogue, or the lent tables, may")                                          \
+    ROW(MCS_LONG_SHEET, "the cue sheet has over 65,536 octets")                                                                \
+    ROW(MCS_BAD_LINE, "a line of the cue sheet is not understood")                                                             \
+    ROW(MCS_NOT_RISING, "the first start is not 0, or a start is not above the one before")                                    \
+    ROW(MCS_MANY_STARTS, "the cue sheet has more starts than there is room for")
+
+/* ROW(number, properties, words), by rising number. The slots, which are bits in a client's words of the state, are the
+ * characteristics that notify, in this order. */
+#define MCS_MAY_READ 1u
+#define MCS_MAY_WRITE 2u
+#define MCS_MAY_NOTIFY 4u
+#define MCS_EACH_CHARACTERISTIC(ROW)                                                                                           \
+    ROW(MCS_NAME, MCS_MAY_READ | MCS_MAY_NOTIFY, "Media Player Name")                                                          \
+    ROW(MCS_TRACK_CHANGED, MCS_MAY_NOTIFY, "Track Changed")                                                                    \
+    ROW(MCS_TITLE, MCS_MAY_READ | MCS_MAY_NOTIFY, "Track Title")                                                               \
+    ROW(MCS_DURATION, MCS_MAY_READ | MCS_MAY_NOTIFY, "Track Duration")                                                         \
+    ROW(MCS_POSITION, MCS_MAY_READ | MCS_MAY_WRITE | MCS_MAY_NOTIFY, "Track Position")                                         \
+    ROW(MCS_PLAYBACK_SPEED, MCS_MAY_READ | MCS_MAY_WRITE | MCS_MAY_NOTIFY, "Playback Speed")                                   \
+    ROW(MCS_SEEKING_SPEED, MCS_MAY_READ | MCS_MAY_NOTIFY, "Seeking Speed")                                                     \
+    ROW(MCS_PLAYING_ORDER, MCS_MAY_READ | MCS_MAY_WRITE | MCS_MAY_NOTIFY, "Playing Order")                                     \
+    ROW(MCS_ORDERS_SUPPORTED, MCS_MAY_READ, "Playing Orders Supported")                                                        \
+    ROW(MCS_MEDIA_STATE, MCS_MAY_READ | MCS_MAY_NOTIFY, "Media State")                                                         \
+    ROW(MCS_CONTROL_POINT, MCS_MAY_WRITE | MCS_MAY_NOTIFY, "Media Control Point")                                              \
+    ROW(MCS_OPCODES_SUPPORTED, MCS_MAY_READ, "Media Control Point Opcodes Supported")                                          \
+    ROW(MCS_CONTENT_CONTROL_ID, MCS_MAY_READ, "Content Control ID")
+
+/* ROW(number, octets of its parameter, words), in the order of the bits of the mask, from bit 0. */
+#define MCS_EACH_OPCODE(ROW)                                                                                                   \
+    ROW(MCS_OPCODE_PLAY, 0u, "Play")                                                                                           \
+    ROW(MCS_OPCODE_PAUSE, 0u, "Pause")                                                                                         \
+    ROW(MCS_OPCODE_FAST_REWIND, 0u, "Fast Rewind")                                                                             \
+    ROW(MCS_OPCODE_FAST_FORWARD, 0u, "Fast Forward")                                                                           \
+    ROW(MCS_OPCODE_STOP, 0u, "Stop")                                                                                           \
+    ROW(MCS_OPCODE_MOVE_RELATIVE, 4u, "Move Relative")                                                                         \
+    ROW(MCS_OPCODE_PREVIOUS_SEGMENT, 0u, "Previous Segment")                                                                   \
+    ROW(MCS_OPCODE_NEXT_SEGMENT, 0u, "Next Segment")                                                                           \
+    ROW(MCS_OPCODE_FIRST_SEGMENT, 0u, "First Segment")                                                                         \
+    ROW(MCS_OPCODE_LAST_SEGMENT, 0u, "Last Segment")                                                                           \
+    ROW(MCS_OPCODE_GOTO_SEGMENT, 4u, "Goto Segment")                                                                           \
+    ROW(MCS_OPCODE_PREVIOUS_TRACK, 0u, "Previous Track")                                                                       \
+    ROW(MCS_OPCODE_NEXT_TRACK, 0u, "Next Track")                                                                               \
+    ROW(MCS_OPCODE_FIRST_TRACK, 0u, "First Track")                                                                             \
+    ROW(MCS_OPCODE_LAST_TRACK, 0u, "Last Track")                                                                               \
+    ROW(MCS_OPCODE_GOTO_TRACK, 4u, "Goto Track")                                                                               \
+    ROW(MCS_OPCODE_PREVIOUS_GROUP, 0u, "Previous Group")                                                                       \
+    ROW(MCS_OPCODE_NEXT_GROUP, 0u, "Next Group")                                                                               \
+    ROW(MCS_OPCODE_FIRST_GROUP, 0u, "First Group")                                                                             \
+    ROW(MCS_OPCODE_LAST_GROUP, 0u, "Last Group")                                                                               \
+    ROW(MCS_OPCODE_GOTO_GROUP, 4u, "Goto Group")
+
+/* ROW(number, words). */
+#define MCS_EACH_RESULT(ROW)                                                                                                   \
+    ROW(MCS_RESULT_SUCCESS, "Success")                                                                                         \
+    ROW(MCS_RESULT_NOT_SUPPORTED, "Opcode Not Supported")                                                                      \
+    ROW(MCS_RESULT_INACTIVE, "Media Player Inactive")                                                                          \
+    ROW(MCS_RESULT_NOT_COMPLETED, "Command Cannot Be Completed")
+
+#define MCS_EACH_MEDIA_STATE(ROW)                                                                                              \
+    ROW(MCS_INACTIVE, "Inactive")                                                                                              \
+    ROW(MCS_PLAYING, "Playing")                                                                                                \
+    ROW(MCS_PAUSED, "Paused")                                                                                                  \
+    ROW(MCS_SEEKING, "Seeking")
+
+#define MCS_EACH_PLAYING_ORDER(ROW)                                                                                            \
+    ROW(1u, "Single Once")                                                                                                     \
+    ROW(2u, "Single Repeat")                                                                                                   \
+    ROW(3u, "In Order Once")                                                                                                   \
+    ROW(4u, "In Order Repeat")                                                                                                 \
+    ROW(5u, "Oldest Once")                                                                                                     \
+    ROW(6u, "Oldest Repeat")                                                                                                   \
+    ROW(7u, "Newest Once")                                                                                                     \
+    ROW(8u, "Newest Repeat")
+
+/* The words of a number; "unknown" for one that has none. */
+#define MCS_WORDS_OF(number, words)                                                                                            \
+    case number:                                                                                                               \
+        return words;
+#define MCS_WORDS_OF_THREE(number, middle, words) MCS_WORDS_OF(number, words)
+#define MCS_WORDS(function, each, row)                                                                                         \
+    static inline const char *function(uint32_t number)                                                                        \
+    {                                                                                                                          \
+        switch (number) {                                                                                                      \
+            each(row) default : return "unknown";                                                                              \
+        }                                                                                                                      \
+    }
+MCS_WORDS(mcs_refusal_words, MCS_EACH_REFUSAL, MCS_WORDS_OF)
+MCS_WORDS(mcs_characteristic_words, MCS_EACH_CHARACTERISTIC, MCS_WORDS_OF_THREE)
+MCS_WORDS(mcs_opcode_words, MCS_EACH_OPCODE, MCS_WORDS_OF_THREE)
+MCS_WORDS(mcs_result_words, MCS_EACH_RESULT, MCS_WORDS_OF)
+MCS_WORDS(mcs_media_state_words, MCS_EACH_MEDIA_STATE, MCS_WORDS_OF)
+MCS_WORDS(mcs_playing_order_words, MCS_EACH_PLAYING_ORDER, MCS_WORDS_OF)
+#undef MCS_WORDS
+#undef MCS_WORDS_OF_THREE
+#undef MCS_WORDS_OF
+
+/* ---- What a host holds ----------------------------------------------------------------------------------------------------- */
+
+/* The lent tables of a catalogue: lengths in words, of the text in octets. They may lie in flash. */
+struct mcs_catalogue {
+    const uint32_t *groups;
+    size_t groups_len;
+    const uint32_t *tracks;
+    size_t tracks_len;
+    const uint32_t *segments;
+    size_t segments_len;
+    const uint8_t *text;
+    size_t text_len;
+};
+
+/* A catalogue as the calls of mcs.h take it, argument by argument. */
+#define MCS_LENT(catalogue)                                                                                                    \
+    (catalogue).groups, (catalogue).groups_len, (catalogue).tracks, (catalogue).tracks_len, (catalogue).segments,              \
+        (catalogue).segments_len, (catalogue).text, (catalogue).text_len
+
+/* A desk: the catalogue that its calls are lent, and its state. The state may be stored and restored by its octets, together
+ * with MCS_STATE_LAYOUT; it is checked by every call. */
+struct mcs_desk {
+    struct mcs_catalogue catalogue;
+    uint8_t state[MCS_STATE_OCTETS];
+};
+
+/* What a take served: so many octets of this characteristic to this client. */
+struct mcs_served {
+    uint32_t client, characteristic, length;
+};
+
+/* The characteristic of a take by which nothing was owed to anyone. */
+#define MCS_NOTHING 0u
+
+/* Tables that a card is loaded into, with their room in words, of the text in octets. */
+struct mcs_room {
+    uint32_t *groups;
+    size_t groups_len;
+    uint32_t *tracks;
+    size_t tracks_len;
+    uint32_t *segments;
+    size_t segments_len;
+    uint8_t *text;
+    size_t text_len;
+};
+
+/* What a cue sheet gave: the number of its starts where it was accepted, the line where MCS_BAD_LINE or MCS_NOT_RISING
+ * refused it. */
+struct mcs_cue {
+    uint32_t count, line;
+};
+
+/* ---- Calls: what each does, and its refusals, stands in mcs.h ---------------------------------------------------------------- */
+
+/* Card load; where it is accepted, the catalogue is what was loaded, and lies in the room's tables. */
+static inline uint32_t mcs_catalogue_load(const uint8_t *card, size_t card_len, const struct mcs_room *room,
+                                          struct mcs_catalogue *catalogue)
+{
+    uint32_t counts[4] = {0, 0, 0, 0};
+    uint32_t number = mcs_card_load(card, card_len, MCS_LENT(*room), counts);
+    if (number == MCS_OK) {
+        catalogue->groups = room->groups;
+        catalogue->groups_len = counts[0] * MCS_GROUP_WORDS;
+        catalogue->tracks = room->tracks;
+        catalogue->tracks_len = counts[1] * MCS_TRACK_WORDS;
+        catalogue->segments = room->segments;
+        catalogue->segments_len = counts[2] * MCS_SEGMENT_WORDS;
+        catalogue->text = room->text;
+        catalogue->text_len = counts[3];
+    }
+    return number;
+}
+
+/* Cue sheet; starts is the table that is filled, and starts_len its room. */
+static inline uint32_t mcs_cue_load(const uint8_t *sheet, size_t sheet_len, uint32_t *starts, size_t starts_len,
+                                    struct mcs_cue *cue)
+{
+    return mcs_cue_sheet(sheet, sheet_len, starts, starts_len, &cue->count, &cue->line);
+}
+
+/* Start. The desk's catalogue is there before it. */
+static inline uint32_t mcs_desk_start(struct mcs_desk *desk, const uint8_t *name, size_t name_len, uint32_t mask, uint8_t ccid)
+{
+    return mcs_start(MCS_LENT(desk->catalogue), name, name_len, mask, ccid, desk->state);
+}
+
+static inline uint32_t mcs_desk_set_name(struct mcs_desk *desk, const uint8_t *name, size_t name_len)
+{
+    return mcs_set_name(MCS_LENT(desk->catalogue), desk->state, name, name_len);
+}
+
+static inline uint32_t mcs_desk_activate(struct mcs_desk *desk, uint32_t group)
+{
+    return mcs_activate(MCS_LENT(desk->catalogue), desk->state, group);
+}
+
+static inline uint32_t mcs_desk_deactivate(struct mcs_desk *desk)
+{
+    return mcs_deactivate(MCS_LENT(desk->catalogue), desk->state);
+}
+
+static inline uint32_t mcs_desk_advance(struct mcs_desk *desk, uint32_t hundredths)
+{
+    return mcs_advance(MCS_LENT(desk->catalogue), desk->state, hundredths);
+}
+
+static inline uint32_t mcs_desk_connect(struct mcs_desk *desk, uint32_t client, uint32_t mtu, uint8_t encrypted)
+{
+    return mcs_connect(MCS_LENT(desk->catalogue), desk->state, client, mtu, encrypted);
+}
+
+static inline uint32_t mcs_desk_disconnect(struct mcs_desk *desk, uint32_t client)
+{
+    return mcs_disconnect(MCS_LENT(desk->catalogue), desk->state, client);
+}
+
+static inline uint32_t mcs_desk_subscribe(struct mcs_desk *desk, uint32_t client, uint32_t characteristic)
+{
+    return mcs_subscribe(MCS_LENT(desk->catalogue), desk->state, client, characteristic);
+}
+
+static inline uint32_t mcs_desk_unsubscribe(struct mcs_desk *desk, uint32_t client, uint32_t characteristic)
+{
+    return mcs_unsubscribe(MCS_LENT(desk->catalogue), desk->state, client, characteristic);
+}
+
+static inline uint32_t mcs_desk_read(struct mcs_desk *desk, uint32_t client, uint32_t characteristic, uint32_t offset,
+                                     uint8_t *out, size_t out_len, uint32_t *length)
+{
+    return mcs_read(MCS_LENT(desk->catalogue), desk->state, client, characteristic, offset, out, out_len, length);
+}
+
+static inline uint32_t mcs_desk_write(struct mcs_desk *desk, uint32_t client, uint32_t characteristic, const uint8_t *value,
+                                      size_t value_len)
+{
+    return mcs_write(MCS_LENT(desk->catalogue), desk->state, client, characteristic, value, value_len);
+}
+
+static inline uint32_t mcs_desk_take(struct mcs_desk *desk, uint8_t *out, size_t out_len, struct mcs_served *served)
+{
+    uint32_t words[3] = {0, 0, 0};
+    uint32_t number = mcs_take(MCS_LENT(desk->catalogue), desk->state, out, out_len, words);
+    if (number == MCS_OK) {
+        served->client = words[0];
+        served->characteristic = words[1];
+        served->length = words[2];
+    }
+    return number;
+}
+
+#endif
