@@ -1,247 +1,157 @@
 /* 4.4.11 Previous and Next Group, 4.4.12 First and Last Group, 4.4.13 Goto Group. */
-#include "tester.h"
+#include "cases.h"
 
-/* Initial Condition of all three: Media Control Point, Media State, Track Changed and, as they are supported, Track Position,
- * Track Duration and Track Title CCCD. (Object IDs are not supported: object transfer is left out.) */
-static const uint32_t group_cccds[] = {MCS_CONTROL_POINT, MCS_MEDIA_STATE, MCS_TRACK_CHANGED, MCS_POSITION,
-                                       MCS_DURATION,      MCS_TITLE,       0};
-
-/* A group with its first and its last track in the orders of a single track, by number, oldest first and newest first, worked
- * out by hand from the stamps and document 01: "when a group is activated or moved to, its lowest track comes first", "by
- * number", "by rising stamp", "by falling stamp; ties by lower number in all". (The last of a single track: by number.) */
+/* A group with its first and its last track in the orders 1 and 2, 3 and 4, 5 and 6, 7 and 8, worked out by hand from the
+ * stamps: document 01, "when a group is activated or moved to, its lowest track comes first", "by number", "by rising stamp",
+ * "by falling stamp; ties by lower number in all". (The last in 1 and 2: by number.) */
 struct member {
     uint32_t group;
-    int32_t tracks; /* how many */
     uint32_t first[4], last[4];
 };
 
-/* The groups of one parent: "Group moves run over the groups of the same parent that have tracks, group 0 left out". */
-struct family {
-    struct catalogue *lent;
+/* The groups with tracks of one parent, in these catalogues. Between the archive's groups 1 and 3, and the sample's, lies one
+ * without tracks (EMPTY_GROUPS); among the archive's three there is none. */
+static const struct family {
+    const catalogue_lines *lines[2];
     uint32_t count; /* TSPX_Number_Groups */
     struct member groups[4];
+} families[] = {
+    {{&ARCHIVE_LINES, &TWINS_LINES},
+     4,
+     {{1, {0, 0, 1, 0}, {3, 3, 0, 3}},
+      {3, {4, 4, 4, 5}, {6, 6, 5, 4}},
+      {4, {7, 7, 8, 7}, {8, 8, 7, 8}},
+      {6, {10, 10, 12, 10}, {12, 12, 11, 12}}}},
+    {{&ARCHIVE_LINES, &TWINS_LINES},
+     3,
+     {{5, {9, 9, 9, 9}, {9, 9, 9, 9}}, {7, {13, 13, 13, 14}, {14, 14, 14, 13}}, {8, {15, 15, 15, 15}, {15, 15, 15, 15}}}},
+    {{&SAMPLE_LINES, NULL}, 2, {{1, {0, 0, 1, 0}, {2, 2, 0, 2}}, {3, {3, 3, 3, 3}, {3, 3, 3, 3}}}},
 };
 
-static const struct family families[] = {
-    {&archive, 4,
-     {{1, 4, {0, 0, 1, 0}, {3, 3, 0, 3}},
-      {3, 3, {4, 4, 4, 5}, {6, 6, 5, 4}},
-      {4, 2, {7, 7, 8, 7}, {8, 8, 7, 8}},
-      {6, 3, {10, 10, 12, 10}, {12, 12, 11, 12}}}},
-    {&archive, 3,
-     {{5, 1, {9, 9, 9, 9}, {9, 9, 9, 9}},
-      {7, 2, {13, 13, 13, 14}, {14, 14, 14, 13}},
-      {8, 1, {15, 15, 15, 15}, {15, 15, 15, 15}}}},
-    {&sample, 2,
-     {{1, 3, {0, 0, 1, 0}, {2, 2, 0, 2}},
-      {3, 1, {3, 3, 3, 3}, {3, 3, 3, 3}}}},
+/* Where a case begins: at a place among a family's groups, in an order. */
+struct start {
+    const catalogue_lines *lines;
+    const struct family *family;
+    uint32_t place;
+    uint8_t order;
 };
-#define FAMILIES (sizeof families / sizeof families[0])
 
-static uint32_t first_track(const struct member *m, uint8_t order)
+/* Calls a case's steps from every start. */
+static void from_everywhere(struct tester *t, void (*steps)(struct tester *t, const struct start *start))
 {
-    return m->first[(order - 1) / 2];
+    for (size_t f = 0; f < sizeof families / sizeof families[0]; f++) {
+        for (size_t c = 0; c < 2 && families[f].lines[c] != NULL; c++) {
+            struct start start = {families[f].lines[c], &families[f], 0, 0};
+            for (start.place = 0; start.place < families[f].count; start.place++) {
+                for (start.order = 1; start.order <= 8; start.order++) {
+                    steps(t, &start);
+                }
+            }
+        }
+    }
 }
 
-static uint32_t last_track(const struct member *m, uint8_t order)
+/* Step 1: the Upper Tester puts the player there, into the middle of the group's last track; step 2 is for Object IDs. */
+static struct setting begin(struct tester *t, const struct start *start)
 {
-    return m->last[(order - 1) / 2];
-}
-
-/* Preamble, CCCDs and 1. "The Upper Tester orders the IUT to be in the Initial State": in the middle of this group's last
- * track. The position is handed back. */
-static uint32_t put_into(struct tester *t, const struct family *f, uint32_t place, uint8_t order, uint8_t initial)
-{
-    const struct member *m = &f->groups[place];
-    uint32_t position = f->lent->track_lines[last_track(m, order)].duration / 2;
-    struct setting setting = {order, m->group, m->tracks, position, initial};
-
-    preamble(t, f->lent);
-    lower_subscribes(t, group_cccds);
+    const struct member *m = &start->family->groups[start->place];
+    const uint32_t track = m->last[(start->order - 1) / 2];
+    struct setting setting = {start->order, m->group, track, start->lines->tracks[track].duration / 2, t->initial};
+    preamble(t, start->lines);
     upper_orders(t, setting);
-    upper_confirms(t, m->group, last_track(m, order));
-    return position;
+    return setting;
 }
 
-/* ---- 4.4.11 Previous and Next Group ---------------------------------------------------------------------------------- */
-
-static void neighbouring_group(struct tester *t, uint8_t opcode, uint8_t initial)
+/* Behind the opcode: the notifications; the group at a place, at its first track. */
+static uint32_t group_at(const struct start *start, uint32_t place) { return start->family->groups[place].group; }
+static uint32_t first_at(const struct start *start, uint32_t place)
 {
-    for (size_t k = 0; k < FAMILIES; k++) {
-        const struct family *f = &families[k];
+    return start->family->groups[place].first[(start->order - 1) / 2];
+}
+#define expect_group(t, start, from, place) expect_moved(t, from, group_at(start, place), first_at(start, place))
 
-        /* "its current group set to a group other than the first or last group within a group of groups" */
-        for (uint32_t place = 1; place + 1 < f->count; place++) {
-            const struct member *to = &f->groups[opcode == NEXT_GROUP ? place + 1 : place - 1];
+/* 4.4.11, from a group that is neither the first nor the last */
+static void neighbouring_group_from(struct tester *t, const struct start *start)
+{
+    if (start->place > 0 && start->place + 1 < start->family->count) {
+        struct setting from = begin(t, start);
+        /* Step 3: the opcode; steps 4 to 9: the notifications; step 10 is for Object IDs. */
+        lower_controls(t, t->opcode, 0);
+        expect_group(t, start, from, t->opcode == MCS_OPCODE_NEXT_GROUP ? start->place + 1 : start->place - 1);
+    }
+}
+static void neighbouring_group(struct tester *t) { from_everywhere(t, neighbouring_group_from); }
 
-            for (uint8_t order = 1; order <= 8; order++) {
-                /* 1. as above. 2. is for Object IDs. */
-                uint32_t from = last_track(&f->groups[place], order);
-                uint32_t position = put_into(t, f, place, order, initial);
-                /* 3. "Write Without Response ... with the Target Opcode" */
-                lower_controls(t, opcode, 0);
-                /* 4. to 9.: notifications of Media Control Point, Media State ("may"), Track Title, Track Duration, Track
-                 * Changed, Track Position; "Else: The Upper Tester confirms". 10. is for Object IDs. */
-                expect_moved(t, opcode, initial, from, position, to->group, first_track(to, order));
+/* 4.4.12, from the second group for First Group, and the last but one for Last Group */
+static void outermost_group_from(struct tester *t, const struct start *start)
+{
+    const uint32_t last = start->family->count - 1, place = t->opcode == MCS_OPCODE_FIRST_GROUP ? 0 : last;
+
+    /* Between the two writes no time passes, or half a second. */
+    for (uint32_t pass = 0; pass <= 50 && start->place == (place == 0 ? 1 : last - 1); pass += 50) {
+        struct setting from = begin(t, start);
+        /* Steps 3 to 10 as in 4.4.11 */
+        lower_controls(t, t->opcode, 0);
+        from = expect_group(t, start, from, place);
+        upper_lets_pass(t, pass);
+        from.position = from.state == MCS_PLAYING ? pass : 0;
+        /* Steps 11 to 15, the opcode once more: its result, and neither title, duration nor Track Changed. Track Position is
+         * sent where it changed, and by the suite where the player is paused (PAUSED_UNSENT); else it reads as in step 9. */
+        lower_controls(t, t->opcode, 0);
+        expect_group(t, start, from, place);
+    }
+}
+static void outermost_group(struct tester *t) { from_everywhere(t, outermost_group_from); }
+
+/* 4.4.13: from every group, every N of round 1 with every N of round 2, where the suite takes one of each at random. Both may
+ * lead to one group (STAYING_UNSENT). */
+static void goto_group_from(struct tester *t, const struct start *start)
+{
+    const uint32_t count = start->family->count;
+
+    for (uint32_t n1 = 1; n1 <= count; n1++) {
+        for (uint32_t n2 = 1; n2 <= count; n2++) {
+            /* Round 1 leaves out the current group's number, round 2 that of round 1. */
+            if (n1 != start->place + 1 && n2 != n1) {
+                struct setting from = begin(t, start);
+                /* Steps 3 to 10 of round 1: group N; and of round 2: group N from the end */
+                lower_controls(t, t->opcode, n1);
+                from = expect_group(t, start, from, n1 - 1);
+                lower_controls(t, t->opcode, -(int64_t)n2);
+                expect_group(t, start, from, count - n2);
             }
         }
     }
 }
+static void goto_group(struct tester *t) { from_everywhere(t, goto_group_from); }
 
-static void previous_group_from_playing(struct tester *t) { neighbouring_group(t, PREVIOUS_GROUP, PLAYING); }
-static void previous_group_from_paused(struct tester *t) { neighbouring_group(t, PREVIOUS_GROUP, PAUSED); }
-static void previous_group_from_seeking(struct tester *t) { neighbouring_group(t, PREVIOUS_GROUP, SEEKING); }
-static void previous_group_from_inactive(struct tester *t) { expect_inactive(t, group_cccds, PREVIOUS_GROUP, 0); }
-static void next_group_from_playing(struct tester *t) { neighbouring_group(t, NEXT_GROUP, PLAYING); }
-static void next_group_from_paused(struct tester *t) { neighbouring_group(t, NEXT_GROUP, PAUSED); }
-static void next_group_from_seeking(struct tester *t) { neighbouring_group(t, NEXT_GROUP, SEEKING); }
-static void next_group_from_inactive(struct tester *t) { expect_inactive(t, group_cccds, NEXT_GROUP, 0); }
+#define GROUP_CHOICES CHOICE(EQUAL_UNSENT "; " EMPTY_GROUPS)
+#define PAUSED_GROUP_CHOICES CHOICE(EQUAL_UNSENT "; " EMPTY_GROUPS "; " PAUSED_UNSENT)
+#define GOTO_GROUP_CHOICES CHOICE(EQUAL_UNSENT "; " STAYING_UNSENT "; " EMPTY_GROUPS)
 
-/* ---- 4.4.12 First and Last Group ------------------------------------------------------------------------------------- */
-
-static void outermost_group(struct tester *t, uint8_t opcode, uint8_t initial)
-{
-    for (size_t k = 0; k < FAMILIES; k++) {
-        const struct family *f = &families[k];
-        /* Table 4.16, Initial Group: "2nd Group" for First Group, "Next to last" for Last Group. */
-        uint32_t place = opcode == FIRST_GROUP ? 1 : f->count - 2;
-        const struct member *to = &f->groups[opcode == FIRST_GROUP ? 0 : f->count - 1];
-
-        for (uint8_t order = 1; order <= 8; order++) {
-            const uint8_t state = state_after_move(initial);
-            const uint32_t from = last_track(&f->groups[place], order), reached = first_track(to, order);
-
-            /* Between the two writes no time passes; then, where the player is Playing, half a second. */
-            for (uint32_t pass = 0; pass <= (state == PLAYING ? 50u : 0u); pass += 50) {
-                /* 1. as above. 2. is for Object IDs. */
-                uint32_t position = put_into(t, f, place, order, initial);
-                long long step_9;
-                /* 3. "Write Without Response ... with the Target Opcode"; 4. to 9. as in 4.4.11. 10. is for Object IDs. */
-                lower_controls(t, opcode, 0);
-                expect_moved(t, opcode, initial, from, position, to->group, reached);
-                step_9 = lower_reads(t, MCS_POSITION);
-                upper_lets_pass(t, pass);
-                expect_silence(t);
-                /* 11. "Write Without Response ... with the Target Opcode", once more */
-                lower_controls(t, opcode, 0);
-                lower_receives(t);
-                /* 12. SUCCESS; Track Title, Track Duration and Track Changed "after Step 3 but not after Step 11" */
-                expect_result(t, opcode, SUCCESS);
-                /* 14. "If Track Position is changed or Track is paused ..., the IUT sends ...; otherwise, the Lower Tester
-                 * executes the GATT Read": document 01 owes it where it is changed, and not for being paused. "If the IUT does
-                 * not send Track Position in Step 14, the value read ... is equal to the one received in Step 9." */
-                if (pass != 0) {
-                    expect_notified(t, MCS_POSITION, 0);
-                } else {
-                    expect_reads(t, MCS_POSITION, step_9);
-                }
-                expect_no_other(t);
-                expect_reads(t, MCS_POSITION, 0);
-                expect_reads(t, MCS_MEDIA_STATE, state);
-                /* 13. and 15. are for Object IDs. "The Upper Tester confirms that the current group is equal to the group" */
-                upper_confirms(t, to->group, reached);
-            }
-        }
-    }
-}
-
-static void first_group_from_playing(struct tester *t) { outermost_group(t, FIRST_GROUP, PLAYING); }
-static void first_group_from_paused(struct tester *t) { outermost_group(t, FIRST_GROUP, PAUSED); }
-static void first_group_from_seeking(struct tester *t) { outermost_group(t, FIRST_GROUP, SEEKING); }
-static void first_group_from_inactive(struct tester *t) { expect_inactive(t, group_cccds, FIRST_GROUP, 0); }
-static void last_group_from_playing(struct tester *t) { outermost_group(t, LAST_GROUP, PLAYING); }
-static void last_group_from_paused(struct tester *t) { outermost_group(t, LAST_GROUP, PAUSED); }
-static void last_group_from_seeking(struct tester *t) { outermost_group(t, LAST_GROUP, SEEKING); }
-static void last_group_from_inactive(struct tester *t) { expect_inactive(t, group_cccds, LAST_GROUP, 0); }
-
-/* ---- 4.4.13 Goto Group ----------------------------------------------------------------------------------------------- */
-
-/* Every first group with every N of round 1 and every N of round 2, where the suite takes one of each at random. */
-static void goto_group(struct tester *t, uint8_t initial)
-{
-    for (size_t k = 0; k < FAMILIES; k++) {
-        const struct family *f = &families[k];
-        const int32_t groups = (int32_t)f->count;
-
-        for (int32_t place = 0; place < groups; place++) {
-            for (int32_t n1 = 1; n1 <= groups; n1++) {
-                for (int32_t n2 = 1; n2 <= groups; n2++) {
-                    const struct member *to1 = &f->groups[n1 - 1], *to2 = &f->groups[groups - n2];
-
-                    /* "between 1 and TSPX_Number_Groups that is not the current group number"; "negative value ... other than
-                     * the number used in round 1" */
-                    if (n1 == place + 1 || n2 == n1) {
-                        continue;
-                    }
-                    for (uint8_t order = 1; order <= 8; order++) {
-                        /* 1. as above. 2. is for Object IDs. */
-                        uint32_t from = last_track(&f->groups[place], order);
-                        uint32_t position = put_into(t, f, (uint32_t)place, order, initial);
-                        /* Round 1: 3. "Goto Group opcode and the N parameter"; 4. to 9.; "group N". 10. is for Object IDs. */
-                        lower_controls(t, GOTO_GROUP, n1);
-                        expect_moved(t, GOTO_GROUP, initial, from, position, to1->group, first_track(to1, order));
-                        /* Round 2: "group (number of groups – abs(N))", there counted from 0. Both rounds may lead to one
-                         * group, and then nothing changes. */
-                        lower_controls(t, GOTO_GROUP, -n2);
-                        expect_moved(t, GOTO_GROUP, state_after_move(initial), first_track(to1, order), 0, to2->group,
-                                     first_track(to2, order));
-                    }
-                }
-            }
-        }
-    }
-}
-
-static void goto_group_from_playing(struct tester *t) { goto_group(t, PLAYING); }
-static void goto_group_from_paused(struct tester *t) { goto_group(t, PAUSED); }
-static void goto_group_from_seeking(struct tester *t) { goto_group(t, SEEKING); }
-static void goto_group_from_inactive(struct tester *t) { expect_inactive(t, group_cccds, GOTO_GROUP, 1); }
-
-#define PAUSED_UNTOLD CHOICE("step 14 owes no Track Position for being paused")
-
-/* Tables 4.15, 4.16 and 4.17 */
 const struct tested_case group_cases[] = {
-    CASE("MCS/SR/MCP/BV-50-C", media_control, PASS, previous_group_from_playing),
-    CASE("MCS/SR/MCP/BV-51-C", media_control, PASS, previous_group_from_paused),
-    CASE("MCS/SR/MCP/BV-52-C", media_control, PASS, previous_group_from_seeking),
-    CASE("MCS/SR/MCP/BV-53-C", media_control, PASS, previous_group_from_inactive),
-    CASE("MCS/SR/MCP/BV-54-C", media_control, PASS, next_group_from_playing),
-    CASE("MCS/SR/MCP/BV-55-C", media_control, PASS, next_group_from_paused),
-    CASE("MCS/SR/MCP/BV-56-C", media_control, PASS, next_group_from_seeking),
-    CASE("MCS/SR/MCP/BV-57-C", media_control, PASS, next_group_from_inactive),
-    CASE("GMCS/SR/MCP/BV-50-C", generic_media_control, PASS, previous_group_from_playing),
-    CASE("GMCS/SR/MCP/BV-51-C", generic_media_control, PASS, previous_group_from_paused),
-    CASE("GMCS/SR/MCP/BV-52-C", generic_media_control, PASS, previous_group_from_seeking),
-    CASE("GMCS/SR/MCP/BV-53-C", generic_media_control, PASS, previous_group_from_inactive),
-    CASE("GMCS/SR/MCP/BV-54-C", generic_media_control, PASS, next_group_from_playing),
-    CASE("GMCS/SR/MCP/BV-55-C", generic_media_control, PASS, next_group_from_paused),
-    CASE("GMCS/SR/MCP/BV-56-C", generic_media_control, PASS, next_group_from_seeking),
-    CASE("GMCS/SR/MCP/BV-57-C", generic_media_control, PASS, next_group_from_inactive),
-
-    CASE("MCS/SR/MCP/BV-58-C", media_control, PASS, first_group_from_playing),
-    CASE("MCS/SR/MCP/BV-59-C", media_control, PAUSED_UNTOLD, first_group_from_paused),
-    CASE("MCS/SR/MCP/BV-60-C", media_control, PASS, first_group_from_seeking),
-    CASE("MCS/SR/MCP/BV-61-C", media_control, PASS, first_group_from_inactive),
-    CASE("MCS/SR/MCP/BV-62-C", media_control, PASS, last_group_from_playing),
-    CASE("MCS/SR/MCP/BV-63-C", media_control, PAUSED_UNTOLD, last_group_from_paused),
-    CASE("MCS/SR/MCP/BV-64-C", media_control, PASS, last_group_from_seeking),
-    CASE("MCS/SR/MCP/BV-65-C", media_control, PASS, last_group_from_inactive),
-    CASE("GMCS/SR/MCP/BV-58-C", generic_media_control, PASS, first_group_from_playing),
-    CASE("GMCS/SR/MCP/BV-59-C", generic_media_control, PAUSED_UNTOLD, first_group_from_paused),
-    CASE("GMCS/SR/MCP/BV-60-C", generic_media_control, PASS, first_group_from_seeking),
-    CASE("GMCS/SR/MCP/BV-61-C", generic_media_control, PASS, first_group_from_inactive),
-    CASE("GMCS/SR/MCP/BV-62-C", generic_media_control, PASS, last_group_from_playing),
-    CASE("GMCS/SR/MCP/BV-63-C", generic_media_control, PAUSED_UNTOLD, last_group_from_paused),
-    CASE("GMCS/SR/MCP/BV-64-C", generic_media_control, PASS, last_group_from_seeking),
-    CASE("GMCS/SR/MCP/BV-65-C", generic_media_control, PASS, last_group_from_inactive),
-
-    CASE("MCS/SR/MCP/BV-66-C", media_control, PASS, goto_group_from_playing),
-    CASE("MCS/SR/MCP/BV-67-C", media_control, PASS, goto_group_from_paused),
-    CASE("MCS/SR/MCP/BV-68-C", media_control, PASS, goto_group_from_seeking),
-    CASE("MCS/SR/MCP/BV-69-C", media_control, PASS, goto_group_from_inactive),
-    CASE("GMCS/SR/MCP/BV-66-C", generic_media_control, PASS, goto_group_from_playing),
-    CASE("GMCS/SR/MCP/BV-67-C", generic_media_control, PASS, goto_group_from_paused),
-    CASE("GMCS/SR/MCP/BV-68-C", generic_media_control, PASS, goto_group_from_seeking),
-    CASE("GMCS/SR/MCP/BV-69-C", generic_media_control, PASS, goto_group_from_inactive),
+    /* Table 4.15 */
+    CASE("/SR/MCP/BV-50-C", GROUP_CHOICES, neighbouring_group, MCS_OPCODE_PREVIOUS_GROUP, MCS_PLAYING, TRACK_CCCDS),
+    CASE("/SR/MCP/BV-51-C", GROUP_CHOICES, neighbouring_group, MCS_OPCODE_PREVIOUS_GROUP, MCS_PAUSED, TRACK_CCCDS),
+    CASE("/SR/MCP/BV-52-C", GROUP_CHOICES, neighbouring_group, MCS_OPCODE_PREVIOUS_GROUP, MCS_SEEKING, TRACK_CCCDS),
+    INACTIVE_CASE("/SR/MCP/BV-53-C", MCS_OPCODE_PREVIOUS_GROUP, TRACK_CCCDS),
+    CASE("/SR/MCP/BV-54-C", GROUP_CHOICES, neighbouring_group, MCS_OPCODE_NEXT_GROUP, MCS_PLAYING, TRACK_CCCDS),
+    CASE("/SR/MCP/BV-55-C", GROUP_CHOICES, neighbouring_group, MCS_OPCODE_NEXT_GROUP, MCS_PAUSED, TRACK_CCCDS),
+    CASE("/SR/MCP/BV-56-C", GROUP_CHOICES, neighbouring_group, MCS_OPCODE_NEXT_GROUP, MCS_SEEKING, TRACK_CCCDS),
+    INACTIVE_CASE("/SR/MCP/BV-57-C", MCS_OPCODE_NEXT_GROUP, TRACK_CCCDS),
+    /* Table 4.16 */
+    CASE("/SR/MCP/BV-58-C", GROUP_CHOICES, outermost_group, MCS_OPCODE_FIRST_GROUP, MCS_PLAYING, TRACK_CCCDS),
+    CASE("/SR/MCP/BV-59-C", PAUSED_GROUP_CHOICES, outermost_group, MCS_OPCODE_FIRST_GROUP, MCS_PAUSED, TRACK_CCCDS),
+    CASE("/SR/MCP/BV-60-C", GROUP_CHOICES, outermost_group, MCS_OPCODE_FIRST_GROUP, MCS_SEEKING, TRACK_CCCDS),
+    INACTIVE_CASE("/SR/MCP/BV-61-C", MCS_OPCODE_FIRST_GROUP, TRACK_CCCDS),
+    CASE("/SR/MCP/BV-62-C", GROUP_CHOICES, outermost_group, MCS_OPCODE_LAST_GROUP, MCS_PLAYING, TRACK_CCCDS),
+    CASE("/SR/MCP/BV-63-C", PAUSED_GROUP_CHOICES, outermost_group, MCS_OPCODE_LAST_GROUP, MCS_PAUSED, TRACK_CCCDS),
+    CASE("/SR/MCP/BV-64-C", GROUP_CHOICES, outermost_group, MCS_OPCODE_LAST_GROUP, MCS_SEEKING, TRACK_CCCDS),
+    INACTIVE_CASE("/SR/MCP/BV-65-C", MCS_OPCODE_LAST_GROUP, TRACK_CCCDS),
+    /* Table 4.17 */
+    CASE("/SR/MCP/BV-66-C", GOTO_GROUP_CHOICES, goto_group, MCS_OPCODE_GOTO_GROUP, MCS_PLAYING, TRACK_CCCDS),
+    CASE("/SR/MCP/BV-67-C", GOTO_GROUP_CHOICES, goto_group, MCS_OPCODE_GOTO_GROUP, MCS_PAUSED, TRACK_CCCDS),
+    CASE("/SR/MCP/BV-68-C", GOTO_GROUP_CHOICES, goto_group, MCS_OPCODE_GOTO_GROUP, MCS_SEEKING, TRACK_CCCDS),
+    INACTIVE_CASE("/SR/MCP/BV-69-C", MCS_OPCODE_GOTO_GROUP, TRACK_CCCDS),
     END_OF_CASES,
 };

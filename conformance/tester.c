@@ -1,35 +1,15 @@
 /* The Lower and the Upper Tester. What is expected is said by the cases; here it is done and compared. */
 #include "tester.h"
+#include "words.h"
 
 #include <stdarg.h>
 #include <stdio.h>
 #include <string.h>
 
-const struct service media_control = {
-    .player_name = "Desk 4",
-    .ccid = 0x07,
-    .lower_client = 0,
-    .upper_client = 1,
-    .third_client = 2,
-    .mtu = 247,
-    .seeks_by = FAST_FORWARD,
+const struct service SERVICE[SERVICES] = {
+    {"MCS", "Desk 4", 0x07, 0, 1, 2, 247, MCS_OPCODE_FAST_FORWARD},
+    {"GMCS", "Transcription office, ground floor", 0xC4, 3, 2, 1, 23, MCS_OPCODE_FAST_REWIND},
 };
-
-const struct service generic_media_control = {
-    .player_name = "Transcription office, ground floor",
-    .ccid = 0xC4,
-    .lower_client = 3,
-    .upper_client = 2,
-    .third_client = 1,
-    .mtu = 23,
-    .seeks_by = FAST_REWIND,
-};
-
-#define LENT(t) \
-    (t)->lent->groups, (t)->lent->groups_len, (t)->lent->tracks, (t)->lent->tracks_len, (t)->lent->segments, \
-        (t)->lent->segments_len, (t)->lent->text, (t)->lent->text_len
-
-/* ---- Expectations ---------------------------------------------------------------------------------------------------- */
 
 const char *file_name(const char *path)
 {
@@ -37,351 +17,356 @@ const char *file_name(const char *path)
     return slash == NULL ? path : slash + 1;
 }
 
-void fail_at(struct tester *t, const char *file, int line, const char *format, ...)
+/* ---- Expectations -------------------------------------------------------------------------------------------------------- */
+
+struct tester *standing(struct tester *t, const char *file, int line)
+{
+    t->file = file_name(file);
+    t->line = line;
+    return t;
+}
+
+static void fail(struct tester *t, const char *format, va_list values)
 {
     char report[sizeof t->first_failure];
-    va_list values;
-    int used = snprintf(report, sizeof report, "%s:%d: ", file_name(file), line);
-    va_start(values, format);
+    int used = snprintf(report, sizeof report, "%s:%d: ", t->file, t->line);
     (void)vsnprintf(report + used, sizeof report - (size_t)used, format, values);
-    va_end(values);
     if (t->tell_all) {
         fprintf(stderr, "%s\n", report);
     }
-    if (t->failures == 0) {
+    if (t->failures++ == 0) {
         memcpy(t->first_failure, report, sizeof report);
     }
-    t->failures++;
 }
 
-void expect_equal_at(struct tester *t, const char *file, int line, const char *what, long long is, long long should)
+bool require(struct tester *t, bool holds, const char *format, ...)
 {
-    if (is != should) {
-        fail_at(t, file, line, "%s is %lld, expected %lld", what, is, should);
+    if (!holds) {
+        va_list values;
+        va_start(values, format);
+        fail(t, format, values);
+        va_end(values);
+    }
+    return holds;
+}
+
+/* For reports: the name of a characteristic, and what a number that a call returned means. */
+static const char *called(uint32_t characteristic) { return mcs_characteristic_words(characteristic); }
+static const char *meaning(uint32_t number) { return number == MCS_OK ? "accepted" : mcs_refusal_words(number); }
+
+/* ---- Steps --------------------------------------------------------------------------------------------------------------- */
+
+void nothing_else_came(struct tester *t)
+{
+    for (size_t k = 0; k < t->received; k++) {
+        require(t, t->inbox[k].expected, "%s was notified, which was not expected", called(t->inbox[k].characteristic));
+    }
+    t->received = 0;
+}
+
+/* Takes what is owed, as long as there is room: more than that no case expects. All is the Lower Tester's, and each has at most
+ * ATT_MTU - 3 octets. */
+static void receive(struct tester *t)
+{
+    while (t->received < INBOX_ROOM) {
+        struct notification *next = &t->inbox[t->received];
+        struct mcs_served served = {0, MCS_NOTHING, 0};
+        uint32_t number = mcs_desk_take(&t->desk, next->octets, sizeof next->octets, &served);
+        if (!require(t, number == MCS_OK, "a take: %s", meaning(number)) || served.characteristic == MCS_NOTHING) {
+            return;
+        }
+        require(t, served.client == LOWER(t), "%s was notified to client %u, which is subscribed to nothing",
+                called(served.characteristic), (unsigned)served.client);
+        require(t, served.length <= t->mtu - 3u, "%s was notified in %u octets at an ATT_MTU of %u",
+                called(served.characteristic), (unsigned)served.length, (unsigned)t->mtu);
+        next->characteristic = served.characteristic;
+        next->length = served.length;
+        next->expected = t->forgets;
+        t->received++;
     }
 }
 
-void expect_less_at(struct tester *t, const char *file, int line, const char *what, long long is, long long bound)
+void begin_case(struct tester *t, const struct service *service, bool tell_all)
 {
-    if (is >= bound) {
-        fail_at(t, file, line, "%s is %lld, expected less than %lld", what, is, bound);
+    memset(t, 0, sizeof *t);
+    t->service = service;
+    t->seeks_by = service->seeks_by;
+    t->tell_all = tell_all;
+    standing(t, __FILE__, __LINE__);
+}
+
+void end_case(struct tester *t)
+{
+    if (require(t, t->expectations != 0, "nothing is expected")) {
+        nothing_else_came(t);
+        receive(t);
+        nothing_else_came(t);
     }
 }
 
-static void expect_accepted(struct tester *t, const char *file, int line, const char *what, uint32_t number)
+/* A step: what the one before brought has been expected; the call is accepted; what it brings is taken. */
+#define STEP(t, what, call) (nothing_else_came(t), made(t, what, call))
+static void made(struct tester *t, const char *what, uint32_t number)
 {
-    if (number != MCS_OK) {
-        fail_at(t, file, line, "%s refused with %u (0x%02X)", what, (unsigned)number, (unsigned)number);
+    require(t, number == MCS_OK, "%s: %s", what, meaning(number));
+    receive(t);
+}
+
+/* ---- The Upper Tester ---------------------------------------------------------------------------------------------------- */
+
+void preamble_with(struct tester *t, const catalogue_lines *lines, uint32_t mask, uint32_t mtu)
+{
+    const char *name = t->service->player_name;
+    if (t->lines != lines) {
+        t->lines = lines;
+        tables_of_lines(lines, &t->made);
+        t->desk.catalogue = lent(&t->made);
+    }
+    t->mtu = mtu;
+    memset(t->desk.state, 0xEE, sizeof t->desk.state); /* what the octets held before a start does not matter */
+    STEP(t, "start", mcs_desk_start(&t->desk, (const uint8_t *)name, strlen(name), mask, t->service->ccid));
+    lower_connects(t);
+    STEP(t, "connecting the panel", mcs_desk_connect(&t->desk, UPPER(t), 23, 1));
+    lower_subscribes(t, t->cccds);
+}
+
+void preamble(struct tester *t, const catalogue_lines *lines)
+{
+    preamble_with(t, lines, MCS_ALL_OPCODES, t->service->mtu);
+}
+
+void upper_activates(struct tester *t, uint32_t group)
+{
+    STEP(t, "activating a group", mcs_desk_activate(&t->desk, group));
+}
+
+void upper_renames(struct tester *t, const char *name)
+{
+    STEP(t, "renaming the player", mcs_desk_set_name(&t->desk, (const uint8_t *)name, strlen(name)));
+}
+
+void upper_lets_pass(struct tester *t, uint32_t hundredths)
+{
+    STEP(t, "letting time pass", mcs_desk_advance(&t->desk, hundredths));
+}
+
+void upper_writes(struct tester *t, uint32_t characteristic, const uint8_t *octets, size_t length)
+{
+    STEP(t, "the panel's write", mcs_desk_write(&t->desk, UPPER(t), characteristic, octets, length));
+}
+
+void upper_controls(struct tester *t, uint8_t opcode) { upper_writes(t, MCS_CONTROL_POINT, &opcode, 1); }
+
+static bool is_at(const struct tester *t, struct setting setting)
+{
+    const uint8_t *state = t->desk.state;
+    return state[MCS_AT_ORDER] == setting.order && word_at(state + MCS_AT_GROUP) == setting.group &&
+           word_at(state + MCS_AT_TRACK) == setting.track && word_at(state + MCS_AT_POSITION) == setting.position &&
+           state[MCS_AT_MEDIA_STATE] == setting.state;
+}
+
+void upper_orders(struct tester *t, struct setting setting)
+{
+    static const uint8_t by_number = 3;
+    const bool then_deactivates = setting.state == MCS_INACTIVE;
+    uint8_t track[5], position[4];
+    uint32_t track_octets =
+        control_value(track, MCS_OPCODE_GOTO_TRACK, setting.track - group_word(&t->made, setting.group, FIRST_TRACK) + 1);
+    put_word(position, setting.position);
+    setting.state = then_deactivates ? MCS_PAUSED : setting.state;
+
+    /* The track is chosen by its number; the order is written afterwards, which moves nothing. */
+    t->forgets = true;
+    upper_writes(t, MCS_PLAYING_ORDER, &by_number, 1);
+    upper_activates(t, setting.group);
+    upper_writes(t, MCS_CONTROL_POINT, track, track_octets);
+    upper_writes(t, MCS_PLAYING_ORDER, &setting.order, 1);
+    upper_writes(t, MCS_POSITION, position, sizeof position);
+    if (setting.state == MCS_PLAYING) {
+        upper_controls(t, MCS_OPCODE_PLAY);
+    } else if (setting.state == MCS_SEEKING) {
+        upper_controls(t, t->seeks_by);
+    }
+    require(t, is_at(t, setting), "the player is not where it was put");
+    if (then_deactivates) {
+        STEP(t, "deactivating", mcs_desk_deactivate(&t->desk));
+    }
+    t->forgets = false;
+}
+
+void upper_confirms(struct tester *t, struct setting setting)
+{
+    expect(t, is_at(t, setting), "the player is not in group %u, track %u, at %u, in order %u, in state %u",
+           (unsigned)setting.group, (unsigned)setting.track, (unsigned)setting.position, (unsigned)setting.order,
+           (unsigned)setting.state);
+}
+
+/* ---- The Lower Tester ---------------------------------------------------------------------------------------------------- */
+
+static void each_cccd(struct tester *t, uint32_t cccds, const char *what,
+                      uint32_t (*call)(struct mcs_desk *, uint32_t, uint32_t))
+{
+    for (uint32_t characteristic = 0; characteristic < CHARACTERISTIC_BOUND; characteristic++) {
+        if ((cccds & CCCD(characteristic)) != 0) {
+            STEP(t, what, call(&t->desk, LOWER(t), characteristic));
+        }
     }
 }
 
-/* ---- Octets ---------------------------------------------------------------------------------------------------------- */
+void lower_subscribes(struct tester *t, uint32_t cccds) { each_cccd(t, cccds, "subscribing", mcs_desk_subscribe); }
+void lower_unsubscribes(struct tester *t, uint32_t cccds) { each_cccd(t, cccds, "unsubscribing", mcs_desk_unsubscribe); }
 
-/* Document 01: "6, 7, 19 four octets; 16 two; ... the rest one." */
-static uint32_t width_of(uint32_t characteristic)
+void lower_drops_bearer(struct tester *t) { STEP(t, "disconnecting", mcs_desk_disconnect(&t->desk, LOWER(t))); }
+void lower_connects(struct tester *t) { STEP(t, "connecting", mcs_desk_connect(&t->desk, LOWER(t), t->mtu, 1)); }
+
+void third_connects_unencrypted(struct tester *t)
+{
+    STEP(t, "connecting unencrypted", mcs_desk_connect(&t->desk, THIRD(t), 23, 0));
+}
+
+/* A number as the octets of a characteristic say it, and how many there are: document 01, "6, 7, 19 four octets; 16 two; ... the
+ * rest one". Durations, positions and speeds are signed (001, 3.6 to 3.9). */
+static long long number_of(uint32_t characteristic, const uint8_t *octets, uint32_t *width)
 {
     switch (characteristic) {
     case MCS_DURATION:
     case MCS_POSITION:
+        *width = 4;
+        return signed_word(octets);
     case MCS_OPCODES_SUPPORTED:
-        return 4;
+        *width = 4;
+        return word_at(octets);
     case MCS_ORDERS_SUPPORTED:
-        return 2;
+        *width = 2;
+        return octets[0] | octets[1] << 8;
+    case MCS_PLAYBACK_SPEED:
+    case MCS_SEEKING_SPEED:
+        *width = 1;
+        return signed_octet(octets[0]);
     default:
-        return 1;
+        *width = 1;
+        return octets[0];
     }
 }
 
-/* 001, 1.7: the least significant octet first. */
-static uint32_t word_of(const uint8_t *octets, uint32_t width)
+/* Whether these octets are the number; `how` is what was done to get them. */
+static void expect_number(struct tester *t, const char *how, uint32_t characteristic, const uint8_t *octets, uint32_t length,
+                          long long number)
 {
-    uint32_t word = 0;
-    for (uint32_t k = 0; k < width; k++) {
-        word |= (uint32_t)octets[k] << (8u * k);
-    }
-    return word;
+    uint32_t width;
+    long long is = number_of(characteristic, octets, &width);
+    expect(t, length == width && is == number, "%s %s %lld in %u octets, expected %lld in %u", called(characteristic), how, is,
+           (unsigned)length, number, (unsigned)width);
 }
 
-/* The number that a characteristic's octets say. 001, 3.6 to 3.9: durations, positions and speeds are signed. */
-static long long number_of(uint32_t characteristic, const uint8_t *octets)
-{
-    uint32_t width = width_of(characteristic), word = word_of(octets, width);
-    bool is_signed = characteristic == MCS_DURATION || characteristic == MCS_POSITION ||
-                     characteristic == MCS_PLAYBACK_SPEED || characteristic == MCS_SEEKING_SPEED;
-    long long range = 1LL << (8u * width);
-    return is_signed && word >= (unsigned long long)range / 2u ? (long long)word - range : (long long)word;
-}
-
-static void put_number(uint8_t octets[4], uint32_t number)
-{
-    for (uint32_t k = 0; k < 4u; k++) {
-        octets[k] = (uint8_t)(number >> (8u * k) & 0xFFu);
-    }
-}
-
-bool has_parameter(uint8_t opcode)
-{
-    return opcode == MOVE_RELATIVE || opcode == GOTO_SEGMENT || opcode == GOTO_TRACK || opcode == GOTO_GROUP;
-}
-
-/* An opcode and its parameter as written to the Media Control Point; how many octets. */
-static size_t control_octets(uint8_t octets[5], uint8_t opcode, int32_t parameter)
-{
-    octets[0] = opcode;
-    if (!has_parameter(opcode)) {
-        return 1;
-    }
-    put_number(octets + 1, (uint32_t)parameter);
-    return 5;
-}
-
-/* ---- The Upper Tester ------------------------------------------------------------------------------------------------ */
-
-void preamble_at(struct tester *t, const char *file, int line, const struct catalogue *catalogue, uint32_t mask, uint32_t mtu)
-{
-    const char *name = t->service->player_name;
-    t->lent = catalogue;
-    t->mtu = mtu;
-    t->received = 0;
-    memset(t->state, 0xEE, sizeof t->state); /* what the octets held before a start does not matter */
-    expect_accepted(t, file, line, "start",
-                    mcs_start(LENT(t), (const uint8_t *)name, strlen(name), mask, t->service->ccid, t->state));
-    expect_accepted(t, file, line, "connecting the Lower Tester", mcs_connect(LENT(t), t->state, LOWER(t), mtu, 1));
-    expect_accepted(t, file, line, "connecting the panel", mcs_connect(LENT(t), t->state, UPPER(t), 23, 1));
-}
-
-void upper_activates_at(struct tester *t, const char *file, int line, uint32_t group)
-{
-    expect_accepted(t, file, line, "activating a group", mcs_activate(LENT(t), t->state, group));
-}
-
-void upper_renames_at(struct tester *t, const char *file, int line, const char *name)
-{
-    expect_accepted(t, file, line, "renaming the player",
-                    mcs_set_name(LENT(t), t->state, (const uint8_t *)name, strlen(name)));
-}
-
-void upper_lets_pass_at(struct tester *t, const char *file, int line, uint32_t hundredths)
-{
-    expect_accepted(t, file, line, "time passing", mcs_advance(LENT(t), t->state, hundredths));
-}
-
-void upper_writes_at(struct tester *t, const char *file, int line, uint32_t characteristic, const uint8_t *octets,
-                     size_t length)
-{
-    expect_accepted(t, file, line, "the panel's write",
-                    mcs_write(LENT(t), t->state, UPPER(t), characteristic, octets, length));
-}
-
-void upper_controls_at(struct tester *t, const char *file, int line, uint8_t opcode, int32_t parameter)
-{
-    uint8_t octets[5];
-    size_t length = control_octets(octets, opcode, parameter);
-    upper_writes_at(t, file, line, MCS_CONTROL_POINT, octets, length);
-}
-
-void upper_orders_at(struct tester *t, const char *file, int line, struct setting setting)
-{
-    uint8_t in_order = 3; /* by number, once: 001, Table 3.3 */
-    uint8_t position[4];
-
-    /* The track is chosen in the order itself; where that is a single track, by number, and the order is set afterwards. */
-    upper_writes_at(t, file, line, MCS_PLAYING_ORDER, setting.order <= 2 ? &in_order : &setting.order, 1);
-    upper_activates_at(t, file, line, setting.group);
-    upper_controls_at(t, file, line, GOTO_TRACK, setting.nth);
-    upper_writes_at(t, file, line, MCS_PLAYING_ORDER, &setting.order, 1);
-    put_number(position, setting.position);
-    upper_writes_at(t, file, line, MCS_POSITION, position, 4);
-    switch (setting.state) {
-    case PLAYING:
-        upper_controls_at(t, file, line, PLAY, 0);
-        break;
-    case SEEKING:
-        upper_controls_at(t, file, line, t->service->seeks_by, 0);
-        break;
-    case INACTIVE:
-        expect_accepted(t, file, line, "deactivating", mcs_deactivate(LENT(t), t->state));
-        break;
-    default:
-        break; /* activated: Paused */
-    }
-    if (setting.state != INACTIVE) {
-        expect_equal_at(t, file, line, "the group put up", word_of(t->state + MCS_AT_GROUP, 4), setting.group);
-        expect_equal_at(t, file, line, "the position put up", word_of(t->state + MCS_AT_POSITION, 4), setting.position);
-    }
-    expect_equal_at(t, file, line, "the state put up", t->state[MCS_AT_MEDIA_STATE], setting.state);
-    lower_receives_at(t, file, line);
-    t->received = 0;
-}
-
-void upper_confirms_at(struct tester *t, const char *file, int line, uint32_t group, uint32_t track)
-{
-    expect_equal_at(t, file, line, "the current group", word_of(t->state + MCS_AT_GROUP, 4), group);
-    expect_equal_at(t, file, line, "the current track", word_of(t->state + MCS_AT_TRACK, 4), track);
-}
-
-/* ---- The Lower Tester ------------------------------------------------------------------------------------------------ */
-
-void lower_subscribes_at(struct tester *t, const char *file, int line, const uint32_t *characteristics)
-{
-    for (; *characteristics != 0; characteristics++) {
-        expect_accepted(t, file, line, "subscribing", mcs_subscribe(LENT(t), t->state, LOWER(t), *characteristics));
-    }
-}
-
-void lower_unsubscribes_at(struct tester *t, const char *file, int line, uint32_t characteristic)
-{
-    expect_accepted(t, file, line, "unsubscribing", mcs_unsubscribe(LENT(t), t->state, LOWER(t), characteristic));
-}
-
-void lower_drops_bearer_at(struct tester *t, const char *file, int line)
-{
-    expect_accepted(t, file, line, "disconnecting", mcs_disconnect(LENT(t), t->state, LOWER(t)));
-}
-
-void lower_connects_at(struct tester *t, const char *file, int line)
-{
-    expect_accepted(t, file, line, "connecting", mcs_connect(LENT(t), t->state, LOWER(t), t->mtu, 1));
-}
-
-void third_connects_unencrypted_at(struct tester *t, const char *file, int line)
-{
-    expect_accepted(t, file, line, "connecting unencrypted", mcs_connect(LENT(t), t->state, THIRD(t), 23, 0));
-}
-
-long long lower_reads_at(struct tester *t, const char *file, int line, uint32_t characteristic)
+void expect_reads(struct tester *t, uint32_t characteristic, long long number)
 {
     uint8_t octets[MCS_OUTPUT_OCTETS] = {0};
-    uint32_t length = 0;
-    expect_accepted(t, file, line, "a read",
-                    mcs_read(LENT(t), t->state, LOWER(t), characteristic, 0, octets, sizeof octets, &length));
-    expect_equal_at(t, file, line, "the length read", length, width_of(characteristic));
-    return number_of(characteristic, octets);
-}
-
-void expect_reads_at(struct tester *t, const char *file, int line, uint32_t characteristic, long long number)
-{
-    long long is = lower_reads_at(t, file, line, characteristic);
-    if (is != number) {
-        fail_at(t, file, line, "characteristic %u reads %lld, expected %lld", (unsigned)characteristic, is, number);
+    uint32_t length = 0, answer = mcs_desk_read(&t->desk, LOWER(t), characteristic, 0, octets, sizeof octets, &length);
+    if (require(t, answer == MCS_OK, "reading %s: %s", called(characteristic), meaning(answer))) {
+        expect_number(t, "reads", characteristic, octets, length, number);
     }
 }
 
-void expect_reads_text_at(struct tester *t, const char *file, int line, uint32_t characteristic, const char *text)
+void expect_reads_text(struct tester *t, uint32_t characteristic, const char *text)
 {
-    uint8_t whole[2u * MCS_OUTPUT_OCTETS];
-    uint32_t read = 0, part;
+    const uint32_t whole = (uint32_t)strlen(text), most = t->mtu - 1u;
+    uint32_t offset = 0, part;
 
-    /* Parts are asked for until one is shorter than an answer may be. */
+    /* A client asks for parts until one is shorter than an answer may be. */
     do {
         uint8_t octets[MCS_OUTPUT_OCTETS];
+        const uint32_t rest = whole - offset;
+        uint32_t answer;
         part = 0;
-        expect_accepted(t, file, line, "a read",
-                        mcs_read(LENT(t), t->state, LOWER(t), characteristic, read, octets, sizeof octets, &part));
-        if (part > sizeof octets || part > sizeof whole - read) {
-            fail_at(t, file, line, "a read handed out %u octets", (unsigned)part);
+        answer = mcs_desk_read(&t->desk, LOWER(t), characteristic, offset, octets, sizeof octets, &part);
+        if (!require(t, answer == MCS_OK, "reading %s at %u: %s", called(characteristic), (unsigned)offset, meaning(answer)) ||
+            !expect(t, part == (rest < most ? rest : most) && memcmp(octets, text + offset, part) == 0,
+                    "%s at %u reads %u octets, at an ATT_MTU of %u not those of \"%s\"", called(characteristic),
+                    (unsigned)offset, (unsigned)part, (unsigned)t->mtu, text)) {
             return;
         }
-        memcpy(whole + read, octets, part);
-        read += part;
-    } while (part > 0 && part >= t->mtu - 1u);
-    if (read != strlen(text) || memcmp(whole, text, read) != 0) {
-        fail_at(t, file, line, "characteristic %u reads \"%.*s\", expected \"%s\"", (unsigned)characteristic, (int)read,
-                (const char *)whole, text);
-    }
+        offset += part;
+    } while (part == most);
 }
 
-void lower_writes_at(struct tester *t, const char *file, int line, uint32_t characteristic, const uint8_t *octets,
-                     size_t length)
+void lower_writes(struct tester *t, uint32_t characteristic, const uint8_t *octets, size_t length)
 {
-    expect_accepted(t, file, line, "a write", mcs_write(LENT(t), t->state, LOWER(t), characteristic, octets, length));
+    STEP(t, "a write", mcs_desk_write(&t->desk, LOWER(t), characteristic, octets, length));
 }
 
-void lower_controls_at(struct tester *t, const char *file, int line, uint8_t opcode, int32_t parameter)
-{
-    uint8_t octets[5];
-    size_t length = control_octets(octets, opcode, parameter);
-    lower_writes_at(t, file, line, MCS_CONTROL_POINT, octets, length);
-}
-
-void lower_writes_position_at(struct tester *t, const char *file, int line, int32_t position)
+void lower_writes_position(struct tester *t, int64_t position)
 {
     uint8_t octets[4];
-    put_number(octets, (uint32_t)position);
-    lower_writes_at(t, file, line, MCS_POSITION, octets, sizeof octets);
+    put_word(octets, (uint32_t)position);
+    lower_writes(t, MCS_POSITION, octets, sizeof octets);
 }
 
-static void expect_refused(struct tester *t, const char *file, int line, const char *what, uint32_t is, uint32_t number,
-                           const uint8_t before[MCS_STATE_OCTETS])
+/* The state before a call that the core may refuse. */
+static void keep_state(struct tester *t) { memcpy(t->before, t->desk.state, sizeof t->before); }
+static bool unaltered(const struct tester *t) { return memcmp(t->before, t->desk.state, sizeof t->before) == 0; }
+
+void lower_commands(struct tester *t, uint32_t characteristic, const uint8_t *octets, size_t length)
 {
-    if (is != number) {
-        fail_at(t, file, line, "%s answered with %u (0x%02X), expected %u (0x%02X)", what, (unsigned)is, (unsigned)is,
-                (unsigned)number, (unsigned)number);
-    }
-    if (memcmp(before, t->state, MCS_STATE_OCTETS) != 0) {
-        fail_at(t, file, line, "%s was refused and altered the state", what);
-    }
+    uint32_t number;
+    nothing_else_came(t);
+    keep_state(t);
+    number = mcs_desk_write(&t->desk, LOWER(t), characteristic, octets, length);
+    require(t, number == MCS_OK || MCS_IS_ATT_ERROR(number), "a command, a fault of the host: %s", meaning(number));
+    require(t, number == MCS_OK || unaltered(t), "a command was refused and altered the state");
+    receive(t);
 }
 
-void expect_read_refused_at(struct tester *t, const char *file, int line, uint32_t client, uint32_t characteristic,
-                            uint32_t offset, uint32_t number)
+void lower_controls(struct tester *t, uint8_t opcode, int64_t number)
 {
-    uint8_t before[MCS_STATE_OCTETS], octets[MCS_OUTPUT_OCTETS] = {0};
-    uint32_t length = 0, is;
-    memcpy(before, t->state, sizeof before);
-    is = mcs_read(LENT(t), t->state, client, characteristic, offset, octets, sizeof octets, &length);
-    expect_refused(t, file, line, "a read", is, number, before);
+    uint8_t octets[5];
+    uint32_t length = control_value(octets, opcode, number);
+    lower_commands(t, MCS_CONTROL_POINT, octets, length);
 }
 
-void expect_write_refused_at(struct tester *t, const char *file, int line, uint32_t client, uint32_t characteristic,
-                             const uint8_t *octets, size_t length, uint32_t number)
+void lower_commands_position(struct tester *t, int64_t position)
 {
-    uint8_t before[MCS_STATE_OCTETS];
-    uint32_t is;
-    memcpy(before, t->state, sizeof before);
-    is = mcs_write(LENT(t), t->state, client, characteristic, octets, length);
-    expect_refused(t, file, line, "a write", is, number, before);
+    uint8_t octets[4];
+    put_word(octets, (uint32_t)position);
+    lower_commands(t, MCS_POSITION, octets, sizeof octets);
 }
 
-void expect_subscription_refused_at(struct tester *t, const char *file, int line, uint32_t client,
-                                    uint32_t characteristic, uint32_t number)
+void expect_command_ignored(struct tester *t, uint32_t characteristic, const uint8_t *octets, size_t length)
 {
-    uint8_t before[MCS_STATE_OCTETS];
-    uint32_t is;
-    memcpy(before, t->state, sizeof before);
-    is = mcs_subscribe(LENT(t), t->state, client, characteristic);
-    expect_refused(t, file, line, "a subscription", is, number, before);
+    lower_commands(t, characteristic, octets, length);
+    expect_silence(t);
+    expect(t, unaltered(t), "a write without response of %s was not ignored", called(characteristic));
 }
 
-void lower_receives_at(struct tester *t, const char *file, int line)
+#define REFUSED(t, what, characteristic, number, call) (keep_state(t), expect_refused(t, what, characteristic, number, call))
+static void expect_refused(struct tester *t, const char *what, uint32_t characteristic, uint32_t number, uint32_t is)
 {
-    t->received = 0;
-    for (size_t takes = 0; takes < INBOX_ROOM; takes++) {
-        struct notification next;
-        uint32_t served[3] = {0, 0, 0};
-        uint32_t number;
+    expect(t, is == number, "%s of %s was answered with 0x%02X (%s), expected 0x%02X (%s)", what, called(characteristic),
+           (unsigned)is, meaning(is), (unsigned)number, meaning(number));
+    expect(t, unaltered(t), "%s of %s altered the state", what, called(characteristic));
+}
 
-        memset(&next, 0, sizeof next);
-        number = mcs_take(LENT(t), t->state, next.octets, sizeof next.octets, served);
-        expect_accepted(t, file, line, "a take", number);
-        if (number != MCS_OK || served[1] == 0) {
-            return;
-        }
-        if (served[0] != LOWER(t)) {
-            fail_at(t, file, line, "client %u was notified, which is subscribed to nothing", (unsigned)served[0]);
-        } else if (served[2] > sizeof next.octets) {
-            fail_at(t, file, line, "a notification of %u octets", (unsigned)served[2]);
-        } else {
-            next.characteristic = served[1];
-            next.length = served[2];
-            t->inbox[t->received++] = next;
-        }
-    }
-    fail_at(t, file, line, "more than %u notifications at once", INBOX_ROOM);
+void expect_read_refused(struct tester *t, uint32_t client, uint32_t characteristic, uint32_t offset, uint32_t number)
+{
+    uint8_t octets[MCS_OUTPUT_OCTETS];
+    uint32_t length;
+    REFUSED(t, "a read", characteristic, number,
+            mcs_desk_read(&t->desk, client, characteristic, offset, octets, sizeof octets, &length));
+}
+
+void expect_write_refused(struct tester *t, uint32_t client, uint32_t characteristic, const uint8_t *octets, size_t length,
+                          uint32_t number)
+{
+    REFUSED(t, "a write", characteristic, number, mcs_desk_write(&t->desk, client, characteristic, octets, length));
+}
+
+void expect_subscription_refused(struct tester *t, uint32_t client, uint32_t characteristic, uint32_t number)
+{
+    REFUSED(t, "a subscription", characteristic, number, mcs_desk_subscribe(&t->desk, client, characteristic));
 }
 
 /* The first of this characteristic that no expectation has met yet. */
-static struct notification *arrived(struct tester *t, uint32_t characteristic)
+static const struct notification *arrived(struct tester *t, uint32_t characteristic)
 {
     for (size_t k = 0; k < t->received; k++) {
         struct notification *n = &t->inbox[k];
@@ -390,139 +375,125 @@ static struct notification *arrived(struct tester *t, uint32_t characteristic)
             return n;
         }
     }
+    expect(t, false, "%s was not notified", called(characteristic));
     return NULL;
 }
 
-void expect_notified_at(struct tester *t, const char *file, int line, uint32_t characteristic, long long number)
+void expect_notified(struct tester *t, uint32_t characteristic, long long number)
 {
     const struct notification *n = arrived(t, characteristic);
-    if (n == NULL) {
-        fail_at(t, file, line, "characteristic %u was not notified", (unsigned)characteristic);
-    } else if (n->length != width_of(characteristic)) {
-        fail_at(t, file, line, "characteristic %u was notified in %u octets", (unsigned)characteristic, (unsigned)n->length);
-    } else if (number_of(characteristic, n->octets) != number) {
-        fail_at(t, file, line, "characteristic %u was notified as %lld, expected %lld", (unsigned)characteristic,
-                number_of(characteristic, n->octets), number);
+    if (n != NULL) {
+        expect_number(t, "was notified as", characteristic, n->octets, n->length, number);
     }
 }
 
-void expect_notified_text_at(struct tester *t, const char *file, int line, uint32_t characteristic, const char *text)
+void expect_notified_text(struct tester *t, uint32_t characteristic, const char *text)
 {
     const struct notification *n = arrived(t, characteristic);
-    size_t length = strlen(text);
-
-    /* 001, 3.1.1 and 3.5.1: "the first (ATT_MTU-3) octets". */
-    if (length > t->mtu - 3u) {
-        length = t->mtu - 3u;
-    }
-    if (n == NULL) {
-        fail_at(t, file, line, "characteristic %u was not notified", (unsigned)characteristic);
-    } else if (n->length != length || memcmp(n->octets, text, length) != 0) {
-        fail_at(t, file, line, "characteristic %u was notified as \"%.*s\", expected \"%.*s\"", (unsigned)characteristic,
-                (int)n->length, (const char *)n->octets, (int)length, text);
+    size_t length = strlen(text) < t->mtu - 3u ? strlen(text) : t->mtu - 3u;
+    if (n != NULL) {
+        expect(t, n->length == length && memcmp(n->octets, text, length) == 0, "%s was notified in %u octets, not as \"%.*s\"",
+               called(characteristic), (unsigned)n->length, (int)length, text);
     }
 }
 
-void expect_result_at(struct tester *t, const char *file, int line, uint8_t opcode, uint8_t result)
+void expect_result(struct tester *t, uint8_t opcode, uint8_t result)
 {
     const struct notification *n = arrived(t, MCS_CONTROL_POINT);
-    if (n == NULL) {
-        fail_at(t, file, line, "no result was notified for opcode 0x%02X", (unsigned)opcode);
-    } else if (n->length != 2 || n->octets[0] != opcode || n->octets[1] != result) {
-        fail_at(t, file, line, "the result notified is %u octets, opcode 0x%02X, code %u; expected 0x%02X, %u",
-                (unsigned)n->length, (unsigned)n->octets[0], (unsigned)n->octets[1], (unsigned)opcode, (unsigned)result);
+    if (n != NULL) {
+        expect(t, n->length == 2 && n->octets[0] == opcode && n->octets[1] == result,
+               "the result is %u octets, opcode 0x%02X, code %u; expected 0x%02X, %u", (unsigned)n->length,
+               (unsigned)n->octets[0], (unsigned)n->octets[1], (unsigned)opcode, (unsigned)result);
     }
 }
 
-void expect_no_other_at(struct tester *t, const char *file, int line)
+void expect_silence(struct tester *t)
 {
+    size_t unexpected = 0;
     for (size_t k = 0; k < t->received; k++) {
-        if (!t->inbox[k].expected) {
-            fail_at(t, file, line, "characteristic %u was notified, which was not expected",
-                    (unsigned)t->inbox[k].characteristic);
-        }
+        unexpected += t->inbox[k].expected ? 0u : 1u;
     }
+    expect(t, unexpected == 0, "%zu notifications, where none was expected", unexpected);
 }
 
-void expect_silence_at(struct tester *t, const char *file, int line)
+/* ---- Steps that several sections of the suite share ----------------------------------------------------------------------- */
+
+struct setting expect_moved(struct tester *t, struct setting from, uint32_t group, uint32_t track)
 {
-    lower_receives_at(t, file, line);
-    expect_no_other_at(t, file, line);
+    const track_line *left = &t->lines->tracks[from.track], *reached = &t->lines->tracks[track];
+    /* Document 01: "Track and group moves turn Seeking into Playing." 001, 3.18.1.12 to 21: the position becomes 0. */
+    const struct setting to = {from.order, group, track, 0, from.state == MCS_SEEKING ? MCS_PLAYING : from.state};
+
+    expect_result(t, t->opcode, MCS_RESULT_SUCCESS);
+
+    /* The suite leaves it to the server whether Media State is sent, and otherwise has everything sent. Document 01: "A slot is
+     * owed to a subscribed client when a call changes its value. Added: 4 and 7 whenever the track number changes". */
+    if (to.state != from.state) {
+        expect_notified(t, MCS_MEDIA_STATE, to.state);
+    }
+    if (strcmp(left->title, reached->title) != 0) {
+        expect_notified_text(t, MCS_TITLE, reached->title);
+    }
+    if (left->duration != reached->duration) {
+        expect_notified(t, MCS_DURATION, reached->duration);
+    }
+    if (track != from.track) {
+        expect_notified_text(t, MCS_TRACK_CHANGED, "");
+    }
+    if (track != from.track || from.position != 0) {
+        expect_notified(t, MCS_POSITION, 0);
+    }
+    expect_silence(t);
+
+    expect_reads(t, MCS_MEDIA_STATE, to.state);
+    expect_reads_text(t, MCS_TITLE, reached->title);
+    expect_reads(t, MCS_DURATION, reached->duration);
+    expect_reads(t, MCS_POSITION, 0);
+    upper_confirms(t, to);
+    return to;
 }
 
-/* ---- Steps that many cases share ------------------------------------------------------------------------------------- */
-
-uint8_t state_after_move(uint8_t state)
+void expect_not_completed(struct tester *t, struct setting from)
 {
-    return state == SEEKING ? PLAYING : state;
+    expect_result(t, t->opcode, MCS_RESULT_NOT_COMPLETED);
+    expect_silence(t);
+    expect_reads(t, MCS_MEDIA_STATE, from.state);
+    expect_reads(t, MCS_POSITION, from.position);
+    upper_confirms(t, from);
 }
 
-void expect_moved_at(struct tester *t, const char *file, int line, uint8_t opcode, uint8_t state, uint32_t from_track,
-                     uint32_t from_position, uint32_t group, uint32_t track)
+void expect_repositioned(struct tester *t, uint32_t from, uint32_t to)
 {
-    const struct track_line *reached = &t->lent->track_lines[track];
-    uint8_t state_after = state_after_move(state);
-
-    /* "with the correct requested opcode and a Result Code of SUCCESS" */
-    lower_receives_at(t, file, line);
-    expect_result_at(t, file, line, opcode, SUCCESS);
-
-    /* "The IUT may send ... Media State": it does when it changes (001, 3.17.1). */
-    if (state_after != state) {
-        expect_notified_at(t, file, line, MCS_MEDIA_STATE, state_after);
+    expect_result(t, t->opcode, MCS_RESULT_SUCCESS);
+    if (to != from) {
+        expect_notified(t, MCS_POSITION, to);
     }
-
-    /* "If Track Title notification is supported, the IUT sends", the same of Track Duration, and Track Changed: when the track
-     * changes (001, 3.4.1, 3.5.1, 3.6.1), and all tracks of a catalogue here have titles and durations of their own. */
-    if (track != from_track) {
-        expect_notified_text_at(t, file, line, MCS_TITLE, reached->title);
-        expect_notified_at(t, file, line, MCS_DURATION, reached->duration);
-        expect_notified_text_at(t, file, line, MCS_TRACK_CHANGED, "");
-    }
-
-    /* "If Track Position notification is supported, the IUT sends": document 01 owes it when it changes, and "whenever the
-     * track number changes". */
-    if (track != from_track || from_position != 0) {
-        expect_notified_at(t, file, line, MCS_POSITION, 0);
-    }
-    expect_no_other_at(t, file, line);
-
-    /* The same as read. "The Track Position is less than 600": 001, 3.18.1.12 to 3.18.1.21 set it to 0. */
-    expect_reads_at(t, file, line, MCS_MEDIA_STATE, state_after);
-    expect_reads_text_at(t, file, line, MCS_TITLE, reached->title);
-    expect_reads_at(t, file, line, MCS_DURATION, reached->duration);
-    expect_less_at(t, file, line, "Track Position", lower_reads_at(t, file, line, MCS_POSITION), 600);
-    expect_reads_at(t, file, line, MCS_POSITION, 0);
-    upper_confirms_at(t, file, line, group, track);
+    expect_silence(t);
+    expect_reads(t, MCS_POSITION, to);
+    /* Document 01: "Segment moves and Move Relative keep the state." */
+    expect_reads(t, MCS_MEDIA_STATE, t->initial);
 }
 
-void expect_inactive_at(struct tester *t, const char *file, int line, const uint32_t *characteristics, uint8_t opcode,
-                        int32_t parameter)
+uint32_t expect_time_passing(struct tester *t, uint32_t position, uint32_t hundredths)
 {
-    const struct setting had_track = {3, 1, 2, 100, INACTIVE};
-
-    /* Inactive as after the start, where there never was a track, and Inactive again after one. */
-    for (int active_before = 0; active_before < 2; active_before++) {
-        preamble_at(t, file, line, &archive, ALL_OPCODES, t->service->mtu);
-        lower_subscribes_at(t, file, line, characteristics);
-
-        /* "The Upper Tester orders the IUT to be in the Initial State": Inactive. */
-        if (active_before != 0) {
-            upper_orders_at(t, file, line, had_track);
-        }
-        expect_reads_at(t, file, line, MCS_MEDIA_STATE, INACTIVE);
-
-        /* "Write Without Response ... with the Target Opcode" */
-        lower_controls_at(t, file, line, opcode, parameter);
-
-        /* "The test ends here if the Notification returns a Result Code of MEDIA PLAYER INACTIVE": it does, and by 001, 3.18.1,
-         * the requested action is then not performed. */
-        lower_receives_at(t, file, line);
-        expect_result_at(t, file, line, opcode, MEDIA_PLAYER_INACTIVE);
-        expect_no_other_at(t, file, line);
-        expect_reads_at(t, file, line, MCS_MEDIA_STATE, INACTIVE);
-        expect_reads_text_at(t, file, line, MCS_TITLE, "");
-        expect_reads_at(t, file, line, MCS_DURATION, UNAVAILABLE);
-        expect_reads_at(t, file, line, MCS_POSITION, UNAVAILABLE);
+    const int64_t end = t->lines->tracks[word_at(t->desk.state + MCS_AT_TRACK)].duration;
+    int64_t to = position;
+    if (hundredths == 0) {
+        return position;
     }
+    if (t->initial == MCS_PLAYING) {
+        to += hundredths;
+    } else if (t->initial == MCS_SEEKING) {
+        /* Document 01: "Fast Forward enters Seeking at 4, Rewind at -4"; "Seeking adds d times the seeking speed, held to 0..D". */
+        to += (t->seeks_by == MCS_OPCODE_FAST_FORWARD ? 4 : -4) * (int64_t)hundredths;
+        to = to < 0 ? 0 : to > end ? end : to;
+    }
+    upper_lets_pass(t, hundredths);
+    /* 001, 3.7.1 and document 01: told while Seeking, and not while Playing. */
+    if (t->initial == MCS_SEEKING && to != position) {
+        expect_notified(t, MCS_POSITION, to);
+    }
+    expect_silence(t);
+    expect_reads(t, MCS_POSITION, to);
+    return (uint32_t)to;
 }
