@@ -1,14 +1,14 @@
 """The player's cases: calls of one client over the sample catalogue of document 01, which vectors/script.py puts behind the office's day.
 
-Each call has its answer and the state of the player that it leaves beside it, worked out by hand from document 01. vectors/calls.py says how they are
-written. The client is the left pedal; its ATT_MTU leaves room for every value, and it subscribes to 18 alone, so that nothing falls due but the
+Each call has its answer and the state of the player that it leaves beside it, worked out by hand from documents 01 and 02. vectors/calls.py says how
+they are written. The client is the left pedal; its ATT_MTU leaves room for every value, and it subscribes to 18 alone, so that nothing falls due but the
 results of its control writes. A position, a speed, an order and an opcode are written, a value is read at offset 0.
 
-A comment in quotation marks is a sentence of document 01.
+A comment in quotation marks is a sentence of document 01, or of the request of document 02 that it names.
 """
 import calls
 from calls import (
-    ALL, CASES, CUT, ENCRYPTED, FIRST_GROUP, FIRST_SEGMENT, FIRST_TRACK, FORWARD, GOTO_GROUP, GOTO_SEGMENT, GOTO_TRACK, GROUP, LAST_GROUP,
+    ALL, CASES, CLOSE, CUT, ENCRYPTED, FIRST_GROUP, FIRST_SEGMENT, FIRST_TRACK, FORWARD, GOTO_GROUP, GOTO_SEGMENT, GOTO_TRACK, GROUP, LAST_GROUP,
     LAST_SEGMENT, LAST_TRACK, LEFT, LONGEST, MEDIA, NAME_FIRST, NAME_LENGTH, NEXT_GROUP, NEXT_SEGMENT, NEXT_TRACK, OWN_PARENT, PAUSE, PLACE, PLAY,
     PLAYER, PLAYING_ORDER, PREVIOUS_GROUP, PREVIOUS_SEGMENT, PREVIOUS_TRACK, RELATIVE, REWIND, SAMPLE, SEEKING_SPEED, STOP, TRACK,
     activate, advance, case, connect, deactivate, read, start, subscribe, take, word, write,
@@ -107,9 +107,11 @@ case('1500 Previous Segment')
 stand(3, 0, 1500)
 control(PREVIOUS_SEGMENT, 'result 1', 'Paused 3 0 0 | 1 0 0')
 
-case('1501 Previous Segment')
-stand(3, 0, 1501)
-control(PREVIOUS_SEGMENT, 'result 1', 'Paused 3 0 0 | 1 0 1500')
+# W-201: "1501 → 0, 1799 → 0, 1800 → 1500, 4299 → 1500"
+for place, to in ((1501, 0), (1799, 0), (1800, 1500), (4299, 1500)):
+    case('%d Previous Segment' % place)
+    stand(3, 0, place)
+    control(PREVIOUS_SEGMENT, 'result 1', 'Paused 3 0 0 | 1 0 %d' % to)
 
 case('4000 Next Segment')
 stand(3, 0, 4000)
@@ -158,11 +160,40 @@ control(NEXT_GROUP, 'result 1', 'Paused 3 0 0 | 3 3 0')
 
 # ---- Segments
 
-# "Previous Segment: the greatest start below the position, or 0."
-for place, to in ((0, 0), (1, 0), (1499, 0), (3999, 1500), (4000, 1500), (4001, 4000), (6000, 4000)):
-    case('Previous Segment')
-    stand(3, 0, place)
+# W-201: "if the position is less than 300 past the start of the segment it lies in, and there is a segment before, go to that one's start; otherwise
+# to the start of its own". Before the first start there is none.
+case('Previous Segment about the starts and 300 past them')
+stand(3, 0, 0)
+control(PREVIOUS_SEGMENT, 'result 1', 'Paused 3 0 0 | 1 0 0')
+for place, to in ((1, 0), (299, 0), (300, 0), (301, 0), (1499, 0), (1500, 0), (1801, 1500), (3999, 1500), (4000, 1500), (4001, 1500), (4300, 4000),
+                  (4301, 4000), (5999, 4000), (6000, 4000)):
+    position(place, 'done', 'Paused 3 0 0 | 1 0 %d' % place)
     control(PREVIOUS_SEGMENT, 'result 1', 'Paused 3 0 0 | 1 0 %d' % to)
+
+# The last segment is 200 long, so at D the position is less than 300 past its start. At 449 it lies in the segment from 200 on, and 0 is before that.
+case('Previous Segment where starts are less than 300 apart')
+stand(3, 0, 0)
+for place, to in ((199, 0), (200, 0), (201, 0), (449, 0), (450, 200), (451, 200), (749, 200), (750, 450), (751, 450), (5799, 450), (5800, 450),
+                  (5999, 450), (6000, 450)):
+    position(place, 'done', 'Paused 3 0 0 | 1 0 %d' % place, CLOSE)
+    control(PREVIOUS_SEGMENT, 'result 1', 'Paused 3 0 0 | 1 0 %d' % to, catalogue=CLOSE)
+for to in (200, 0, 0):
+    control(PREVIOUS_SEGMENT, 'result 1', 'Paused 3 0 0 | 1 0 %d' % to, catalogue=CLOSE)
+
+# "Typists press the pedal twice" (W-201); "Segment moves and Move Relative keep the state."
+case('Previous Segment twice on a moving tape')
+stand(3, 0, 5000)
+control(PLAY, 'result 1', 'Playing 3 0 0 | 1 0 5000')
+control(PREVIOUS_SEGMENT, 'result 1', 'Playing 3 0 0 | 1 0 4000')
+advance(120, 'done', 'Playing 3 0 0 | 1 0 4120')
+control(PREVIOUS_SEGMENT, 'result 1', 'Playing 3 0 0 | 1 0 1500')
+advance(300, 'done', 'Playing 3 0 0 | 1 0 1800')
+control(PREVIOUS_SEGMENT, 'result 1', 'Playing 3 0 0 | 1 0 1500')
+control(FORWARD, 'result 1', 'Seeking 3 0 4 | 1 0 1500')
+advance(74, 'done', 'Seeking 3 0 4 | 1 0 1796')
+control(PREVIOUS_SEGMENT, 'result 1', 'Seeking 3 0 4 | 1 0 0')
+advance(74, 'done', 'Seeking 3 0 4 | 1 0 296')
+control(PREVIOUS_SEGMENT, 'result 1', 'Seeking 3 0 4 | 1 0 0')
 
 # "Next: the least start above it, or D."
 for place, to in ((0, 1500), (1499, 1500), (1500, 4000), (3999, 4000), (4001, 6000), (5999, 6000), (6000, 6000)):
@@ -184,6 +215,12 @@ control(GOTO_SEGMENT, 'result 1', 'Paused 3 0 0 | 1 0 6000', 5)
 control(GOTO_SEGMENT, 'result 1', 'Paused 3 0 0 | 1 0 0', -4)
 control(GOTO_SEGMENT, 'result 1', 'Paused 3 0 0 | 1 0 6000', MOST)
 
+# Each step back of Goto begins on a start, so it leads one segment back, however close the one before is.
+case('Goto Segment where starts are less than 300 apart')
+stand(3, 0, 777)
+for number, to in ((-1, 5800), (-2, 450), (-3, 200), (-4, 0), (-5, 0), (2, 200), (3, 450), (4, 5800), (5, 6000), (LEAST, 0)):
+    control(GOTO_SEGMENT, 'result 1', 'Paused 3 0 0 | 1 0 %d' % to, number, CLOSE)
+
 # "A track without segments is one segment from 0."
 case('segments of a track without them')
 stand(3, 1, 150)
@@ -201,6 +238,12 @@ position(299, 'done', 'Paused 3 0 0 | 1 1 299')
 control(GOTO_SEGMENT, 'result 1', 'Paused 3 0 0 | 1 1 0', -1)
 control(GOTO_SEGMENT, 'result 1', 'Paused 3 0 0 | 1 1 0', -2)
 control(GOTO_SEGMENT, 'result 1', 'Paused 3 0 0 | 1 1 0', LEAST)
+
+case('Previous Segment in a longer track without segments')
+stand_in_3(3, 0)
+for place in (0, 299, 300, 301, 900):
+    position(place, 'done', 'Paused 3 0 0 | 3 3 %d' % place)
+    control(PREVIOUS_SEGMENT, 'result 1', 'Paused 3 0 0 | 3 3 0')
 
 case('segments of a track of duration 0')
 stand(3, 2, 0)

@@ -1,9 +1,9 @@
 // Plays a script of the twelve calls on the whole from standard input, over the sample catalogue of document 01, and writes a line for each call: its
 // answer; the media state, order and both speeds; the group, track and position; and each of the four clients, as ATT_MTU: subscribed; owed; waiting
 // results, or - while it is unconnected. A ! ends the line where lent octets behind the answer did not stay.
-// A frame of the script: an octet for the catalogue (0 the sample, 1 the sample with long titles, 2 and 3 wrong ones), one for the call (0 a note, 1 to 12
-// in document 01's order from start to take, 13 damage to the state), one for the client and one for the characteristic, a little endian word that the
-// call takes, an octet for the room of the lent output, one for the length of the text, the text.
+// A frame of the script: an octet for the catalogue (0 the sample, 1 the sample with long titles, 2 and 3 wrong ones, 4 the sample with segments close to
+// each other), one for the call (0 a note, 1 to 12 in document 01's order from start to take, 13 damage to the state), one for the client and one for the
+// characteristic, a little endian word that the call takes, an octet for the room of the lent output, one for the length of the text, the text.
 ghost use Prim.Native.Nat.{_-_, _<_, _≤_};
 ghost use lib.ListN.{length};
 ghost use Rattle.desk_slots.specs.Slots.{slotCount};
@@ -72,6 +72,35 @@ const LONG_TRACKS: [u32; 24] = [
 ];
 
 const SEGMENTS: [u32; 3] = [0, 1500, 4000];
+// The same tracks, and in track 0 four segments, of which the first two and the last are shorter than 300.
+const CLOSE_TRACKS: [u32; 24] = [
+    6000,
+    30,
+    0,
+    4,
+    0,
+    10,
+    300,
+    10,
+    4,
+    0,
+    10,
+    4,
+    0,
+    10,
+    4,
+    0,
+    14,
+    0,
+    900,
+    5,
+    4,
+    0,
+    14,
+    4,
+];
+
+const CLOSE_SEGMENTS: [u32; 4] = [0, 200, 450, 5800];
 
 // More than the 128 octets of the longest value, so that octets behind it are seen too.
 const MOST_ROOM: usize = 160;
@@ -657,7 +686,8 @@ fn call_over(catalogue: u8, d: desk_state::Desk, c: Ask, words: &[u8]) -> desk_s
             words,
         ),
         2 => call(&WRONG_GROUPS, &TRACKS, &SEGMENTS, text, d, c, words),
-        _ => call(&CUT_GROUPS, &TRACKS, &SEGMENTS, text, d, c, words),
+        3 => call(&CUT_GROUPS, &TRACKS, &SEGMENTS, text, d, c, words),
+        _ => call(&GROUPS, &CLOSE_TRACKS, &CLOSE_SEGMENTS, text, d, c, words),
     }
 }
 

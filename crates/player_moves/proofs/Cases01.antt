@@ -69,4 +69,5 @@ far-track = ap (λ (n : Near). outcome (onward n (λ t. success (movedTo 1 t (in
 
 pub cases-hold : AllHold cases
 unfolding controlled positioned offered maskBit has actionOf stepOf acted movedTo startedPlayer segmentAfter startsOf segmentStarts moveAlong previousStart nextStart goto signedWord heldSum written trackAfter tracksInOrder ordered comesBefore moveIn groupAfter siblings entryOf
-cases-hold = (refl, (refl, (refl, (refl, (refl, (refl, (far-segment, (refl, (refl, (refl, (refl, (refl, (refl, (far-track, (refl, (refl, tt))))))))))))))))
+cases-hold =
+    (refl, (refl, (refl, (refl, (refl, (refl, (refl, (refl, (refl, (far-segment, (refl, (refl, (refl, (refl, (refl, (refl, (far-track, (refl, (refl, tt)))))))))))))))))))

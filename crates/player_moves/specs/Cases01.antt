@@ -1,4 +1,5 @@
--- The sample catalogue of document 01 ("Sample catalogue and cases") and its cases, as one list with what each comes to.
+-- The sample catalogue of document 01 ("Sample catalogue and cases") and its cases, as one list with what each comes to; with the sample of document 02's
+-- W-201, which changes one of them.
 -- Assumes nothing.
 use mathlib.Core.Path.{_≡_}
 use mathlib.Core.List.{List, [], _∷_}
@@ -101,8 +102,12 @@ abbrev pub cases : List Case
 cases =
     -- "In track 0: P 1500 Previous Segment → 0"
     case (control previousSegment 0 (inTrack0 1500)) (came 1 1 0 0)
-    -- "P 1501 → 1500"
-    ∷ case (control previousSegment 0 (inTrack0 1501)) (came 1 1 0 1500)
+    -- "P 1501", of which W-201 says "document 01's marked case for 1501 becomes 0"
+    ∷ case (control previousSegment 0 (inTrack0 1501)) (came 1 1 0 0)
+    -- W-201: "1799 → 0, 1800 → 1500, 4299 → 1500"
+    ∷ case (control previousSegment 0 (inTrack0 1799)) (came 1 1 0 0)
+    ∷ case (control previousSegment 0 (inTrack0 1800)) (came 1 1 0 1500)
+    ∷ case (control previousSegment 0 (inTrack0 4299)) (came 1 1 0 1500)
     -- "P 4000 Next → 6000"
     ∷ case (control nextSegment 0 (inTrack0 4000)) (came 1 1 0 6000)
     -- "P Goto 3 → 4000"

@@ -11,7 +11,8 @@ use Rattle.player_walk.specs.declared.Near.the-variants.{At}
 use Rattle.player_walk.specs.declared.Step.{Step}
 use Rattle.player_walk.specs.declared.Step.the-variants.{Previous, Next, First, Last, Goto}
 use Rattle.player_segments.specs.Segments.{segmentStarts, previousStart, nextStart, firstStart, lastStart, moveAlong, segmentMove, Rising}
-use Rattle.player_segments.proofs.Sides.{greatest-le, least-within}
+use Rattle.player_segments.proofs.Sides.{least-within}
+use Rattle.player_segments.proofs.Cuts.{previous-le}
 use Rattle.player_segments.proofs.Whole.{some, whole-within}
 
 -- what each step of f keeps, the whole walk keeps
@@ -41,14 +42,14 @@ move-found step starts d p =
     (r .0, r .1)
 
 pub move-within : (step : Step) (starts : List ℕ) (d p q : ℕ) → Rising starts d → p ≤ d → segmentMove step starts d p ≡ At q → q ≤ d
-unfolding previousStart nextStart
+unfolding nextStart
 move-within step starts d p q r h e = let m = inside in rw (same (m .0) (sym (m .1) ∙ e)) at (m .2)
   where
     same : (x : ℕ) → At x ≡ At q → x ≡ q
     same x e = cc
 
     previous : (x : ℕ) → x ≤ d → previousStart (segmentStarts starts) x ≤ d
-    previous x h = greatest-le x 0 d (segmentStarts starts) (omega arith) (λ k a b. whole-within starts d r k a)
+    previous x h = omega (arith, previous-le (segmentStarts starts) x)
 
     next : (x : ℕ) → x ≤ d → nextStart (segmentStarts starts) d x ≤ d
     next x h = least-within x d d (segmentStarts starts) (omega arith) (whole-within starts d r)

@@ -1,20 +1,17 @@
 -- The starts of any track, of which there is one at least: laws of `segmentStarts`, and of the closed forms.
 -- Assumes nothing.
-use mathlib.Core.Path.{_≡_, refl, sym}
-use mathlib.Core.Bool.{Bool, true, false}
+use mathlib.Core.Path.{_≡_, refl, sym, _∙_}
 use mathlib.Core.Logic.{⊎-elim}
 use mathlib.Core.List.{List, [], _∷_}
 use Prim.Native.Nat.{ℕ, zero, suc, _-_, _<_, _≤_}
 use native.Mathlib.Nat.{not-suc-le-zero, le-of-suc-le-suc, lt-irrefl}
 use native.Mathlib.Omega.{arith}
 use borrow.Author.Tests.{lt-ltb, le-ltb, ne-eqb}
-use lib.Dec.{ltb}
 use lib.ListN.{length, getD}
-use Rattle.ground.specs.Cases.{pick}
 use Rattle.ground.proofs.Cases.{le-or}
-use Rattle.player_segments.specs.Segments.{greatestOr, segmentStarts, previousStart, nextStart, Rising}
+use Rattle.player_segments.specs.Segments.{segmentStarts, previousStart, nextStart, Rising, Cut}
 use Rattle.player_segments.specs.Closed.{startAhead, startBack}
-use Rattle.player_segments.proofs.Cuts.{Rises}
+use Rattle.player_segments.proofs.Cuts.{Rises, previous-first}
 
 none : segmentStarts [] ≡ 0 ∷ []
 unfolding segmentStarts
@@ -44,16 +41,29 @@ pub from-zero : (s : List ℕ) (d : ℕ) → Rising s d → getD (segmentStarts 
 from-zero [] d r = rw none
 from-zero (x ∷ s) d r = rw (more x s) (r .begin)
 
--- a start at 0 alone changes neither neighbour
-pub previous-same : (s : List ℕ) (p : ℕ) → previousStart s p ≡ previousStart (segmentStarts s) p
-unfolding previousStart
-previous-same [] p = rw none (go (ltb 0 p))
-  where
-    go : (b : Bool) → 0 ≡ greatestOr 0 (pick b (0 ∷ []) [])
-    go true = refl
-    go false = refl
-previous-same (x ∷ s) p = rw (more x s)
+-- with segments of its own the starts are those
+pub whole-is : (s : List ℕ) → 0 < length s → segmentStarts s ≡ s
+whole-is [] h = absurd (not-suc-le-zero h)
+whole-is (x ∷ s) h = more x s
 
+-- the first start is 0, which is not above any position: where no other start is either, the position lies in the first segment
+cut-first : (s : List ℕ) (d p k : ℕ) → Rising s d → Cut s p k → k < 2 → Cut (segmentStarts s) p 1
+cut-first [] d p k r cut h = rw none (record { within = omega arith; low = alone; high = λ j q g. absurd (lt-irrefl j (omega arith)) })
+  where
+    alone : (j : ℕ) → j < 1 → getD (0 ∷ []) j 0 ≤ p
+    alone zero q = omega arith
+    alone (suc j) q = absurd (not-suc-le-zero (le-of-suc-le-suc q))
+cut-first (x ∷ s) d p k r cut h = rw (more x s) (record { within = omega arith; low = first; high = λ j q g. cut .high j (omega arith) g })
+  where
+    first : (j : ℕ) → j < 1 → getD (x ∷ s) j 0 ≤ p
+    first zero q = omega (arith, r .begin)
+    first (suc j) q = absurd (not-suc-le-zero (le-of-suc-le-suc q))
+
+pub previous-in-first : (s : List ℕ) (d p k : ℕ) → Rising s d → Cut s p k → k < 2 → 0 ≡ previousStart (segmentStarts s) p
+previous-in-first s d p k r cut h =
+    sym (from-zero s d r) ∙ previous-first (segmentStarts s) (whole-rises s d r) p 1 (cut-first s d p k r cut h) refl
+
+-- a start at 0 alone is not above any position
 pub next-same : (s : List ℕ) (d p : ℕ) → nextStart s d p ≡ nextStart (segmentStarts s) d p
 unfolding nextStart
 next-same [] d p = rw (none, le-ltb p 0 (omega arith))

@@ -1,9 +1,9 @@
--- Segment moves (document 01, "Player rules"): positions, found from the starts of a track's segments.
+-- Segment moves (document 01, "Player rules"; Previous Segment as document 02, W-201, has it): positions, found from the starts of a track's segments.
 -- Assumes nothing.
 use mathlib.Core.Path.{_≡_}
 use mathlib.Core.List.{List, [], _∷_}
-use Prim.Native.Nat.{ℕ, _-_, _<_, _≤_, min, max}
-use lib.Dec.{ltb, eqb}
+use Prim.Native.Nat.{ℕ, _+_, _-_, _<_, _≤_, min, max}
+use lib.Dec.{leb, ltb, eqb}
 use lib.ListN.{length, getD}
 use Rattle.ground.specs.Cases.{pick}
 use Rattle.ground.specs.Lists.{those}
@@ -29,9 +29,25 @@ leastOr z (x ∷ l) = min x (leastOr x l)
 unfoldable pub segmentStarts : List ℕ → List ℕ
 segmentStarts starts = pick (eqb (length starts) 0) (0 ∷ []) starts
 
--- "Previous Segment: the greatest start below the position, or 0."
+-- "The segment it lies in has the greatest start not above the position."
+abbrev pub ownStart : List ℕ → ℕ → ℕ
+ownStart starts position = greatestOr 0 (those (λ x. leb x position) starts)
+
+-- the start of the segment before the one that starts at `own`; where there is none before, `own` itself
+abbrev pub startBefore : List ℕ → ℕ → ℕ
+startBefore starts own = greatestOr own (those (λ x. ltb x own) starts)
+
+-- the margin, in hundredths of a second: nearer than this to its segment's start the position counts as being at it
+abbrev pub previousMargin : ℕ
+previousMargin = 300
+
+-- "if the position is less than 300 past the start of the segment it lies in, and there is a segment before, go to that one's start; otherwise to the
+-- start of its own"
 unfoldable pub previousStart : List ℕ → ℕ → ℕ
-previousStart starts position = greatestOr 0 (those (λ x. ltb x position) starts)
+previousStart starts position =
+    pick (ltb position (ownStart starts position + previousMargin))
+    (startBefore starts (ownStart starts position))
+    (ownStart starts position)
 
 -- "Next: the least start above it, or D."
 unfoldable pub nextStart : List ℕ → ℕ → ℕ → ℕ
@@ -67,8 +83,8 @@ pub record Rising (starts : List ℕ) (end : ℕ) : Type 0 where
   pub rise : (j i : ℕ) → i < j → j < length starts → getD starts i 0 < getD starts j 0
   pub below : (i : ℕ) → i < length starts → getD starts i 0 < end
 
--- r parts the starts into those below x and those not
+-- r parts the starts into those not above x and those above it
 pub record Cut (starts : List ℕ) (x r : ℕ) : Type 0 where
   pub within : r ≤ length starts
-  pub low : (k : ℕ) → k < r → getD starts k 0 < x
-  pub high : (k : ℕ) → r ≤ k → k < length starts → x ≤ getD starts k 0
+  pub low : (k : ℕ) → k < r → getD starts k 0 ≤ x
+  pub high : (k : ℕ) → r ≤ k → k < length starts → x < getD starts k 0

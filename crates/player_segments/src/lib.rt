@@ -9,8 +9,15 @@ pub enum NearPosition {
     None,
 }
 
-// How many starts are below x, by halving.
-fn lower(starts: &[u32], x: catalogue_tables::Position, end: catalogue_tables::Position) -> usize
+// Less than this past the start of its segment, Previous Segment leads from a position to the segment before (document 02, W-201).
+const PREVIOUS_MARGIN: u32 = 300;
+
+// How many starts are not above x, by halving.
+fn not_above(
+    starts: &[u32],
+    x: catalogue_tables::Position,
+    end: catalogue_tables::Position,
+) -> usize
     requires { ⌜ Rising (now starts) (end .0) ⌝ }
     ensures { λ r. ⌜ Cut (now (starts .entry)) (x .0) r ⌝ }
 {
@@ -18,7 +25,7 @@ fn lower(starts: &[u32], x: catalogue_tables::Position, end: catalogue_tables::P
     let mut hi = starts.len();
     while lo < hi {
         let mid = lo + (hi - lo) / 2;
-        if starts[mid] < x.0 {
+        if starts[mid] <= x.0 {
             lo = mid + 1;
         } else {
             hi = mid;
@@ -27,7 +34,7 @@ fn lower(starts: &[u32], x: catalogue_tables::Position, end: catalogue_tables::P
     lo
 }
 
-// The greatest start below the position, or 0.
+// The start of the segment before, or of the segment that the position lies in.
 fn previous_start(
     starts: &[u32],
     end: catalogue_tables::Position,
@@ -36,12 +43,18 @@ fn previous_start(
     requires { ⌜ Rising (now starts) (end .0) ⌝ }
     ensures { λ r. ⌜ r .0 ≡ previousStart (segmentStarts (now (starts .entry))) (p .0) ⌝ }
 {
-    let k = lower(starts, p, end);
-    if k == 0 {
-        return catalogue_tables::Position(0);
+    let k = not_above(starts, p, end);
+    // The first segment has none before it, and starts at 0.
+    if k < 2 {
+        let first = catalogue_tables::Position(0);
+        return first;
     }
-    let x = starts[k - 1];
-    catalogue_tables::Position(x)
+    let own = starts[k - 1];
+    if p.0 - own < PREVIOUS_MARGIN {
+        let x = starts[k - 2];
+        return catalogue_tables::Position(x);
+    }
+    catalogue_tables::Position(own)
 }
 
 // The least start above the position, or the end.
@@ -53,21 +66,12 @@ fn next_start(
     requires { ⌜ Rising (now starts) (end .0) ⌝ }
     ensures { λ r. ⌜ r .0 ≡ nextStart (segmentStarts (now (starts .entry))) (end .0) (p .0) ⌝ }
 {
-    let n = starts.len();
-    let k = lower(starts, p, end);
-    if n <= k {
+    let k = not_above(starts, p, end);
+    if starts.len() <= k {
         return end;
     }
     let x = starts[k];
-    if p.0 < x {
-        return catalogue_tables::Position(x);
-    }
-    let j = k + 1;
-    if n <= j {
-        return end;
-    }
-    let y = starts[j];
-    catalogue_tables::Position(y)
+    catalogue_tables::Position(x)
 }
 
 // The start that m steps ahead lead to from the first, or the end.

@@ -1,10 +1,10 @@
--- `player_segments::lower`: halving keeps the starts below x on the left and the others on the right.
+-- `player_segments::not_above`: halving keeps the starts not above x on the left and the others on the right.
 use Prim.Native.Nat.{_+_, _-_, _/_}
 use native.Mathlib.Omega.{arith}
 use borrow.Author.Needs.{needs}
 use Rattle.player_segments.proofs.Cuts.{Bracket, bracket, up, down, closed}
-use Rattle.player_segments.proofs.lower.Statement.{statement}
-use Rattle.player_segments.proofs.lower.Tie as tie
+use Rattle.player_segments.proofs.not_above.Statement.{statement}
+use Rattle.player_segments.proofs.not_above.Tie as tie
 
 abbrev Inv-loop : tie.InvT-loop
 Inv-loop starts x lo₀ hi₀ lo hi = Bracket starts (x .0) lo hi
@@ -53,8 +53,8 @@ loop-again-2 c =
 returns : tie.Need-returns Inv-loop μ-loop
 returns c = closed _ _ _ _ (c .before .loop .inv) (c .loop-test .left)
 
-pub lower-spec : {M : Type 1} → statement M
-lower-spec =
+pub not-above-spec : {M : Type 1} → statement M
+not-above-spec =
     tie.close
     (tie.spec
     Inv-loop
