@@ -1,5 +1,6 @@
-/* The desk player core, written along document 01, and the cue sheet along request W-212 of document 02. A comment in
- * quotation marks is a sentence of document 01, and in the cue sheet's part one of document 02. */
+/* The desk player core, written along document 01 and the requests of document 02 that have landed: W-201, and W-212 for
+ * the cue sheet. A comment in quotation marks is a sentence of document 01; where a request is named, and in the cue
+ * sheet's part, it is one of document 02. */
 #include "ref.h"
 
 #include <string.h>
@@ -583,6 +584,21 @@ static int group_move(const catalogue *c, ref_state *s, int move, int64_t n)
     return 1;
 }
 
+/* Request W-201: "less than 300 past the start of the segment it lies in" */
+#define PREVIOUS_MARGIN 300u
+
+/* Where Previous Segment leads. Request W-201: "if the position is less than 300 past the start of the segment it lies
+ * in, and there is a segment before, go to that one's start; otherwise to the start of its own. The segment it lies in
+ * has the greatest start not above the position." The first start is 0, so there always is one. */
+static uint32_t previous_start(const uint32_t *starts, uint32_t count, uint32_t position)
+{
+    uint32_t own = 0;
+    while (own + 1u < count && starts[own + 1u] <= position) {
+        own++;
+    }
+    return position - starts[own] < PREVIOUS_MARGIN && own > 0 ? starts[own - 1u] : starts[own];
+}
+
 static void segment_move(const catalogue *c, ref_state *s, int move, int64_t n)
 {
     static const uint32_t WHOLE[1] = {0};
@@ -598,17 +614,9 @@ static void segment_move(const catalogue *c, ref_state *s, int move, int64_t n)
         starts = c->segments + track_first(c, s->track);
     }
     switch (move) {
-    case PREVIOUS: {
-        /* "Previous Segment: the greatest start below the position, or 0." */
-        uint32_t to = 0;
-        for (k = 0; k < count; k++) {
-            if (starts[k] < s->position) {
-                to = starts[k];
-            }
-        }
-        s->position = to;
+    case PREVIOUS:
+        s->position = previous_start(starts, count, s->position);
         return;
-    }
     case NEXT: {
         /* "Next: the least start above it, or D." */
         uint32_t to = duration;
@@ -629,8 +637,9 @@ static void segment_move(const catalogue *c, ref_state *s, int move, int64_t n)
     default:
         break;
     }
-    /* "Goto n > 0: First, then Next n − 1 times; n < 0: Last, then Previous |n| − 1 times; 0: nothing moves." From one
-     * start each step leads to the neighbouring one; beyond the last start it is D and stays so, beyond the first 0. */
+    /* "Goto n > 0: First, then Next n − 1 times; n < 0: Last, then Previous |n| − 1 times; 0: nothing moves." From a
+     * start Next leads to the following one, from the last to D, and from D it stays there. Previous is made step by
+     * step, until it is at 0 and stays there. */
     if (n == 0) {
         return;
     }
@@ -638,7 +647,10 @@ static void segment_move(const catalogue *c, ref_state *s, int move, int64_t n)
     if (n > 0) {
         s->position = steps < count ? starts[steps] : duration;
     } else {
-        s->position = steps < count ? starts[count - 1u - (uint32_t)steps] : 0;
+        s->position = starts[count - 1u];
+        for (; steps > 0 && s->position > 0; steps--) {
+            s->position = previous_start(starts, count, s->position);
+        }
     }
 }
 
