@@ -22,7 +22,14 @@ static void sample_cases(void)
         uint32_t to_group, to_track, to_position;
     } CASES[] = {
         {"1500 Previous Segment", 3, 0, 1500, 0x20, 0, 1, 1, 0, 0},
-        {"1501 Previous Segment", 3, 0, 1501, 0x20, 0, 1, 1, 0, 1500},
+        {"1501 Previous Segment", 3, 0, 1501, 0x20, 0, 1, 1, 0, 0},
+        {"1799 Previous Segment", 3, 0, 1799, 0x20, 0, 1, 1, 0, 0},
+        {"1800 Previous Segment", 3, 0, 1800, 0x20, 0, 1, 1, 0, 1500},
+        {"4299 Previous Segment", 3, 0, 4299, 0x20, 0, 1, 1, 0, 1500},
+        {"4300 Previous Segment", 3, 0, 4300, 0x20, 0, 1, 1, 0, 4000},
+        {"6000 Previous Segment", 3, 0, 6000, 0x20, 0, 1, 1, 0, 4000},
+        {"1499 Previous Segment", 3, 0, 1499, 0x20, 0, 1, 1, 0, 0},
+        {"250 Previous Segment of a track without segments", 3, 1, 250, 0x20, 0, 1, 1, 1, 0},
         {"4000 Next Segment", 3, 0, 4000, 0x21, 0, 1, 1, 0, 6000},
         {"Goto Segment 3", 3, 0, 77, 0x24, 3, 1, 1, 0, 4000},
         {"Goto Segment 4", 3, 0, 77, 0x24, 4, 1, 1, 0, 6000},

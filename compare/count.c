@@ -9,6 +9,7 @@
 #define MOVES 5u
 #define LEAST_TRUTHS 500u
 enum { CONNECTED, ENCRYPTED, ENCRYPTED_UNCONNECTED, TRUTHS };
+enum { IN_FIRST, AT_ITS_START, WITHIN_MARGIN, LAST_WITHIN, AT_MARGIN, BEYOND_MARGIN, PREVIOUS_FROM };
 enum { NO_STARTS, NO_ROOM_LEFT, LONGEST, ONE_TOO_LONG, BOUNDS };
 
 static unsigned long calls, by_share[SHARES], by_number[CALLS][NUMBERS], by_twice[CALLS][2], unchanged[CALLS],
@@ -17,11 +18,29 @@ static unsigned long by_media[4], by_order[9], by_rung[256], by_result[OPCODES +
 static unsigned long taken[CHARACTERISTIC_BOUND], read_whole[CHARACTERISTIC_BOUND], read_on[CHARACTERISTIC_BOUND],
     written[CHARACTERISTIC_BOUND];
 static unsigned long by_truth[TRUTHS][REF_CLIENTS], by_truth_value[NUMBERS], by_mended[CALLS][NUMBERS];
-static unsigned long by_next[3][4], by_bound[BOUNDS];
+static unsigned long by_next[3][4], by_bound[BOUNDS], by_previous[PREVIOUS_FROM];
 
 static uint32_t counted_as(uint32_t number) { return number < NUMBERS ? number : NUMBERS - 1u; }
 
 /* ---- Accepted calls */
+
+/* Where a Previous Segment began: in the first segment, or so far past the start of its own (document 02, W-201). */
+static void count_previous(const run *r)
+{
+    const uint32_t *record = r->lent.tracks + MCS_TRACK_WORDS * r->second.track;
+    const uint32_t *starts = r->lent.segments + record[FIRST_SEGMENT];
+    uint32_t own = 0, past;
+    while (own + 1u < record[SEGMENT_COUNT] && starts[own + 1u] <= r->position_before) {
+        own++;
+    }
+    past = own == 0 ? 0 : r->position_before - starts[own];
+    by_previous[own == 0      ? IN_FIRST
+                : past == 0   ? AT_ITS_START
+                : past < 299u ? WITHIN_MARGIN
+                : past < 300u ? LAST_WITHIN
+                : past == 300 ? AT_MARGIN
+                              : BEYOND_MARGIN]++;
+}
 
 /* The code is seen where the writer is subscribed to the results: it is the last of those that wait. */
 static void count_result(const run *r, const step *s)
@@ -30,6 +49,9 @@ static void count_result(const run *r, const step *s)
     if ((c->subscribed >> (REF_SLOTS - 1u)) != 0 && c->waiting > 0) {
         uint32_t result = c->results[c->waiting - 1u].code % 5u;
         by_result[opcode_place(s->octets[0])][result]++;
+        if (s->octets[0] == MCS_OPCODE_PREVIOUS_SEGMENT && result == MCS_RESULT_SUCCESS) {
+            count_previous(r);
+        }
         if (s->octets[0] >= MCS_OPCODE_PREVIOUS_TRACK && s->octets[0] <= MCS_OPCODE_GOTO_TRACK) {
             by_move[r->second.order % 9u][s->octets[0] - MCS_OPCODE_PREVIOUS_TRACK][result]++;
         }
@@ -266,6 +288,12 @@ static void tell_player(void)
             tell(by_move[order][move][1], order != 1 || move > 1, "%s", MOVE[move]);
             tell(by_move[order][move][4], order % 2u == 1 && move != 2 && move != 3, "%s not made", MOVE[move]);
         }
+    }
+    row("Previous Segment");
+    for (uint32_t k = 0; k < PREVIOUS_FROM; k++) {
+        static const char *const FROM[PREVIOUS_FROM] = {"in the first segment", "at a start", "1 to 298 past", "299 past",
+                                                        "300 past", "further past"};
+        tell(by_previous[k], 1, "%s", FROM[k]);
     }
     row("after accepted calls");
     for (uint32_t k = 0; k < 4; k++) {

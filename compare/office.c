@@ -10,7 +10,7 @@
 #include <string.h>
 
 enum { NOTE = 0, FIRST_CALL = 1, LAST_CALL = 12, DAMAGE = 13 };
-enum { SAMPLE, LONG_TITLES, OWN_PARENT, CUT_GROUPS, CATALOGUES };
+enum { SAMPLE, LONG_TITLES, OWN_PARENT, CUT_GROUPS, CLOSE_SEGMENTS, CATALOGUES };
 
 #define GESPRAECH                                                                                                          \
     "Gespr\xC3\xA4"                                                                                                        \
@@ -23,7 +23,8 @@ static tables catalogue[CATALOGUES];
 static void make_catalogues(void)
 {
     static const char LONG_TEXT[] = GESPRAECH GESPRAECH;
-    tables *titled = &catalogue[LONG_TITLES];
+    static const uint32_t CLOSE_STARTS[4] = {0, 200, 450, 5800};
+    tables *titled = &catalogue[LONG_TITLES], *close = &catalogue[CLOSE_SEGMENTS];
     for (uint32_t k = 0; k < CATALOGUES; k++) {
         sample_catalogue(&catalogue[k]);
     }
@@ -36,6 +37,12 @@ static void make_catalogues(void)
     }
     catalogue[OWN_PARENT].groups[MCS_GROUP_WORDS * 3 + PARENT] = 3;
     catalogue[CUT_GROUPS].length[GROUPS] -= 1;
+    /* Four segments in track 0, of which the first two and the last are shorter than the margin of Previous Segment. */
+    memcpy(close->segments, CLOSE_STARTS, sizeof CLOSE_STARTS);
+    close->length[SEGMENTS] = close->tracks[SEGMENT_COUNT] = 4;
+    for (uint32_t k = 1; k < 4; k++) {
+        close->tracks[MCS_TRACK_WORDS * k + FIRST_SEGMENT] = 4;
+    }
 }
 
 /* ---- A line */

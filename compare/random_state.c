@@ -22,7 +22,7 @@ uint32_t random_mtu(dice *d)
                         : between(d, 23, one_in(d, 3) ? 517 : 140);
 }
 
-/* At the ends, at or beside a start, or anywhere. */
+/* At the ends; at or beside a start, or as far past one as the margin of Previous Segment is; or anywhere. */
 uint32_t random_position(dice *d, const tables *t, uint32_t track)
 {
     uint32_t duration = track_word(t, track, DURATION), starts = track_word(t, track, SEGMENT_COUNT);
@@ -35,7 +35,7 @@ uint32_t random_position(dice *d, const tables *t, uint32_t track)
         at = below(d, duration + 1u);
         break;
     default:
-        at = (starts == 0 ? 0 : t->segments[start]) + below(d, 3);
+        at = (starts == 0 ? 0 : t->segments[start]) + (one_in(d, 3) ? 298u : 0) + below(d, 4);
         at -= at > 0 && one_in(d, 2) ? 1u : 0u;
         break;
     }

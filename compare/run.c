@@ -135,6 +135,7 @@ static int do_call(run *r, const step *s)
     r->library_said = r->second_said;
     memcpy(octets_before, r->octets, MCS_STATE_OCTETS);
     memcpy(&second_before, &r->second, sizeof r->second);
+    r->position_before = r->second.position;
     r->unchanged = r->library_faulted = 0;
     r->seen_dead = 0;
 

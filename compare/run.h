@@ -39,8 +39,9 @@ typedef struct {
     tables loaded;        /* by the second program's last card load */
     uint32_t starts[STARTS_ROOM]; /* by its last cue sheet */
     int library_faulted, second_faulted;
-    int unchanged;      /* the last call was accepted, was no start, and left the meaning of the state as it was */
-    uint32_t seen_dead; /* the rules for octets that mean nothing that the last call has shown, as bits (octets.h) */
+    uint32_t position_before; /* the player's, before the last call */
+    int unchanged;            /* the last call was accepted, was no start, and left the meaning of the state as it was */
+    uint32_t seen_dead;       /* the rules for octets that mean nothing that the last call has shown, as bits (octets.h) */
     answer library_said, second_said;
     char difference[256]; /* empty while there is none */
 } run;

@@ -95,8 +95,6 @@ unsigned show_wrong_things(struct tester *t, unsigned *seen);
 #define PAUSED_UNSENT "step 14 sends no Track Position for being paused"
 /* "Segment moves and Move Relative keep the state." */
 #define SEEKING_GOES_ON "Seeking goes on after the move"
-/* "Previous Segment: the greatest start below the position, or 0." */
-#define NO_MARGIN "Previous Segment has no margin"
 /* "Order over the current group: 1, 2 the current track alone" */
 #define SINGLE_ORDERS "in the orders 1 and 2 the current track is the whole list"
 /* "Group moves run over the groups of the same parent that have tracks, group 0 left out" */

@@ -73,16 +73,19 @@ struct segment_move {
 
 static const struct segment_move segment_move[] = {
     /* 001, 3.18.1.7, lets the server choose: the segment before the current one, or the current one's start. It recommends the
-     * first within a few seconds of that start and the second later. Document 01: "the greatest start below the position", so
-     * the last two rows have no margin (NO_MARGIN); the others are as recommended. The sample's segments are shorter than the
-     * suite's 30 seconds: its rows are document 01's cases. */
+     * first within a few seconds of that start and the second later; by document 02, W-201, less than 300 past it. The sample's
+     * segments are shorter than the suite's 30 seconds: its rows are W-201's cases. */
     {MCS_OPCODE_PREVIOUS_SEGMENT, &ARCHIVE_LINES, 7000, 3000},
     {MCS_OPCODE_PREVIOUS_SEGMENT, &ARCHIVE_LINES, 3000, 0},
+    {MCS_OPCODE_PREVIOUS_SEGMENT, &ARCHIVE_LINES, 7100, 3000},
+    {MCS_OPCODE_PREVIOUS_SEGMENT, &ARCHIVE_LINES, 7299, 3000},
+    {MCS_OPCODE_PREVIOUS_SEGMENT, &ARCHIVE_LINES, 7300, 7000},
     {MCS_OPCODE_PREVIOUS_SEGMENT, &ARCHIVE_LINES, 8000, 7000},
     {MCS_OPCODE_PREVIOUS_SEGMENT, &ARCHIVE_LINES, 6999, 3000},
-    {MCS_OPCODE_PREVIOUS_SEGMENT, &SAMPLE_LINES, 1500, 0},
-    {MCS_OPCODE_PREVIOUS_SEGMENT, &ARCHIVE_LINES, 7100, 7000},
-    {MCS_OPCODE_PREVIOUS_SEGMENT, &SAMPLE_LINES, 1501, 1500},
+    {MCS_OPCODE_PREVIOUS_SEGMENT, &SAMPLE_LINES, 1501, 0},
+    {MCS_OPCODE_PREVIOUS_SEGMENT, &SAMPLE_LINES, 1799, 0},
+    {MCS_OPCODE_PREVIOUS_SEGMENT, &SAMPLE_LINES, 1800, 1500},
+    {MCS_OPCODE_PREVIOUS_SEGMENT, &SAMPLE_LINES, 4299, 1500},
     /* 001, 3.18.1.8 to 10 */
     {MCS_OPCODE_NEXT_SEGMENT, &ARCHIVE_LINES, 3000, 7000},
     {MCS_OPCODE_NEXT_SEGMENT, &ARCHIVE_LINES, 5000, 7000},
@@ -147,7 +150,6 @@ static void goto_segment(struct tester *t)
 #define MOVE_CCCDS (CCCD(MCS_CONTROL_POINT) | CCCD(MCS_POSITION))
 #define SEGMENT_CCCDS (MOVE_CCCDS | CCCD(MCS_MEDIA_STATE))
 #define GOTO_FROM_SEEKING CHOICE(STAYING_UNSENT "; " SEEKING_GOES_ON)
-#define BACK_FROM_SEEKING CHOICE(NO_MARGIN "; " SEEKING_GOES_ON)
 
 const struct tested_case position_cases[] = {
     /* Table 4.6 */
@@ -156,9 +158,9 @@ const struct tested_case position_cases[] = {
     CASE("/SR/MCP/BV-14-C", CHOICE(SEEKING_GOES_ON), move_relative, MCS_OPCODE_MOVE_RELATIVE, MCS_SEEKING, MOVE_CCCDS),
     INACTIVE_CASE("/SR/MCP/BV-75-C", MCS_OPCODE_MOVE_RELATIVE, MOVE_CCCDS),
     /* Table 4.7 */
-    CASE("/SR/MCP/BV-15-C", CHOICE(NO_MARGIN), segment_moves, MCS_OPCODE_PREVIOUS_SEGMENT, MCS_PLAYING, SEGMENT_CCCDS),
-    CASE("/SR/MCP/BV-16-C", CHOICE(NO_MARGIN), segment_moves, MCS_OPCODE_PREVIOUS_SEGMENT, MCS_PAUSED, SEGMENT_CCCDS),
-    CASE("/SR/MCP/BV-17-C", BACK_FROM_SEEKING, segment_moves, MCS_OPCODE_PREVIOUS_SEGMENT, MCS_SEEKING, SEGMENT_CCCDS),
+    CASE("/SR/MCP/BV-15-C", PASS, segment_moves, MCS_OPCODE_PREVIOUS_SEGMENT, MCS_PLAYING, SEGMENT_CCCDS),
+    CASE("/SR/MCP/BV-16-C", PASS, segment_moves, MCS_OPCODE_PREVIOUS_SEGMENT, MCS_PAUSED, SEGMENT_CCCDS),
+    CASE("/SR/MCP/BV-17-C", CHOICE(SEEKING_GOES_ON), segment_moves, MCS_OPCODE_PREVIOUS_SEGMENT, MCS_SEEKING, SEGMENT_CCCDS),
     INACTIVE_CASE("/SR/MCP/BV-76-C", MCS_OPCODE_PREVIOUS_SEGMENT, SEGMENT_CCCDS),
     CASE("/SR/MCP/BV-18-C", PASS, segment_moves, MCS_OPCODE_NEXT_SEGMENT, MCS_PLAYING, SEGMENT_CCCDS),
     CASE("/SR/MCP/BV-19-C", PASS, segment_moves, MCS_OPCODE_NEXT_SEGMENT, MCS_PAUSED, SEGMENT_CCCDS),

@@ -38,6 +38,13 @@ static void morning(uint32_t group)
     tell_all();
     press(LEFT_PEDAL, MCS_OPCODE_PREVIOUS_SEGMENT);
     tell_all();
+
+    print_heading("The tape runs on, and a second press within three seconds leads to the segment before");
+    let_pass(100);
+    press(LEFT_PEDAL, MCS_OPCODE_PREVIOUS_SEGMENT);
+    tell_all();
+
+    print_heading("On with it");
     press(LEFT_PEDAL, MCS_OPCODE_FAST_FORWARD);
     press(LEFT_PEDAL, MCS_OPCODE_FAST_FORWARD);
     tell_all();

@@ -1,8 +1,8 @@
 /* Tests of the second program: cases whose answers were worked out by hand from the documents, then random calls, which are
  * made for the sanitizers. That it gives the library's answers is not tried here; the comparison does that.
  *
- * Usage: test [histories [seed]]. A comment in quotation marks is a sentence of document 01, and among the cue sheets one of
- * document 02's request W-212. */
+ * Usage: test [histories [seed]]. A comment in quotation marks is a sentence of document 01; among the cue sheets, and where it
+ * names a request, one of document 02. */
 #include "ref.h"
 
 #include <stdio.h>
@@ -217,7 +217,6 @@ static void move_cases(void)
 {
     lend_sample();
     /* "In track 0", with the ends of the numbers' range. */
-    LEADS(1500, SEGMENT + PREVIOUS, 0, 0); LEADS(1501, SEGMENT + PREVIOUS, 0, 1500); LEADS(0, SEGMENT + PREVIOUS, 0, 0);
     LEADS(1499, SEGMENT + NEXT, 0, 1500); LEADS(1500, SEGMENT + NEXT, 0, 4000); LEADS(4000, SEGMENT + NEXT, 0, 6000);
     LEADS(77, SEGMENT + FIRST, 0, 0); LEADS(77, SEGMENT + LAST, 0, 4000); LEADS(77, SEGMENT + GOTO, 0, 77);
     LEADS(77, SEGMENT + GOTO, 3, 4000); LEADS(77, SEGMENT + GOTO, 4, 6000); LEADS(77, SEGMENT + GOTO, MOST, 6000);
@@ -255,6 +254,37 @@ static void move_cases(void)
     memcpy(lent.words[GROUPS], NESTED, sizeof NESTED); EQUAL(start(ALL_OPCODES) + activate(0), 0);
     GOES(NEXT, 0, 4, 0, 0); GOES(PREVIOUS, 0, 4, 0, 0); GOES(GOTO, 2, 4, 0, 0); GOES(LAST, 0, 1, 0, 0); EQUAL(activate(1), 0);
     GOES(PREVIOUS, 0, 4, 1, 1); GOES(NEXT, 0, 1, 3, 3); EQUAL(activate(2), 0); GOES(NEXT, 0, 4, 2, 2); GOES(GOTO, -1, 1, 2, 2);
+}
+
+/* W-201: "if the position is less than 300 past the start of the segment it lies in, and there is a segment before, go to that
+ * one's start; otherwise to the start of its own" */
+#define GOES_BACK(from, to) LEADS(from, SEGMENT + PREVIOUS, 0, to)
+
+static void previous_segment_cases(void)
+{
+    uint32_t *starts = lent.words[SEGMENTS], *duration = lent.words[TRACKS];
+    /* W-201: "1501 → 0, 1799 → 0, 1800 → 1500, 4299 → 1500"; at a start, and 1, 299, 300, 301 past it. */
+    lend_sample();
+    GOES_BACK(1500, 0); GOES_BACK(1501, 0); GOES_BACK(1799, 0); GOES_BACK(1800, 1500); GOES_BACK(1801, 1500); GOES_BACK(3999, 1500);
+    GOES_BACK(4000, 1500); GOES_BACK(4001, 1500); GOES_BACK(4299, 1500); GOES_BACK(4300, 4000); GOES_BACK(4301, 4000);
+    /* There is no segment before the first one. */
+    GOES_BACK(0, 0); GOES_BACK(1, 0); GOES_BACK(299, 0); GOES_BACK(300, 0); GOES_BACK(301, 0); GOES_BACK(1499, 0);
+    /* At D the position lies in the last segment, here of 2000, 299 and 300. */
+    GOES_BACK(6000, 4000); *duration = 4299; GOES_BACK(4299, 1500); *duration = 4300; GOES_BACK(4300, 4000);
+    /* Starts less than 300 apart: one step is one segment, however near the one before that is. */
+    lend_sample(); starts[1] = 3900; GOES_BACK(4150, 3900); GOES_BACK(4000, 3900); GOES_BACK(3999, 0); GOES_BACK(4300, 4000);
+    /* A track without segments: its duration is 300. */
+    lend_sample();
+    EACH(0, 3) { stand(3, 1, 150 * k); EQUAL(result(SEGMENT + PREVIOUS, 0), 1); PAUSES(1, 1, 0); }
+    /* State and speed play no part, and are kept. */
+    stand(3, 0, 1799); EQUAL(result(PLAY, 0), 1); EQUAL(result(SEGMENT + PREVIOUS, 0), 1); PLAYS(1, 0, 0);
+    stand(3, 0, 1800); EQUAL(result(REWIND, 0), 1); EQUAL(result(SEGMENT + PREVIOUS, 0), 1); SEEKS(1500, -4);
+    /* "n < 0: Last, then Previous |n| − 1 times": from a start each step is one segment, so Goto comes to what it came to. */
+    starts[1] = 3900;
+    LEADS(4150, SEGMENT + GOTO, -1, 4000); LEADS(4150, SEGMENT + GOTO, -2, 3900); LEADS(4150, SEGMENT + GOTO, -3, 0);
+    LEADS(4150, SEGMENT + GOTO, -4, 0); LEADS(4150, SEGMENT + GOTO, LEAST, 0);
+    EQUAL(result(SEGMENT + LAST, 0), 1); PAUSES(1, 0, 4000); EQUAL(result(SEGMENT + PREVIOUS, 0), 1); PAUSES(1, 0, 3900);
+    EQUAL(result(SEGMENT + PREVIOUS, 0), 1); PAUSES(1, 0, 0); EQUAL(result(SEGMENT + PREVIOUS, 0), 1); PAUSES(1, 0, 0);
 }
 
 static void media_cases(void)
@@ -689,7 +719,7 @@ int main(int argc, char **argv)
 {
     unsigned long histories = argc > 1 ? strtoul(argv[1], NULL, 10) : 300, made = 0;
     seed += (argc > 2 ? strtoul(argv[2], NULL, 10) : 0) * 0x9E3779B97F4A7C15u;
-    move_cases(); media_cases(); owed_cases(); take_cases();
+    move_cases(); previous_segment_cases(); media_cases(); owed_cases(); take_cases();
     catalogue_cases(); name_cases(); order_cases(); state_cases();
     card_cases(); sheet_cases();
     for (unsigned long k = 0; k < histories; k++) history();
