@@ -1,4 +1,4 @@
-/* The Media Control Service core of a desk player: fourteen calls, proved (crates/mcs), for C and C++ on x86-64.
+/* The Media Control Service core of a desk player: fourteen calls, proved (crates/mcs), for C and C++ on x86-64 and aarch64.
  *
  * Every call takes all octets, numbers, tables and states there are, checks them itself, and ends. It returns 0, or the number of
  * the first refusal that applies, in the order of the list below. A refusal alters nothing: state, tables, output, length,
