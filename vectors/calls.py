@@ -16,8 +16,9 @@ what was worked out by hand.
 import struct
 
 # The catalogues of the program: document 01's sample; the same with long titles; one whose group 3 is its own parent; one whose groups end inside a
-# record; the sample with other segments in track 0, from 0, 200, 450 and 5800 on, of which the first two and the last are shorter than 300.
-SAMPLE, LONG, OWN_PARENT, CUT, CLOSE = range(5)
+# record; the sample with other segments in track 0, from 0, 200, 450 and 5800 on, of which the first two and the last are shorter than 300; the sample
+# with tracks 1, 2 and 3 still running, the first of them with segments from 0, 1500 and 8639999 on.
+SAMPLE, LONG, OWN_PARENT, CUT, CLOSE, RUNNING = range(6)
 
 (NOTE, START, SET_NAME, ACTIVATE, DEACTIVATE, ADVANCE, CONNECT, DISCONNECT, SUBSCRIBE, UNSUBSCRIBE, READ, WRITE, TAKE, DAMAGE) = range(14)
 

@@ -428,12 +428,16 @@ segment_runs('segment-runs-wrap-first', '200', [(WORD, 1), (0, 1)], [0])
 segment_runs('segment-runs-wrap-last', '200', [(0, 1), (WORD, 1)], [0])
 segment_runs('segment-runs-wrap-sum', '200', [(0, WORD), (WORD, 1), (0, 1)], [0])
 
-# "Duration is 0 to 8,640,000 hundredths of a second."
+# "Duration is 0 to 8,640,000 hundredths of a second."; "Duration word 0xFFFFFFFF means not yet known" (W-202), and no other word does.
 catalogue('duration-0', 'fine', tracks=put(SAMPLE_TRACKS, 3, (0, 5, 3, 0, 18, 4)))
 catalogue('duration-8640000', 'fine', tracks=put(SAMPLE_TRACKS, 3, (8640000, 5, 3, 0, 18, 4)))
 catalogue('duration-8640001', '200', tracks=put(SAMPLE_TRACKS, 3, (8640001, 5, 3, 0, 18, 4)))
 catalogue('duration-8640001-first', '200', tracks=put(SAMPLE_TRACKS, 0, (8640001, 30, 0, 3, 0, 8)))
-catalogue('duration-greatest', '200', tracks=put(SAMPLE_TRACKS, 3, (WORD, 5, 3, 0, 18, 4)))
+catalogue('duration-not-yet-known', 'fine', tracks=put(SAMPLE_TRACKS, 3, (WORD, 5, 3, 0, 18, 4)))
+catalogue('duration-not-yet-known-first', 'fine', tracks=put(SAMPLE_TRACKS, 0, (WORD, 30, 0, 3, 0, 8)))
+catalogue('duration-one-below-not-yet-known', '200', tracks=put(SAMPLE_TRACKS, 3, (WORD - 1, 5, 3, 0, 18, 4)))
+catalogue('duration-half', '200', tracks=put(SAMPLE_TRACKS, 3, (0x7FFFFFFF, 5, 3, 0, 18, 4)))
+catalogue('duration-sign', '200', tracks=put(SAMPLE_TRACKS, 3, (0x80000000, 5, 3, 0, 18, 4)))
 catalogue('stamp-greatest', 'fine', tracks=put(SAMPLE_TRACKS, 3, (900, WORD, 3, 0, 18, 4)))
 
 # "Segment starts begin at 0, rise strictly and lie below the duration." Track 0 of the sample lasts 6000.
@@ -447,6 +451,10 @@ catalogue('starts-above-duration', '200', segments=[0, 1500, WORD])
 catalogue('starts-next-to-each-other', 'fine', segments=[0, 1, 2])
 catalogue('starts-in-duration-0', '200', [(0, 0, 1)], [(0, 0, 0, 1, 0, 0)], [0], b'')
 catalogue('starts-in-duration-1', 'fine', [(0, 0, 1)], [(1, 0, 0, 1, 0, 0)], [0], b'')
+# "starts lie below that": of a running recording below 8,640,000 (W-202).
+for last, answer in ((8639999, 'fine'), (8640000, '200'), (8640001, '200'), (WORD - 1, '200'), (WORD, '200')):
+    catalogue('starts-of-a-running-recording-%d' % last, answer, tracks=put(SAMPLE_TRACKS, 0, (WORD, 30, 0, 3, 0, 8)), segments=[0, 1500, last])
+catalogue('starts-of-a-running-recording-begin-at-1', '200', tracks=put(SAMPLE_TRACKS, 0, (WORD, 30, 0, 3, 0, 8)), segments=[1, 1500, 4000])
 segment_runs('starts-anew', 'fine', [(0, 2), (2, 2)], [0, 5999, 0, 1])
 segment_runs('starts-not-anew', '200', [(0, 2), (2, 2)], [0, 1, 2, 3])
 segment_runs('starts-fall-in-second', '200', [(0, 1), (1, 3)], [0, 0, 9, 8])

@@ -1,14 +1,14 @@
 """The office's day: the calls of four clients over the sample catalogue of document 01, which vectors/script.py puts first.
 
-Each call has its answer, the state of the player that it leaves and what falls due by it to whom beside it, worked out by hand from document 01.
-vectors/calls.py says how they are written.
+Each call has its answer, the state of the player that it leaves and what falls due by it to whom beside it, worked out by hand from documents 01 and
+02. vectors/calls.py says how they are written.
 
-A comment in quotation marks is a sentence of document 01.
+A comment in quotation marks is a sentence of document 01, or of the request of document 02 that it names.
 """
 from calls import (
     ALL, CODE, CONNECTED, CUT, ENCRYPTED, ENCRYPTION, FIRST_GROUP, FIRST_SEGMENT, FIRST_TRACK, FORWARD, FRESH, GOTO_GROUP, GOTO_SEGMENT, GOTO_TRACK,
     GROUP, HEADSET, LAST_GROUP, LAST_SEGMENT, LAST_TRACK, LEFT, LONG, LONGEST, MARK, MEDIA, MTU, NAME_LENGTH, NEXT_GROUP, NEXT_SEGMENT, NEXT_TRACK,
-    OPEN, OWED, OWN_PARENT, PAUSE, PLACE, PLAY, PLAYING_ORDER, PREVIOUS_GROUP, PREVIOUS_SEGMENT, PREVIOUS_TRACK, RELATIVE, REWIND, RIGHT, SAMPLE,
+    OPEN, OWED, OWN_PARENT, PAUSE, PLACE, PLAY, PLAYING_ORDER, PREVIOUS_GROUP, PREVIOUS_SEGMENT, PREVIOUS_TRACK, RELATIVE, REWIND, RIGHT, RUNNING, SAMPLE,
     SCREEN, SEEKING_SPEED, STOP, SUBSCRIBED, TRACK, TURN, WAITING,
     activate, advance, case, connect, control, damage, deactivate, disconnect, octets, read, seen, set_name, start, subscribe, take, unsubscribe, word,
     write,
@@ -726,6 +726,73 @@ take('left 18 22 01')
 take('left 18 02 01')
 take('left 18 23 01')
 take('nothing')
+
+
+# W-202: "6 then reads −1", as it does while Inactive, so it does not change.
+case('a recording that is still running is put on')
+start(b'Desk', ALL, 7, 'done', 'Inactive 3 0 0 | 0 0 0', RUNNING)
+connect(SCREEN, 517, ENCRYPTED, 'done')
+for characteristic in SLOTS:
+    subscribe(SCREEN, characteristic, 'done')
+activate(3, 'done', 'Paused 3 0 0 | 3 3 0', 'screen 4 5 7 17', RUNNING)
+read(SCREEN, 6, 0, 'read ff ff ff ff', catalogue=RUNNING)
+take('screen 4', catalogue=RUNNING)
+take('screen 5' + octets(ZIEL), catalogue=RUNNING)
+take('screen 7 00 00 00 00', catalogue=RUNNING)
+take('screen 17 02', catalogue=RUNNING)
+deactivate('done', 'Inactive 3 0 0 | 0 0 0', 'screen 4 5 7 17', RUNNING)
+read(SCREEN, 6, 3, 'read ff', catalogue=RUNNING)
+
+case('from a finished recording to running ones, and back')
+office(screen='4 5 6 7', catalogue=RUNNING)
+control(SCREEN, NEXT_TRACK, 'Paused 3 0 0 | 1 1 0', 'screen 4 5 6 7', catalogue=RUNNING)
+take('screen 4', catalogue=RUNNING)
+take('screen 5' + octets(RAST), catalogue=RUNNING)
+take('screen 6 ff ff ff ff', catalogue=RUNNING)
+take('screen 7 00 00 00 00', catalogue=RUNNING)
+control(SCREEN, NEXT_TRACK, 'Paused 3 0 0 | 1 2 0', 'screen 4 5 7', catalogue=RUNNING)
+take('screen 4', catalogue=RUNNING)
+take('screen 5', catalogue=RUNNING)
+take('screen 7 00 00 00 00', catalogue=RUNNING)
+control(SCREEN, FIRST_TRACK, 'Paused 3 0 0 | 1 0 0', 'screen 4 5 6 7', catalogue=RUNNING)
+take('screen 4', catalogue=RUNNING)
+take('screen 5' + octets(UEBERFAHRT), catalogue=RUNNING)
+take('screen 6 70 17 00 00', catalogue=RUNNING)
+take('screen 7 00 00 00 00', catalogue=RUNNING)
+take('nothing', catalogue=RUNNING)
+
+# "Not owed: 7 when an advance in Playing stays below D"; W-202: "what is owed reads D so too". The step that reaches 8,640,000 does not stay below it,
+# and the steps after it change nothing.
+case('the position of a running recording')
+office('7', screen='4 6 7 17', catalogue=RUNNING)
+control(SCREEN, NEXT_TRACK, 'Paused 3 0 0 | 1 1 0', 'left 7; screen 4 6 7', catalogue=RUNNING)
+write(LEFT, 7, word(8639990), 'done', 'Paused 3 0 0 | 1 1 8639990', 'left 7; screen 7', RUNNING)
+control(SCREEN, PLAY, 'Playing 3 0 0 | 1 1 8639990', 'screen 17', catalogue=RUNNING)
+take('left 7 f6 d5 83 00', catalogue=RUNNING)
+take('screen 4', catalogue=RUNNING)
+take('screen 6 ff ff ff ff', catalogue=RUNNING)
+take('screen 7 f6 d5 83 00', catalogue=RUNNING)
+take('screen 17 01', catalogue=RUNNING)
+advance(9, 'done', 'Playing 3 0 0 | 1 1 8639999', catalogue=RUNNING)
+take('nothing', catalogue=RUNNING)
+advance(1, 'done', 'Playing 3 0 0 | 1 1 8640000', 'left 7; screen 7', RUNNING)
+take('left 7 00 d6 83 00', catalogue=RUNNING)
+take('screen 7 00 d6 83 00', catalogue=RUNNING)
+advance(0, 'done', 'Playing 3 0 0 | 1 1 8640000', catalogue=RUNNING)
+advance(LONGEST, 'done', 'Playing 3 0 0 | 1 1 8640000', catalogue=RUNNING)
+take('nothing', catalogue=RUNNING)
+# "A negative position write is taken and moves nothing.", so nothing is owed, and the changed mark stays.
+read(LEFT, 7, 0, 'read 00 d6 83 00', catalogue=RUNNING)
+write(LEFT, 7, word(-1), 'done', 'Playing 3 0 0 | 1 1 8640000', catalogue=RUNNING)
+read(LEFT, 7, 1, 'read d6 83 00', catalogue=RUNNING)
+write(LEFT, 7, word(8640001), 'done', 'Playing 3 0 0 | 1 1 8640000', catalogue=RUNNING)
+take('nothing', catalogue=RUNNING)
+write(LEFT, 7, word(0), 'done', 'Playing 3 0 0 | 1 1 0', 'left 7; screen 7', RUNNING)
+read(LEFT, 7, 1, 'refused 0x80', catalogue=RUNNING)
+advance(LONGEST, 'done', 'Playing 3 0 0 | 1 1 8640000', 'left 7; screen 7', RUNNING)
+take('left 7 00 d6 83 00', catalogue=RUNNING)
+take('screen 7 00 d6 83 00', catalogue=RUNNING)
+take('nothing', catalogue=RUNNING)
 
 
 # ---- The rounds

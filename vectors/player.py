@@ -10,7 +10,7 @@ import calls
 from calls import (
     ALL, CASES, CLOSE, CUT, ENCRYPTED, FIRST_GROUP, FIRST_SEGMENT, FIRST_TRACK, FORWARD, GOTO_GROUP, GOTO_SEGMENT, GOTO_TRACK, GROUP, LAST_GROUP,
     LAST_SEGMENT, LAST_TRACK, LEFT, LONGEST, MEDIA, NAME_FIRST, NAME_LENGTH, NEXT_GROUP, NEXT_SEGMENT, NEXT_TRACK, OWN_PARENT, PAUSE, PLACE, PLAY,
-    PLAYER, PLAYING_ORDER, PREVIOUS_GROUP, PREVIOUS_SEGMENT, PREVIOUS_TRACK, RELATIVE, REWIND, SAMPLE, SEEKING_SPEED, STOP, TRACK,
+    PLAYER, PLAYING_ORDER, PREVIOUS_GROUP, PREVIOUS_SEGMENT, PREVIOUS_TRACK, RELATIVE, REWIND, RUNNING, SAMPLE, SEEKING_SPEED, STOP, TRACK,
     activate, advance, case, connect, deactivate, read, start, subscribe, take, word, write,
 )
 
@@ -870,6 +870,161 @@ control(FORWARD, 'result 1', 'Seeking 4 0 4 | 1 2 0')
 advance(5, 'done', 'Seeking 4 0 4 | 1 2 0')
 control(REWIND, 'result 1', 'Seeking 4 0 -4 | 1 2 0')
 advance(5, 'done', 'Seeking 4 0 -4 | 1 2 0')
+
+
+# ---- Recordings that are still running (document 02, W-202)
+
+# "The position is 0 to 8,640,000 and every hold to D is to 8,640,000"
+FURTHEST = 8640000
+
+
+def stand_in_running(number, track, place):
+    """The same as stand, over the catalogue whose tracks 1 and 2 of group 1 are still running."""
+    start(b'Radio', ALL, 7, 'done', 'Inactive 3 0 0 | 0 0 0', RUNNING)
+    attend()
+    activate(1, 'done', 'Paused 3 0 0 | 1 0 0', catalogue=RUNNING)
+    control(GOTO_TRACK, 'result 1', 'Paused 3 0 0 | 1 %d 0' % track, track + 1, RUNNING)
+    order(number, 'done', 'Paused %d 0 0 | 1 %d 0' % (number, track), RUNNING)
+    position(place, 'done', 'Paused %d 0 0 | 1 %d %d' % (number, track, place), RUNNING)
+
+
+# "6 then reads −1."
+case('the duration of a running recording')
+stand_in_running(3, 0, 0)
+value(6, 'read 70 17 00 00', 'Paused 3 0 0 | 1 0 0', catalogue=RUNNING)
+control(NEXT_TRACK, 'result 1', 'Paused 3 0 0 | 1 1 0', catalogue=RUNNING)
+value(6, 'read ff ff ff ff', 'Paused 3 0 0 | 1 1 0', catalogue=RUNNING)
+value(7, 'read 00 00 00 00', 'Paused 3 0 0 | 1 1 0', catalogue=RUNNING)
+value(5, 'read 52 61 73 74', 'Paused 3 0 0 | 1 1 0', catalogue=RUNNING)
+
+# "Advance never ends such a track; at 8,640,000 it stays there in its state." In order 3 track 2 is the last, in order 1 each track is.
+for number, track in ((1, 1), (2, 1), (3, 1), (3, 2), (4, 2), (5, 1), (8, 2)):
+    case('a running recording in order %d' % number)
+    stand_in_running(number, track, FURTHEST - 2)
+    control(PLAY, 'result 1', 'Playing %d 0 0 | 1 %d 8639998' % (number, track), catalogue=RUNNING)
+    advance(0, 'done', 'Playing %d 0 0 | 1 %d 8639998' % (number, track), catalogue=RUNNING)
+    advance(1, 'done', 'Playing %d 0 0 | 1 %d 8639999' % (number, track), catalogue=RUNNING)
+    advance(1, 'done', 'Playing %d 0 0 | 1 %d 8640000' % (number, track), catalogue=RUNNING)
+    advance(0, 'done', 'Playing %d 0 0 | 1 %d 8640000' % (number, track), catalogue=RUNNING)
+    advance(LONGEST, 'done', 'Playing %d 0 0 | 1 %d 8640000' % (number, track), catalogue=RUNNING)
+    position(0, 'done', 'Playing %d 0 0 | 1 %d 0' % (number, track), RUNNING)
+    advance(LONGEST, 'done', 'Playing %d 0 0 | 1 %d 8640000' % (number, track), catalogue=RUNNING)
+    control(PAUSE, 'result 1', 'Paused %d 0 0 | 1 %d 8640000' % (number, track), catalogue=RUNNING)
+    advance(1, 'done', 'Paused %d 0 0 | 1 %d 8640000' % (number, track), catalogue=RUNNING)
+
+# A finished track ends as ever and goes on to a running one; one that is held is finished, and then ends.
+case('from a finished recording into a running one')
+stand_in_running(3, 0, 5999)
+control(PLAY, 'result 1', 'Playing 3 0 0 | 1 0 5999', catalogue=RUNNING)
+advance(1, 'done', 'Playing 3 0 0 | 1 1 0', catalogue=RUNNING)
+advance(300, 'done', 'Playing 3 0 0 | 1 1 300', catalogue=RUNNING)
+# Track 1 of the sample lasts 300.
+advance(0, 'done', 'Playing 3 0 0 | 1 2 0')
+
+# Track moves and group moves are as ever.
+case('moves between running recordings')
+stand_in_running(3, 1, FURTHEST)
+control(NEXT_TRACK, 'result 1', 'Paused 3 0 0 | 1 2 0', catalogue=RUNNING)
+control(NEXT_TRACK, 'result 4', 'Paused 3 0 0 | 1 2 0', catalogue=RUNNING)
+control(GOTO_TRACK, 'result 1', 'Paused 3 0 0 | 1 1 0', -2, RUNNING)
+control(NEXT_GROUP, 'result 1', 'Paused 3 0 0 | 3 3 0', catalogue=RUNNING)
+position(FURTHEST, 'done', 'Paused 3 0 0 | 3 3 8640000', RUNNING)
+control(PREVIOUS_GROUP, 'result 1', 'Paused 3 0 0 | 1 0 0', catalogue=RUNNING)
+
+# "every hold to D is to 8,640,000": Seeking at both ends stays Seeking.
+case('Seeking in a running recording')
+stand_in_running(3, 1, FURTHEST - 5)
+control(FORWARD, 'result 1', 'Seeking 3 0 4 | 1 1 8639995', catalogue=RUNNING)
+advance(1, 'done', 'Seeking 3 0 4 | 1 1 8639999', catalogue=RUNNING)
+advance(1, 'done', 'Seeking 3 0 4 | 1 1 8640000', catalogue=RUNNING)
+advance(LONGEST, 'done', 'Seeking 3 0 4 | 1 1 8640000', catalogue=RUNNING)
+control(REWIND, 'result 1', 'Seeking 3 0 -4 | 1 1 8640000', catalogue=RUNNING)
+advance(2159999, 'done', 'Seeking 3 0 -4 | 1 1 4', catalogue=RUNNING)
+advance(1, 'done', 'Seeking 3 0 -4 | 1 1 0', catalogue=RUNNING)
+advance(LONGEST, 'done', 'Seeking 3 0 -4 | 1 1 0', catalogue=RUNNING)
+
+case('Move Relative in a running recording')
+stand_in_running(3, 2, 100)
+control(RELATIVE, 'result 1', 'Paused 3 0 0 | 1 2 8639999', FURTHEST - 101, RUNNING)
+control(RELATIVE, 'result 1', 'Paused 3 0 0 | 1 2 8640000', 1, RUNNING)
+control(RELATIVE, 'result 1', 'Paused 3 0 0 | 1 2 8640000', MOST, RUNNING)
+control(RELATIVE, 'result 1', 'Paused 3 0 0 | 1 2 8639999', -1, RUNNING)
+control(RELATIVE, 'result 1', 'Paused 3 0 0 | 1 2 0', LEAST, RUNNING)
+
+# "A negative position write is taken and moves nothing."
+case('position writes in a running recording')
+stand_in_running(3, 1, 1000)
+position(-1, 'done', 'Paused 3 0 0 | 1 1 1000', RUNNING)
+position(LEAST, 'done', 'Paused 3 0 0 | 1 1 1000', RUNNING)
+position(-FURTHEST, 'done', 'Paused 3 0 0 | 1 1 1000', RUNNING)
+position(0, 'done', 'Paused 3 0 0 | 1 1 0', RUNNING)
+position(8639999, 'done', 'Paused 3 0 0 | 1 1 8639999', RUNNING)
+position(FURTHEST, 'done', 'Paused 3 0 0 | 1 1 8640000', RUNNING)
+position(1000, 'done', 'Paused 3 0 0 | 1 1 1000', RUNNING)
+position(FURTHEST + 1, 'done', 'Paused 3 0 0 | 1 1 8640000', RUNNING)
+position(-1, 'done', 'Paused 3 0 0 | 1 1 8640000', RUNNING)
+position(0, 'done', 'Paused 3 0 0 | 1 1 0', RUNNING)
+position(MOST, 'done', 'Paused 3 0 0 | 1 1 8640000', RUNNING)
+control(REWIND, 'result 1', 'Seeking 3 0 -4 | 1 1 8640000', catalogue=RUNNING)
+position(-1, 'done', 'Seeking 3 0 -4 | 1 1 8640000', RUNNING)
+position(5, 'done', 'Seeking 3 0 -4 | 1 1 5', RUNNING)
+# Of a finished recording a negative one counts from D.
+control(FIRST_TRACK, 'result 1', 'Playing 3 0 0 | 1 0 0', catalogue=RUNNING)
+position(-1, 'done', 'Playing 3 0 0 | 1 0 5999', RUNNING)
+
+# "Next Segment with no later start, and a Goto that needs it, give result 4."; "After 2, 3, 4 the player is as before."
+case('segments of a running recording')
+stand_in_running(3, 1, 0)
+control(NEXT_SEGMENT, 'result 1', 'Paused 3 0 0 | 1 1 1500', catalogue=RUNNING)
+control(NEXT_SEGMENT, 'result 1', 'Paused 3 0 0 | 1 1 8639999', catalogue=RUNNING)
+control(NEXT_SEGMENT, 'result 4', 'Paused 3 0 0 | 1 1 8639999', catalogue=RUNNING)
+position(FURTHEST, 'done', 'Paused 3 0 0 | 1 1 8640000', RUNNING)
+control(NEXT_SEGMENT, 'result 4', 'Paused 3 0 0 | 1 1 8640000', catalogue=RUNNING)
+control(GOTO_SEGMENT, 'result 4', 'Paused 3 0 0 | 1 1 8640000', 4, RUNNING)
+control(GOTO_SEGMENT, 'result 4', 'Paused 3 0 0 | 1 1 8640000', 5, RUNNING)
+control(GOTO_SEGMENT, 'result 4', 'Paused 3 0 0 | 1 1 8640000', MOST, RUNNING)
+control(GOTO_SEGMENT, 'result 1', 'Paused 3 0 0 | 1 1 8640000', 0, RUNNING)
+control(GOTO_SEGMENT, 'result 1', 'Paused 3 0 0 | 1 1 8639999', 3, RUNNING)
+control(GOTO_SEGMENT, 'result 1', 'Paused 3 0 0 | 1 1 1500', 2, RUNNING)
+control(GOTO_SEGMENT, 'result 4', 'Paused 3 0 0 | 1 1 1500', 4, RUNNING)
+control(GOTO_SEGMENT, 'result 1', 'Paused 3 0 0 | 1 1 0', 1, RUNNING)
+control(GOTO_SEGMENT, 'result 1', 'Paused 3 0 0 | 1 1 8639999', -1, RUNNING)
+control(GOTO_SEGMENT, 'result 1', 'Paused 3 0 0 | 1 1 1500', -2, RUNNING)
+control(GOTO_SEGMENT, 'result 1', 'Paused 3 0 0 | 1 1 0', -4, RUNNING)
+control(LAST_SEGMENT, 'result 1', 'Paused 3 0 0 | 1 1 8639999', catalogue=RUNNING)
+control(GOTO_SEGMENT, 'result 1', 'Paused 3 0 0 | 1 1 0', LEAST, RUNNING)
+# At 8,640,000 the position is 1 past the last start.
+position(FURTHEST, 'done', 'Paused 3 0 0 | 1 1 8640000', RUNNING)
+control(PREVIOUS_SEGMENT, 'result 1', 'Paused 3 0 0 | 1 1 1500', catalogue=RUNNING)
+control(FIRST_SEGMENT, 'result 1', 'Paused 3 0 0 | 1 1 0', catalogue=RUNNING)
+
+# "A track without segments is one segment from 0."
+case('a running recording without segments')
+stand_in_running(3, 2, 0)
+control(NEXT_SEGMENT, 'result 4', 'Paused 3 0 0 | 1 2 0', catalogue=RUNNING)
+position(777, 'done', 'Paused 3 0 0 | 1 2 777', RUNNING)
+control(NEXT_SEGMENT, 'result 4', 'Paused 3 0 0 | 1 2 777', catalogue=RUNNING)
+control(GOTO_SEGMENT, 'result 4', 'Paused 3 0 0 | 1 2 777', 2, RUNNING)
+control(GOTO_SEGMENT, 'result 4', 'Paused 3 0 0 | 1 2 777', MOST, RUNNING)
+control(GOTO_SEGMENT, 'result 1', 'Paused 3 0 0 | 1 2 777', 0, RUNNING)
+control(GOTO_SEGMENT, 'result 1', 'Paused 3 0 0 | 1 2 0', 1, RUNNING)
+position(FURTHEST, 'done', 'Paused 3 0 0 | 1 2 8640000', RUNNING)
+control(NEXT_SEGMENT, 'result 4', 'Paused 3 0 0 | 1 2 8640000', catalogue=RUNNING)
+control(GOTO_SEGMENT, 'result 1', 'Paused 3 0 0 | 1 2 0', -2, RUNNING)
+position(777, 'done', 'Paused 3 0 0 | 1 2 777', RUNNING)
+control(PREVIOUS_SEGMENT, 'result 1', 'Paused 3 0 0 | 1 2 0', catalogue=RUNNING)
+control(LAST_SEGMENT, 'result 1', 'Paused 3 0 0 | 1 2 0', catalogue=RUNNING)
+
+# "200 and 201 follow."
+case('a wrong position in a running recording')
+stand_in_running(3, 1, 0)
+damage(PLACE, FURTHEST, 'Paused 3 0 0 | 1 1 8640000')
+check('nothing', 'Paused 3 0 0 | 1 1 8640000', RUNNING)
+check('refused 201', 'Paused 3 0 0 | 1 1 8640000')
+damage(PLACE, FURTHEST + 1, 'Paused 3 0 0 | 1 1 8640001')
+check('refused 201', 'Paused 3 0 0 | 1 1 8640001', RUNNING)
+damage(PLACE, LONGEST, 'Paused 3 0 0 | 1 1 4294967295')
+check('refused 201', 'Paused 3 0 0 | 1 1 4294967295', RUNNING)
 
 
 # ---- Values

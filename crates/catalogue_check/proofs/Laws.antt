@@ -1,7 +1,7 @@
 -- What a layer above knows of a catalogue that passes the check: stated over the check's result, so that no rule has to be opened.
 -- Assumes nothing.
 use mathlib.Core.Path.{_≡_, refl, ap}
-use mathlib.Core.Bool.{Bool, true, false, _&&_, not}
+use mathlib.Core.Bool.{Bool, true, false, _&&_, _||_, not}
 use mathlib.Core.List.{[]}
 use mathlib.Core.Logic.{⊎-elim}
 use Prim.Native.Nat.{ℕ, zero, suc, _+_, _*_, _<_, _≤_}
@@ -9,18 +9,19 @@ use native.Mathlib.Nat.{not-suc-le-zero, eq-or-lt-of-le}
 use native.Mathlib.Numerals.{add-one}
 use native.Mathlib.Omega.{arith}
 use borrow.Author.Tests.{leb-true}
+use lib.Dec.{leb}
 use lib.ListN.{length, getD, length-take, length-drop}
 use Rattle.ground.specs.Cases.{pick}
 use Rattle.ground.specs.Refusals.{Said, granted, refused}
 use Rattle.ground.specs.Limits.{mostGroups, mostTracks, mostSegments, mostText, mostDuration, mostTitle, groupWords, trackWords}
 use Rattle.ground.proofs.Bounded.{all-at}
-use Rattle.ground.proofs.Cases.{and-left, and-right, clash}
+use Rattle.ground.proofs.Cases.{and-left, and-right, clash, true-or}
 use Rattle.text.specs.Grammar.{Text}
 use Rattle.text.specs.Utf8.{textOf, isFine}
 use Rattle.text.specs.declared.Checked.{Checked}
 use Rattle.text.specs.declared.Checked.the-variants.{Fine, BadAt}
 use Rattle.text.proofs.Law.{fine-is-text}
-use Rattle.catalogue_tables.specs.Tables.{Tables, groupCount, trackCount, parentOf, firstTrackOf, tracksIn, durationOf, firstSegmentOf, segmentsIn, titleOffsetOf, titleLengthOf, startsOf, titleOf}
+use Rattle.catalogue_tables.specs.Tables.{Tables, groupCount, trackCount, parentOf, firstTrackOf, tracksIn, durationOf, isUnknown, endBy, endOf, firstSegmentOf, segmentsIn, titleOffsetOf, titleLengthOf, startsOf, titleOf}
 use Rattle.catalogue_rules.specs.Rules.{sizesRule, parentsRule, trackRunsRule, segmentRunsRule, durationsRule, startsRule, titlesPlacedRule, titlesTextRule}
 use Rattle.catalogue_check.specs.Catalogue.{catalogueRule, checkSaid, Right}
 use Rattle.catalogue_rules.proofs.Runs.{inside, apart}
@@ -139,15 +140,26 @@ module _ (k : Tables) (right : Right k) where
     unfolding startsOf
     starts-length = simp (length-take, length-drop) (omega (arith, segment-run-inside))
 
-    pub duration-bounded : durationOf (k .tracks) t ≤ mostDuration
-    unfolding durationsRule
-    duration-bounded = leb-true _ _ (all-at _ (trackCount (k .tracks)) (kept k right .durations) t exists)
+    -- a track ends by the greatest duration, a running recording at it
+    pub end-bounded : endOf (k .tracks) t ≤ mostDuration
+    unfolding endOf durationsRule
+    end-bounded = by-word (durationOf (k .tracks) t) (all-at _ (trackCount (k .tracks)) (kept k right .durations) t exists)
+      where
+        only : (a : Bool) → (a || false) ≡ true → a ≡ true
+        only true h = refl
+        only false h = h
 
-    -- starts begin at 0, rise strictly and lie below the duration
+        by-word : (d : ℕ) → (leb d mostDuration || isUnknown d) ≡ true → endBy d ≤ mostDuration
+        by-word d h = ⊎-elim
+            (λ e. rw e (omega arith))
+            (λ e. rw e (leb-true d mostDuration (only (leb d mostDuration) (rw e at h))))
+            (true-or (isUnknown d))
+
+    -- starts begin at 0, rise strictly and lie below the track's end
     pub starts-begin : getD (startsOf (k .tracks) (k .segments) t) 0 0 ≡ 0
     starts-begin = rule.begins (k .tracks) (k .segments) (kept k right .starts) t exists
 
-    pub starts-below : (i : ℕ) → i < length (startsOf (k .tracks) (k .segments) t) → getD (startsOf (k .tracks) (k .segments) t) i 0 < durationOf (k .tracks) t
+    pub starts-below : (i : ℕ) → i < length (startsOf (k .tracks) (k .segments) t) → getD (startsOf (k .tracks) (k .segments) t) i 0 < endOf (k .tracks) t
     starts-below = rule.below (k .tracks) (k .segments) (kept k right .starts) t exists
 
     pub starts-rise : (j i : ℕ) → i < j → j < length (startsOf (k .tracks) (k .segments) t)

@@ -1,6 +1,7 @@
--- The rules of a catalogue, in the order of document 01, "Card and catalogue"; that titles are UTF-8 stands last.
+-- The rules of a catalogue, in the order of document 01, "Card and catalogue"; that titles are UTF-8 stands last. Running recordings are document 02's
+-- (W-202).
 -- Assumes nothing.
-use mathlib.Core.Bool.{Bool, _&&_}
+use mathlib.Core.Bool.{Bool, _&&_, _||_}
 use mathlib.Core.List.{List}
 use Prim.Native.Nat.{ℕ, _+_, _-_, _/_, _%_, _<_, _≤_}
 use lib.Dec.{eqb, ltb, leb}
@@ -9,7 +10,7 @@ use Rattle.ground.specs.Cases.{pick}
 use Rattle.ground.specs.Limits.{mostGroups, mostTracks, mostSegments, mostText, groupWords, trackWords, mostDuration, mostTitle}
 use Rattle.ground.specs.Lists.{allBelow, sumBelow}
 use Rattle.text.specs.Utf8.{textOf, isFine}
-use Rattle.catalogue_tables.specs.Tables.{groupCount, trackCount, parentOf, firstTrackOf, tracksIn, durationOf, endOf, firstSegmentOf, segmentsIn, titleOffsetOf, titleLengthOf, startsOf, titleOf}
+use Rattle.catalogue_tables.specs.Tables.{groupCount, trackCount, parentOf, firstTrackOf, tracksIn, durationOf, isRunning, endOf, firstSegmentOf, segmentsIn, titleOffsetOf, titleLengthOf, startsOf, titleOf}
 
 -- of tables of these lengths: none "ends inside a record", and the limits
 unfoldable pub sizesRule : ℕ → ℕ → ℕ → ℕ → Bool
@@ -38,11 +39,11 @@ trackRunsRule groups tracks = follow (groupCount groups) (firstTrackOf groups) (
 unfoldable pub segmentRunsRule : List ℕ → ℕ → Bool
 segmentRunsRule tracks segments = follow (trackCount tracks) (firstSegmentOf tracks) (segmentsIn tracks) segments
 
--- "Duration is 0 to 8,640,000 hundredths of a second."
+-- "Duration is 0 to 8,640,000 hundredths of a second", or not yet known (document 02, W-202)
 unfoldable pub durationsRule : List ℕ → Bool
-durationsRule tracks = allBelow (trackCount tracks) (λ t. leb (durationOf tracks t) mostDuration)
+durationsRule tracks = allBelow (trackCount tracks) (λ t. leb (durationOf tracks t) mostDuration || isRunning tracks t)
 
--- "Segment starts begin at 0, rise strictly and lie below the duration."
+-- "Segment starts begin at 0, rise strictly and lie below the duration", of a running recording below 8,640,000
 unfoldable pub beginRule : List ℕ → Bool
 beginRule starts = eqb (getD starts 0 0) 0
 

@@ -72,7 +72,8 @@ pub fn durations_right(tracks: &[u32]) -> bool
     while i < n {
         let base = i * catalogue_tables::TRACK_WORDS;
         let duration = tracks[base + catalogue_tables::DURATION_AT];
-        good = good & (duration <= ground::MOST_DURATION);
+        good = good
+            & ((duration <= ground::MOST_DURATION) | (duration == catalogue_tables::NOT_YET_KNOWN));
         i += 1;
     }
     good
@@ -125,7 +126,8 @@ pub fn starts_right(tracks: &[u32], segments: &[u32]) -> bool
         let count = ground::wide_word(tracks[base + catalogue_tables::SEGMENT_COUNT_AT]);
         let end = first + count;
         let duration = tracks[base + catalogue_tables::DURATION_AT];
-        let right = starts_of_track_right(&segments[first..end], duration);
+        let last = catalogue_tables::end_by(duration);
+        let right = starts_of_track_right(&segments[first..end], last);
         good = good & right;
         i += 1;
     }

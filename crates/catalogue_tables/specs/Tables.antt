@@ -1,9 +1,12 @@
--- The four lent tables, and what their records hold (document 01, "Card and catalogue"). Behind the end of a table stands 0.
+-- The four lent tables, and what their records hold (document 01, "Card and catalogue"; document 02, W-202). Behind the end of a table stands 0.
 -- Assumes nothing.
+use mathlib.Core.Bool.{Bool}
 use mathlib.Core.List.{List}
 use Prim.Native.Nat.{ℕ, _+_, _*_, _/_}
+use lib.Dec.{eqb}
 use lib.ListN.{length, getD, take, drop}
-use Rattle.ground.specs.Limits.{groupWords, trackWords}
+use Rattle.ground.specs.Cases.{pick}
+use Rattle.ground.specs.Limits.{groupWords, trackWords, mostDuration}
 
 pub record Tables : Type 0 where
   pub groups : List ℕ
@@ -38,9 +41,22 @@ trackCount tracks = length tracks / trackWords
 abbrev pub durationOf : List ℕ → ℕ → ℕ
 durationOf tracks t = wordIn trackWords tracks t 0
 
--- where a track ends: "the duration, D"
-abbrev pub endOf : List ℕ → ℕ → ℕ
-endOf tracks t = durationOf tracks t
+-- "Duration word 0xFFFFFFFF means not yet known": the recording is still running
+abbrev pub notYetKnown : ℕ
+notYetKnown = 0xFFFF_FFFF
+
+abbrev pub isUnknown : ℕ → Bool
+isUnknown duration = eqb duration notYetKnown
+
+abbrev pub isRunning : List ℕ → ℕ → Bool
+isRunning tracks t = isUnknown (durationOf tracks t)
+
+-- where a track ends: "the duration, D"; of a running recording "The position is 0 to 8,640,000 and every hold to D is to 8,640,000"
+abbrev pub endBy : ℕ → ℕ
+endBy duration = pick (isUnknown duration) mostDuration duration
+
+unfoldable pub endOf : List ℕ → ℕ → ℕ
+endOf tracks t = endBy (durationOf tracks t)
 
 abbrev pub stampOf : List ℕ → ℕ → ℕ
 stampOf tracks t = wordIn trackWords tracks t 1

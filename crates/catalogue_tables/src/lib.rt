@@ -1,7 +1,7 @@
 // Views of a catalogue's tables. They take any words and any number: behind the end of a table stands 0.
 ghost use mathlib.Core.Path.{_≡_};
 ghost use Prim.Native.Nat.{min, _+_, _-_, _≤_};
-ghost use Rattle.catalogue_tables.specs.Tables.{wordIn, groupCount, trackCount, parentOf, firstTrackOf, tracksIn, durationOf, endOf, firstSegmentOf, segmentsIn, titleOffsetOf, titleLengthOf, startsOf, titleOf};
+ghost use Rattle.catalogue_tables.specs.Tables.{wordIn, groupCount, trackCount, parentOf, firstTrackOf, tracksIn, durationOf, isRunning, endBy, endOf, firstSegmentOf, segmentsIn, titleOffsetOf, titleLengthOf, startsOf, titleOf};
 
 // Group, track and segment numbers and hundredths are counted apart.
 pub struct GroupNo(pub u32);
@@ -34,6 +34,9 @@ pub const SEGMENT_COUNT_AT: usize = 3;
 pub const TITLE_OFFSET_AT: usize = 4;
 
 pub const TITLE_LENGTH_AT: usize = 5;
+
+// The duration of a recording that is still running (document 02, W-202).
+pub const NOT_YET_KNOWN: u32 = 0xFFFF_FFFF;
 
 // A word of record i.
 fn word_in(table: &[u32], width: usize, i: u32, column: usize) -> u32
@@ -83,11 +86,31 @@ pub fn duration(tracks: &[u32], t: TrackNo) -> Position
     Position(x)
 }
 
+// Whether a track's duration is not yet known.
+pub fn is_running(tracks: &[u32], t: TrackNo) -> bool
+    ensures { λ r. ⌜ r ≡ isRunning (now (tracks .entry)) (t .0) ⌝ }
+{
+    let d = duration(tracks, t);
+    d.0 == NOT_YET_KNOWN
+}
+
+// D, by the word of a duration.
+pub fn end_by(duration: u32) -> u32
+    ensures { λ r. ⌜ r ≡ endBy duration ⌝ }
+{
+    if duration == NOT_YET_KNOWN {
+        return ground::MOST_DURATION;
+    }
+    duration
+}
+
 // D, the last position that a track has.
 pub fn end(tracks: &[u32], t: TrackNo) -> Position
     ensures { λ r. ⌜ r .0 ≡ endOf (now (tracks .entry)) (t .0) ⌝ }
 {
-    duration(tracks, t)
+    let d = duration(tracks, t);
+    let x = end_by(d.0);
+    Position(x)
 }
 
 pub fn first_segment(tracks: &[u32], t: TrackNo) -> SegmentNo

@@ -2,8 +2,9 @@
 // answer; the media state, order and both speeds; the group, track and position; and each of the four clients, as ATT_MTU: subscribed; owed; waiting
 // results, or - while it is unconnected. A ! ends the line where lent octets behind the answer did not stay.
 // A frame of the script: an octet for the catalogue (0 the sample, 1 the sample with long titles, 2 and 3 wrong ones, 4 the sample with segments close to
-// each other), one for the call (0 a note, 1 to 12 in document 01's order from start to take, 13 damage to the state), one for the client and one for the
-// characteristic, a little endian word that the call takes, an octet for the room of the lent output, one for the length of the text, the text.
+// each other, 5 the sample with recordings that are still running), one for the call (0 a note, 1 to 12 in document 01's order from start to take, 13
+// damage to the state), one for the client and one for the characteristic, a little endian word that the call takes, an octet for the room of the lent
+// output, one for the length of the text, the text.
 ghost use Prim.Native.Nat.{_-_, _<_, _≤_};
 ghost use lib.ListN.{length};
 ghost use Rattle.desk_slots.specs.Slots.{slotCount};
@@ -101,6 +102,35 @@ const CLOSE_TRACKS: [u32; 24] = [
 ];
 
 const CLOSE_SEGMENTS: [u32; 4] = [0, 200, 450, 5800];
+// The same tracks, of which all but the first are still running, track 1 with segments.
+const RUNNING_TRACKS: [u32; 24] = [
+    6000,
+    30,
+    0,
+    3,
+    0,
+    10,
+    catalogue_tables::NOT_YET_KNOWN,
+    10,
+    3,
+    3,
+    10,
+    4,
+    catalogue_tables::NOT_YET_KNOWN,
+    10,
+    6,
+    0,
+    14,
+    0,
+    catalogue_tables::NOT_YET_KNOWN,
+    5,
+    6,
+    0,
+    14,
+    4,
+];
+
+const RUNNING_SEGMENTS: [u32; 6] = [0, 1500, 4000, 0, 1500, 8639999];
 
 // More than the 128 octets of the longest value, so that octets behind it are seen too.
 const MOST_ROOM: usize = 160;
@@ -687,7 +717,16 @@ fn call_over(catalogue: u8, d: desk_state::Desk, c: Ask, words: &[u8]) -> desk_s
         ),
         2 => call(&WRONG_GROUPS, &TRACKS, &SEGMENTS, text, d, c, words),
         3 => call(&CUT_GROUPS, &TRACKS, &SEGMENTS, text, d, c, words),
-        _ => call(&GROUPS, &CLOSE_TRACKS, &CLOSE_SEGMENTS, text, d, c, words),
+        4 => call(&GROUPS, &CLOSE_TRACKS, &CLOSE_SEGMENTS, text, d, c, words),
+        _ => call(
+            &GROUPS,
+            &RUNNING_TRACKS,
+            &RUNNING_SEGMENTS,
+            text,
+            d,
+            c,
+            words,
+        ),
     }
 }
 
@@ -739,7 +778,7 @@ fn frames(s: &[u8]) {
 }
 
 fn main() {
-    let mut input = [0u8; 65536];
+    let mut input = [0u8; 131072];
     let n = io::read_full(0, &mut input);
     frames(&input[..n]);
 }

@@ -1,14 +1,15 @@
 -- What each call leaves alone, and which result the control point gives. Assumes nothing.
 use mathlib.Core.Path.{_≡_, refl, sym, ap, _∙_}
-use mathlib.Core.Bool.{true, false}
+use mathlib.Core.Bool.{true, false, _&&_}
 use mathlib.Core.Logic.{_↔_, _⊎_, inl, inr, ⊎-elim}
 use mathlib.Core.List.{List}
-use Prim.Native.Nat.{ℕ, _+_}
+use Prim.Native.Nat.{ℕ, _+_, min}
 use native.Mathlib.Omega.{arith}
-use borrow.Author.Tests.{eq-eqb, ne-eqb, eqb-true, eqb-false, ltb-true, not-true, not-false}
+use borrow.Author.Tests.{eq-eqb, ne-eqb, eqb-true, eqb-false, ltb-true, ltb-false, not-true, not-false}
 use lib.Dec.{eqb, ltb}
 use Rattle.ground.specs.Cases.{has}
-use Rattle.ground.proofs.Cases.{past, here, and-left, clash}
+use Rattle.ground.proofs.Cases.{past, here, and-left, clash, true-or}
+use Rattle.player_walk.specs.Signed.{signedWord, isNegative}
 use Rattle.player_walk.specs.declared.Near.{Near}
 use Rattle.player_walk.specs.declared.Near.the-variants.{At, Nothing}
 use Rattle.player_walk.specs.declared.Step.the-variants.{Next}
@@ -21,7 +22,7 @@ use Rattle.player_state.specs.declared.Offer.{Offer}
 use Rattle.player_state.specs.declared.Player.{Player}
 use Rattle.player_state.specs.Player.{inactive, playing, seeking, isActive, inMode, withName, atPosition, atPlace, renamed, deactivated, withOrder, withSpeed}
 use Rattle.player_state.specs.Modes.{forwarded, rewound, movedTo}
-use Rattle.player_moves.specs.Moves.{segmentAfter, trackAfter, groupAfter, entryOf}
+use Rattle.player_moves.specs.Moves.{endNow, runningNow, segmentAfter, trackAfter, groupAfter, entryOf}
 use Rattle.player_moves.specs.Control.{failed, entered, acted, controlled}
 use Rattle.player_moves.specs.Clock.{staysBelow, afterEnd, playedOn, soughtOn, advanced, positioned, activatedOn, activated}
 use Rattle.player_moves.specs.declared.Controlled.{Controlled}
@@ -67,7 +68,9 @@ module _ (p : Player) where
   pub positioned-alone : (tracks : List ℕ) (number : ℕ) → atPosition (p .place .position .0) (positioned tracks number p) ≡ p
   unfolding positioned
   positioned-alone tracks number =
-      by-test (λ q. atPosition (p .place .position .0) q ≡ p) (isActive p) _ p (λ a. refl) (λ a. refl)
+      by-test (λ q. atPosition (p .place .position .0) q ≡ p) (isActive p) _ p
+      (λ a. by-test (λ q. atPosition (p .place .position .0) q ≡ p) (runningNow tracks p && isNegative (signedWord number)) p _ (λ t. refl) (λ t. refl))
+      (λ a. refl)
 
   pub positioned-idle : (tracks : List ℕ) (number : ℕ) → p .mode .media ≡ inactive → positioned tracks number p ≡ p
   unfolding positioned
@@ -104,13 +107,30 @@ module _ (p : Player) where
     advanced-setting d =
         by-test Alike (eqb (p .mode .media) playing) _ _
         (λ e. by-test Alike (staysBelow tracks d p) _ _
-        (λ t. refl) (λ t. after-setting (trackAfter groups tracks Next p)))
+        (λ t. refl)
+        (λ t. by-test Alike (runningNow tracks p) _ _ (λ r. refl) (λ r. after-setting (trackAfter groups tracks Next p))))
         (λ n. by-test Alike (eqb (p .mode .media) seeking) _ _ (λ e. refl) (λ m. refl))
 
     pub advanced-within : (d : ℕ) → p .mode .media ≡ playing → staysBelow tracks d p ≡ true
         → advanced groups tracks d p ≡ atPosition (p .place .position .0 + d) p
     unfolding advanced playedOn
     advanced-within d e h = sym (here _ (eq-eqb _ _ e) (here _ h refl))
+
+    -- a running recording does not end: its position runs, is held, and nothing else changes
+    pub advanced-running : (d : ℕ) → p .mode .media ≡ playing → runningNow tracks p ≡ true
+        → advanced groups tracks d p ≡ atPosition (min (p .place .position .0 + d) (endNow tracks p)) p
+    unfolding advanced playedOn
+    advanced-running d e r = sym (here _ (eq-eqb _ _ e) (⊎-elim before at (true-or (staysBelow tracks d p))))
+      where
+        before : staysBelow tracks d p ≡ true → atPosition (min (p .place .position .0 + d) (endNow tracks p)) p ≡ playedOn groups tracks d p
+        before t =
+            let m : min (p .place .position .0 + d) (endNow tracks p) ≡ p .place .position .0 + d = omega (arith, ltb-true (p .place .position .0 + d) (endNow tracks p) t) in
+            here _ t (ap (λ (x : ℕ). atPosition x p) m)
+
+        at : staysBelow tracks d p ≡ false → atPosition (min (p .place .position .0 + d) (endNow tracks p)) p ≡ playedOn groups tracks d p
+        at t =
+            let m : min (p .place .position .0 + d) (endNow tracks p) ≡ endNow tracks p = omega (arith, ltb-false (p .place .position .0 + d) (endNow tracks p) t) in
+            past _ t (here _ r (ap (λ (x : ℕ). atPosition x p) m))
 
     pub advanced-idle : (d : ℕ) → (p .mode .media ≡ playing → ⊥) → (p .mode .media ≡ seeking → ⊥) → advanced groups tracks d p ≡ p
     unfolding advanced

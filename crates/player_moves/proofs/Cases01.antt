@@ -8,7 +8,7 @@ use lib.ListN.{getD}
 use Rattle.ground.specs.Cases.{has}
 use Rattle.ground.specs.Lists.{allBelow, sumBelow}
 use Rattle.text.specs.Utf8.{textOf, textFrom}
-use Rattle.catalogue_tables.specs.Tables.{tables, startsOf, titleOf}
+use Rattle.catalogue_tables.specs.Tables.{tables, endOf, startsOf, titleOf}
 use Rattle.catalogue_rules.specs.Rules.{sizesRule, parentsRule, follow, trackRunsRule, segmentRunsRule, durationsRule, beginRule, riseRule, belowRule, startsRule, titlesPlacedRule, titlesTextRule}
 use Rattle.catalogue_check.specs.Catalogue.{catalogueRule, checkSaid, Right}
 use Rattle.player_walk.specs.Signed.{signedWord}
@@ -28,14 +28,15 @@ use Rattle.player_opcodes.specs.Opcodes.{maskBit, offered, stepOf, actionOf}
 use Rattle.player_state.specs.Player.{atPosition, startedPlayer}
 use Rattle.player_state.specs.Modes.{movedTo}
 use Rattle.player_state.specs.Positions.{heldSum, written}
-use Rattle.player_moves.specs.Moves.{segmentAfter, trackAfter, groupAfter, entryOf}
+use Rattle.player_moves.specs.Moves.{pastLast, segmentAfter, trackAfter, groupAfter, entryOf}
 use Rattle.player_moves.specs.Control.{success, onward, acted, controlled}
 use Rattle.player_moves.specs.Clock.{positioned}
 use Rattle.player_moves.specs.Cases01.{sampleGroups, sampleTracks, sampleSegments, minus, gotoSegment, gotoTrack, inGroup1, inTrack0, came, outcome, control, cases, AllHold}
+use Rattle.player_moves.proofs.Past.{past-starts}
 use Rattle.player_moves.proofs.Ready.{shaped}
 
 pub sample-right : Right (tables sampleGroups sampleTracks sampleSegments [])
-unfolding checkSaid catalogueRule sizesRule parentsRule trackRunsRule follow segmentRunsRule durationsRule startsRule beginRule riseRule belowRule titlesPlacedRule titlesTextRule allBelow sumBelow startsOf titleOf textOf textFrom
+unfolding checkSaid catalogueRule sizesRule parentsRule trackRunsRule follow segmentRunsRule durationsRule startsRule beginRule riseRule belowRule titlesPlacedRule titlesTextRule allBelow sumBelow startsOf endOf titleOf textOf textFrom
 sample-right = refl
 
 -- −2147483648 is too far to walk: by the closed forms, 2147483647 steps from the last
@@ -43,7 +44,8 @@ far-position : segmentAfter sampleTracks sampleSegments (Goto (minus 2147483648)
 unfolding segmentAfter startsOf startedPlayer
 far-position =
     sym
-    (goes-back sampleSegments 6000 1500 (minus 2147483648) (shaped _ sample-right .rising 0 (omega arith)) 2147483647 2147483647 0
+    (goes-back sampleSegments (pastLast sampleTracks 0) 1500 (minus 2147483648) (shaped _ sample-right .rising 0 (omega arith))
+    (past-starts sampleTracks 0 sampleSegments (shaped _ sample-right .below 0 (omega arith))) 2147483647 2147483647 0
     (back (minus 2147483648) (omega arith)) refl (back-past sampleSegments 2147483647 (omega arith)))
 
 far-segment : control gotoSegment (minus 2147483648) (inTrack0 1500) ≡ came 1 1 0 0
@@ -68,6 +70,6 @@ unfolding controlled offered maskBit has actionOf stepOf acted movedTo startedPl
 far-track = ap (λ (n : Near). outcome (onward n (λ t. success (movedTo 1 t (inGroup1 4 0 1500))) (inGroup1 4 0 1500))) far-found
 
 pub cases-hold : AllHold cases
-unfolding controlled positioned offered maskBit has actionOf stepOf acted movedTo startedPlayer segmentAfter startsOf segmentStarts moveAlong previousStart nextStart goto signedWord heldSum written trackAfter tracksInOrder ordered comesBefore moveIn groupAfter siblings entryOf
+unfolding controlled positioned offered maskBit has actionOf stepOf acted movedTo startedPlayer segmentAfter startsOf endOf segmentStarts moveAlong previousStart nextStart goto signedWord heldSum written trackAfter tracksInOrder ordered comesBefore moveIn groupAfter siblings entryOf
 cases-hold =
     (refl, (refl, (refl, (refl, (refl, (refl, (refl, (refl, (refl, (far-segment, (refl, (refl, (refl, (refl, (refl, (refl, (far-track, (refl, (refl, tt)))))))))))))))))))

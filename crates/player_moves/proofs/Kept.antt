@@ -1,6 +1,6 @@
 -- A state that stands in a catalogue goes on standing, whatever call is made. Assumes nothing.
 use mathlib.Core.Path.{_≡_, refl}
-use mathlib.Core.Bool.{true}
+use mathlib.Core.Bool.{true, _&&_}
 use mathlib.Core.Logic.{⊎-elim}
 use mathlib.Core.List.{List}
 use Prim.Native.Nat.{ℕ, _+_, _<_, _≤_}
@@ -11,7 +11,7 @@ use lib.ListN.{length, replicate}
 use Rattle.ground.specs.Limits.{mostTitle}
 use Rattle.ground.proofs.Cases.{true-or}
 use Rattle.catalogue_tables.specs.Tables.{groupCount, firstTrackOf, tracksIn, endOf, startsOf}
-use Rattle.player_walk.specs.Signed.{signedWord}
+use Rattle.player_walk.specs.Signed.{signedWord, isNegative}
 use Rattle.player_walk.specs.declared.Near.{Near}
 use Rattle.player_walk.specs.declared.Near.the-variants.{At, Nothing}
 use Rattle.player_walk.specs.declared.Step.{Step}
@@ -29,11 +29,12 @@ use Rattle.player_state.specs.Player.{playing, paused, seeking, isActive, withM
 use Rattle.player_state.specs.Modes.{rungs, rungUp, rungDown, forwarded, rewound, movedTo}
 use Rattle.player_check.specs.Standing.{textRule, modeRule, member, playerRule}
 use Rattle.player_check.proofs.Laws as laws
-use Rattle.player_moves.specs.Moves.{endNow, segmentAfter, trackAfter, groupAfter, entryOf, Shaped}
+use Rattle.player_moves.specs.Moves.{endNow, runningNow, pastLast, segmentAfter, trackAfter, groupAfter, entryOf, Shaped}
 use Rattle.player_moves.specs.Control.{entered, acted, controlled}
 use Rattle.player_moves.specs.Clock.{staysBelow, afterEnd, playedOn, soughtOn, advanced, positioned, activatedOn, activated}
 use Rattle.player_moves.proofs.Ready as ready
 use Rattle.player_moves.proofs.Choices.{by-test, by-found, by-control, active-above}
+use Rattle.player_moves.proofs.Past.{past-end}
 use Rattle.player_moves.proofs.Held.{held-within, written-within, sought-within, up-rung, down-rung}
 
 pub started : (groups tracks name : List ℕ) (mask ccid : ℕ) → textRule name ≡ true → playerRule groups tracks (startedPlayer name mask ccid) ≡ true
@@ -143,7 +144,9 @@ module _ (groups tracks : List ℕ) where
     unfolding positioned
     kept-positioned number =
         by-test Stands (isActive p) _ p
-        (λ a. position-stands (active-above p a) _ (written-within (endNow tracks p) (signedWord number)))
+        (λ a. by-test Stands (runningNow tracks p && isNegative (signedWord number)) p _
+        (λ t. right)
+        (λ t. position-stands (active-above p a) _ (written-within (endNow tracks p) (signedWord number))))
         (λ a. right)
 
   module _ (segments : List ℕ) (s : Shaped groups tracks segments) where
@@ -168,8 +171,8 @@ module _ (groups tracks : List ℕ) where
         segment-within : (step : Step) (x : ℕ) → segmentAfter tracks segments step p ≡ At x → x ≤ endNow tracks p
         unfolding segmentAfter
         segment-within step x e =
-            move-within step (startsOf tracks segments (p .place .track .0)) (endNow tracks p) (p .place .position .0) x
-            (ready.rising-now groups tracks segments s p right active) (laws.position-held groups tracks p right active) e
+            move-within step (startsOf tracks segments (p .place .track .0)) (pastLast tracks (p .place .track .0)) (endNow tracks p) (p .place .position .0) x
+            (ready.below-now groups tracks segments s p right active) (past-end tracks (p .place .track .0)) (laws.position-held groups tracks p right active) e
 
         group-current : (step : Step) (g : ℕ) → groupAfter groups step p ≡ At g → Current groups g
         unfolding groupAfter
@@ -206,7 +209,9 @@ module _ (groups tracks : List ℕ) where
         kept-played-on d =
             by-test Stands (staysBelow tracks d p) _ _
             (λ t. position-stands p right active _ (omega (arith, ltb-true (p .place .position .0 + d) (endNow tracks p) t)))
-            (λ t. kept-after (trackAfter groups tracks Next p) refl)
+            (λ t. by-test Stands (runningNow tracks p) _ _
+            (λ r. position-stands p right active _ (omega arith))
+            (λ r. kept-after (trackAfter groups tracks Next p) refl))
 
         kept-sought-on : (d : ℕ) → Stands (soughtOn tracks d p)
         unfolding soughtOn

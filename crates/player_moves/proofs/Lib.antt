@@ -2,6 +2,7 @@
 pub mod Ready
 pub mod Choices
 pub mod Held
+pub mod Past
 pub mod Kept
 pub mod Alone
 pub mod Tracks

@@ -8,7 +8,7 @@ use Rattle.catalogue_tables.specs.Tables.{Tables, groupCount, trackCount, endOf
 use Rattle.catalogue_check.specs.Catalogue.{Right}
 use Rattle.catalogue_check.proofs.Laws.{few-groups, few-tracks, track-run-inside, starts-begin, starts-rise, starts-below}
 use Rattle.player_groups.specs.Family.{Current}
-use Rattle.player_segments.specs.Segments.{Rising}
+use Rattle.player_segments.specs.Segments.{Rising, Below}
 use Rattle.player_state.specs.declared.Player.{Player}
 use Rattle.player_check.specs.Standing.{playerRule}
 use Rattle.player_check.proofs.Laws as stands
@@ -20,7 +20,8 @@ shaped k right =
       few-groups = few-groups k right;
       few-tracks = few-tracks k right;
       runs = track-run-inside k right;
-      rising = λ t h. record { begin = starts-begin k right t h; rise = starts-rise k right t h; below = starts-below k right t h };
+      rising = λ t h. record { begin = starts-begin k right t h; rise = starts-rise k right t h };
+      below = starts-below k right;
     }
 
 module _ (groups tracks segments : List ℕ) (s : Shaped groups tracks segments) where
@@ -54,5 +55,8 @@ module _ (groups tracks segments : List ℕ) (s : Shaped groups tracks segments)
     pub track-there : p .place .track .0 < trackCount tracks
     track-there = omega (arith, stands.track-to groups tracks p right active, s .runs (p .place .group .0) there)
 
-    pub rising-now : Rising (startsOf tracks segments (p .place .track .0)) (endOf tracks (p .place .track .0))
+    pub rising-now : Rising (startsOf tracks segments (p .place .track .0))
     rising-now = s .rising (p .place .track .0) track-there
+
+    pub below-now : Below (startsOf tracks segments (p .place .track .0)) (endOf tracks (p .place .track .0))
+    below-now = s .below (p .place .track .0) track-there

@@ -1,11 +1,12 @@
 -- When the track number, and whether there is a track, can change. Assumes nothing.
 use mathlib.Core.Path.{_≡_, refl, sym, ap, _∙_}
-use mathlib.Core.Bool.{Bool, true}
+use mathlib.Core.Bool.{Bool, true, _&&_}
 use mathlib.Core.List.{List}
 use Prim.Native.Nat.{ℕ}
 use borrow.Author.Tests.{eqb-true}
 use lib.Dec.{eqb}
 use Rattle.ground.proofs.Cases.{clash}
+use Rattle.player_walk.specs.Signed.{signedWord, isNegative}
 use Rattle.player_walk.specs.declared.Near.{Near}
 use Rattle.player_walk.specs.declared.Near.the-variants.{At, Nothing}
 use Rattle.player_walk.specs.declared.Step.{Step}
@@ -16,11 +17,11 @@ use Rattle.player_opcodes.specs.declared.Action.the-variants.{Play, Pause, Rewi
 use Rattle.player_state.specs.declared.Player.{Player}
 use Rattle.player_state.specs.Player.{playing, seeking, isActive, inMode, atPlace, renamed, withOrder, withSpeed}
 use Rattle.player_state.specs.Modes.{forwarded, rewound, movedTo}
-use Rattle.player_moves.specs.Moves.{segmentAfter, trackAfter, groupAfter, entryOf}
+use Rattle.player_moves.specs.Moves.{runningNow, segmentAfter, trackAfter, groupAfter, entryOf}
 use Rattle.player_moves.specs.Control.{entered, acted, controlled}
 use Rattle.player_moves.specs.Clock.{staysBelow, afterEnd, playedOn, soughtOn, advanced, positioned}
 use Rattle.player_moves.proofs.Choices.{by-test, by-found, by-control}
-use Rattle.player_moves.proofs.Alone.{refused-alone}
+use Rattle.player_moves.proofs.Alone.{refused-alone, advanced-running}
 
 -- the track number, and whether there is a track
 pub record Seat : Type 0 where
@@ -49,10 +50,13 @@ module _ (p : Player) where
 
   pub positioned-stays : (tracks : List ℕ) (number : ℕ) → seat (positioned tracks number p) ≡ seat p
   unfolding positioned
-  positioned-stays tracks number = by-test Stays (isActive p) _ p (λ a. refl) (λ a. refl)
+  positioned-stays tracks number =
+      by-test Stays (isActive p) _ p
+      (λ a. by-test Stays (runningNow tracks p && isNegative (signedWord number)) p _ (λ t. refl) (λ t. refl))
+      (λ a. refl)
 
   module _ (groups tracks : List ℕ) where
-    -- the clock goes to another track only at the end of one
+    -- the clock goes to another track only at the end of one, and a running recording has none
     pub advanced-stays : (d : ℕ) → (p .mode .media ≡ playing → staysBelow tracks d p ≡ true) → seat (advanced groups tracks d p) ≡ seat p
     unfolding advanced playedOn soughtOn
     advanced-stays d early =
@@ -61,6 +65,9 @@ module _ (p : Player) where
         (λ t. refl)
         (λ t. clash (sym t ∙ early (eqb-true _ _ e))))
         (λ n. by-test Stays (eqb (p .mode .media) seeking) _ _ (λ e. refl) (λ m. refl))
+
+    pub running-stays : (d : ℕ) → p .mode .media ≡ playing → runningNow tracks p ≡ true → seat (advanced groups tracks d p) ≡ seat p
+    running-stays d e r = ap seat (advanced-running p groups tracks d e r)
 
     after-active : (near : Near) → isActive p ≡ true → Same (afterEnd tracks near p)
     after-active (At t) a = refl
@@ -73,7 +80,9 @@ module _ (p : Player) where
         by-test Same (eqb (p .mode .media) playing) _ _
         (λ e. by-test Same (staysBelow tracks d p) _ _
         (λ t. refl)
-        (λ t. after-active (trackAfter groups tracks Next p) (rw (eqb-true (p .mode .media) playing e))))
+        (λ t. by-test Same (runningNow tracks p) _ _
+        (λ r. refl)
+        (λ r. after-active (trackAfter groups tracks Next p) (rw (eqb-true (p .mode .media) playing e)))))
         (λ n. by-test Same (eqb (p .mode .media) seeking) _ _ (λ e. refl) (λ m. refl))
 
     module _ (segments : List ℕ) where

@@ -1,11 +1,11 @@
--- Advance, the written position, and activation (document 01, "Player rules").
+-- Advance, the written position, and activation (document 01, "Player rules"; document 02, W-202).
 -- Assumes nothing.
-use mathlib.Core.Bool.{Bool}
+use mathlib.Core.Bool.{Bool, _&&_}
 use mathlib.Core.List.{List}
 use Prim.Native.Nat.{ℕ, _+_}
 use lib.Dec.{eqb, ltb}
 use Rattle.ground.specs.Cases.{pick}
-use Rattle.player_walk.specs.Signed.{signedWord}
+use Rattle.player_walk.specs.Signed.{signedWord, isNegative}
 use Rattle.player_walk.specs.declared.Near.{Near}
 use Rattle.player_walk.specs.declared.Near.the-variants.{At, Nothing}
 use Rattle.player_walk.specs.declared.Step.the-variants.{Next}
@@ -13,7 +13,7 @@ use Rattle.player_state.specs.declared.Player.{Player}
 use Rattle.player_state.specs.Player.{playing, seeking, isActive, atPlace, atPosition}
 use Rattle.player_state.specs.Modes.{pausedAt, activatedAt}
 use Rattle.player_state.specs.Positions.{written, sought}
-use Rattle.player_moves.specs.Moves.{endNow, trackAfter, entryOf}
+use Rattle.player_moves.specs.Moves.{endNow, runningNow, trackAfter, entryOf}
 
 -- an advance by d "stays below D"
 abbrev pub staysBelow : List ℕ → ℕ → Player → Bool
@@ -24,12 +24,14 @@ abbrev pub afterEnd : List ℕ → Near → Player → Player
 afterEnd tracks (At t) p = atPlace (p .place .group .0) t 0 p
 afterEnd tracks Nothing p = pausedAt (endNow tracks p) p
 
+-- at D or beyond: a running recording never ends, "at 8,640,000 it stays there in its state"
+abbrev pub atEnd : List ℕ → List ℕ → Player → Player
+atEnd groups tracks p =
+    pick (runningNow tracks p) (atPosition (endNow tracks p) p) (afterEnd tracks (trackAfter groups tracks Next p) p)
+
 -- "Playing adds d"
 unfoldable pub playedOn : List ℕ → List ℕ → ℕ → Player → Player
-playedOn groups tracks d p =
-    pick (staysBelow tracks d p)
-    (atPosition (p .place .position .0 + d) p)
-    (afterEnd tracks (trackAfter groups tracks Next p) p)
+playedOn groups tracks d p = pick (staysBelow tracks d p) (atPosition (p .place .position .0 + d) p) (atEnd groups tracks p)
 
 -- "Seeking adds d times the seeking speed, held to 0..D."
 unfoldable pub soughtOn : List ℕ → ℕ → Player → Player
@@ -42,10 +44,14 @@ advanced groups tracks d p =
     pick (eqb (p .mode .media) playing) (playedOn groups tracks d p)
     (pick (eqb (p .mode .media) seeking) (soughtOn tracks d p) p)
 
+-- of a running recording "A negative position write is taken and moves nothing."
+abbrev pub positionedIn : List ℕ → ℕ → Player → Player
+positionedIn tracks number p =
+    pick (runningNow tracks p && isNegative (signedWord number)) p (atPosition (written (endNow tracks p) (signedWord number)) p)
+
 -- "While Inactive the write is taken and alters nothing."
 unfoldable pub positioned : List ℕ → ℕ → Player → Player
-positioned tracks number p =
-    pick (isActive p) (atPosition (written (endNow tracks p) (signedWord number)) p) p
+positioned tracks number p = pick (isActive p) (positionedIn tracks number p) p
 
 -- "Activate: the group's first track in the order, position 0, Paused, seeking speed 0."
 abbrev pub activatedOn : ℕ → Near → Player → Player

@@ -1,26 +1,37 @@
--- Where moves lead (document 01, "Player rules"): along the segments, the tracks in their order, and the groups.
+-- Where moves lead (document 01, "Player rules"; document 02, W-202): along the segments, the tracks in their order, and the groups.
 -- Assumes nothing.
-use mathlib.Core.Bool.{false}
+use mathlib.Core.Bool.{Bool, false}
 use mathlib.Core.List.{List}
 use Prim.Native.Nat.{ℕ, _+_, _<_, _≤_}
 use lib.ListN.{length}
+use Rattle.ground.specs.Cases.{pick}
 use Rattle.ground.specs.Limits.{mostGroups, mostTracks}
-use Rattle.catalogue_tables.specs.Tables.{groupCount, trackCount, firstTrackOf, tracksIn, endOf, startsOf}
+use Rattle.catalogue_tables.specs.Tables.{groupCount, trackCount, firstTrackOf, tracksIn, isRunning, endOf, startsOf}
 use Rattle.player_walk.specs.Steps.{firstOf, moveIn}
 use Rattle.player_walk.specs.declared.Near.{Near}
+use Rattle.player_walk.specs.declared.Near.the-variants.{At, Nothing}
 use Rattle.player_walk.specs.declared.Step.{Step}
 use Rattle.player_orders.specs.Order.{tracksInOrder, repeats, Run, InRun}
 use Rattle.player_groups.specs.Family.{siblings}
-use Rattle.player_segments.specs.Segments.{segmentMove, Rising}
+use Rattle.player_segments.specs.Segments.{segmentMove, Rising, Below}
 use Rattle.player_state.specs.declared.Player.{Player}
 
 -- D of the current track
 abbrev pub endNow : List ℕ → Player → ℕ
 endNow tracks p = endOf tracks (p .place .track .0)
 
+-- the current track's duration is not yet known
+abbrev pub runningNow : List ℕ → Player → Bool
+runningNow tracks p = isRunning tracks (p .place .track .0)
+
+-- what Next Segment leads to past the last start: D; of a running recording nothing, so that "Next Segment with no later start, and a Goto that needs it,
+-- give result 4"
+abbrev pub pastLast : List ℕ → ℕ → Near
+pastLast tracks t = pick (isRunning tracks t) Nothing (At (endOf tracks t))
+
 unfoldable pub segmentAfter : List ℕ → List ℕ → Step → Player → Near
 segmentAfter tracks segments step p =
-    segmentMove step (startsOf tracks segments (p .place .track .0)) (endNow tracks p) (p .place .position .0)
+    segmentMove step (startsOf tracks segments (p .place .track .0)) (pastLast tracks (p .place .track .0)) (p .place .position .0)
 
 -- a group's tracks in an order, where t is the current one
 abbrev pub inOrder : List ℕ → List ℕ → ℕ → ℕ → ℕ → List ℕ
@@ -42,7 +53,8 @@ pub record Shaped (groups tracks segments : List ℕ) : Type 0 where
   pub few-groups : groupCount groups ≤ mostGroups
   pub few-tracks : trackCount tracks ≤ mostTracks
   pub runs : (g : ℕ) → g < groupCount groups → firstTrackOf groups g + tracksIn groups g ≤ trackCount tracks
-  pub rising : (t : ℕ) → t < trackCount tracks → Rising (startsOf tracks segments t) (endOf tracks t)
+  pub rising : (t : ℕ) → t < trackCount tracks → Rising (startsOf tracks segments t)
+  pub below : (t : ℕ) → t < trackCount tracks → Below (startsOf tracks segments t) (endOf tracks t)
 
 -- the current track lies in the current group's run, and a group's run in the tracks
 abbrev pub Seated : List ℕ → List ℕ → Player → Type 0

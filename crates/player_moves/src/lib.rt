@@ -8,10 +8,10 @@ ghost use Rattle.player_walk.specs.Signed.{signedWord};
 ghost use Rattle.player_orders.specs.Order.{nearTrack};
 ghost use Rattle.player_state.specs.Modes.{movedTo};
 ghost use Rattle.player_groups.specs.Family.{Current};
-ghost use Rattle.player_segments.specs.Segments.{Rising};
+ghost use Rattle.player_segments.specs.Segments.{nearPosition, Rising, Below};
 ghost use Rattle.player_check.specs.Standing.{playerRule};
 ghost use Rattle.catalogue_tables.specs.Tables.{startsOf, endOf};
-ghost use Rattle.player_moves.specs.Moves.{endNow, segmentAfter, trackAfter, groupAfter, entryOf, Shaped, Seated, RunOf};
+ghost use Rattle.player_moves.specs.Moves.{endNow, pastLast, segmentAfter, trackAfter, groupAfter, entryOf, Shaped, Seated, RunOf};
 ghost use Rattle.player_moves.specs.Control.{success, failed, onward, entered, acted, controlled};
 ghost use Rattle.player_moves.specs.Clock.{staysBelow, playedOn, soughtOn, advanced, positioned, activated};
 
@@ -48,20 +48,32 @@ fn undone(p: player_state::Player, result: u8) -> Controlled
     }
 }
 
+// What Next Segment leads to past the last start of a track.
+fn past_last(tracks: &[u32], t: catalogue_tables::TrackNo) -> player_segments::NearPosition
+    ensures { λ r. ⌜ nearPosition r ≡ pastLast (now (tracks .entry)) (t .0) ⌝ }
+{
+    if catalogue_tables::is_running(tracks, t) {
+        return player_segments::NearPosition::None;
+    }
+    let end = catalogue_tables::end(tracks, t);
+    player_segments::NearPosition::Found(end)
+}
+
 fn move_segment(
     tracks: &[u32],
     segments: &[u32],
     p: player_state::Player,
     step: player_walk::Step,
 ) -> Controlled
-    requires { ⌜ Rising (startsOf (now tracks) (now segments) (p .place .track .0)) (endOf (now tracks) (p .place .track .0)) ⌝ }
+    requires { ⌜ Rising (startsOf (now tracks) (now segments) (p .place .track .0)) ⌝ }
+    requires { ⌜ Below (startsOf (now tracks) (now segments) (p .place .track .0)) (endOf (now tracks) (p .place .track .0)) ⌝ }
     ensures { λ r. ⌜ r ≡ onward (segmentAfter (now (tracks .entry)) (now (segments .entry)) step p) (λ (x : ℕ). success (atPosition x p)) p ⌝ }
 {
     let t = p.place.track;
     let from = p.place.position;
-    let end = catalogue_tables::end(tracks, t);
+    let past = past_last(tracks, t);
     let starts = catalogue_tables::starts(tracks, segments, t);
-    let near = player_segments::segment_after(starts, end, from, step);
+    let near = player_segments::segment_after(starts, past, from, step);
     match near {
         player_segments::NearPosition::Found(to) => {
             let q = player_state::at_position(p, to);
@@ -246,7 +258,7 @@ pub fn stays_below(tracks: &[u32], p: player_state::Player, d: u32) -> bool
     to < (end.0 as u64)
 }
 
-// Playing: on by d, or to the next track, or Paused at the end.
+// Playing: on by d; at the end a running recording stays there, any other goes to the next track, or is Paused at the end.
 fn play_on(groups: &[u32], tracks: &[u32], p: player_state::Player, d: u32) -> player_state::Player
     requires { ⌜ Seated (now groups) (now tracks) p ⌝ }
     ensures { λ r. ⌜ r ≡ playedOn (now (groups .entry)) (now (tracks .entry)) d p ⌝ }
@@ -255,6 +267,12 @@ fn play_on(groups: &[u32], tracks: &[u32], p: player_state::Player, d: u32) -> p
         let sum = p.place.position.0 + d;
         let to = catalogue_tables::Position(sum);
         return player_state::at_position(p, to);
+    }
+    let t = p.place.track;
+    let running = catalogue_tables::is_running(tracks, t);
+    if running {
+        let last = catalogue_tables::end(tracks, t);
+        return player_state::at_position(p, last);
     }
     let near = near_track(groups, tracks, p, player_walk::Step::Next);
     match near {
@@ -304,7 +322,13 @@ pub fn write_position(tracks: &[u32], p: player_state::Player, number: u32) -> p
     if p.mode.media == player_state::INACTIVE {
         return p;
     }
-    let end = catalogue_tables::end(tracks, p.place.track);
+    let t = p.place.track;
+    let running = catalogue_tables::is_running(tracks, t);
+    let negative = player_walk::is_negative(number);
+    if running & negative {
+        return p;
+    }
+    let end = catalogue_tables::end(tracks, t);
     let to = player_state::written_position(end, number);
     player_state::at_position(p, to)
 }

@@ -3,14 +3,16 @@ use mathlib.Core.Path.{_≡_, sym, ap}
 use mathlib.Core.Logic.{⊎-elim}
 use mathlib.Core.List.{List}
 use Prim.Native.Nat.{ℕ, suc, _+_, _-_, _<_, _≤_}
-use native.Mathlib.Nat.{not-suc-le-zero, lt-irrefl, le-antisymm, eq-or-lt-of-le}
+use native.Mathlib.Nat.{not-suc-le-zero, lt-irrefl, eq-or-lt-of-le}
 use native.Mathlib.Omega.{arith}
 use borrow.Author.Tests.{le-leb, leb-true, lt-ltb, le-ltb, ltb-true}
 use lib.Dec.{leb, ltb}
 use lib.ListN.{length, getD}
 use Rattle.ground.proofs.Cases.{le-or, true-or}
+use Rattle.player_walk.specs.declared.Near.{Near}
+use Rattle.player_walk.specs.declared.Near.the-variants.{At}
 use Rattle.player_segments.specs.Segments.{ownStart, startBefore, previousMargin, previousStart, nextStart, Cut}
-use Rattle.player_segments.proofs.Sides.{greatest-le, greatest-is, greatest-none, le-least, least-le, least-none}
+use Rattle.player_segments.proofs.Sides.{greatest-le, greatest-is, greatest-none, least-is, least-none}
 
 abbrev pub Rises : List ℕ → Type 0
 Rises l = (j i : ℕ) → i < j → j < length l → getD l i 0 < getD l j 0
@@ -80,21 +82,19 @@ module _ (l : List ℕ) (rises : Rises l) where
         let z : k - 1 ≡ 0 = omega arith in
         rw (own-is (omega arith), z, before-first) (⊎-elim (λ t. rw t) (λ t. rw t) (true-or (ltb p (getD l 0 0 + previousMargin))))
 
-  module _ (p k d : ℕ) (cut : Cut l p k) where
-    pub next-past : length l ≤ k → d ≡ nextStart l d p
+  module _ (past : Near) (p k : ℕ) (cut : Cut l p k) where
+    pub next-past : length l ≤ k → past ≡ nextStart l past p
     unfolding nextStart
-    next-past h = least-none p d l (λ j a. cut .low j (omega arith))
+    next-past h = sym (least-none (λ x. ltb p x) past l (λ j a. le-ltb p (getD l j 0) (cut .low j (omega arith))))
 
-    pub next-here : k < length l → getD l k 0 ≤ d → getD l k 0 ≡ nextStart l d p
+    pub next-here : k < length l → At (getD l k 0) ≡ nextStart l past p
     unfolding nextStart
-    next-here h b =
-        le-antisymm
-        (le-least p d (getD l k 0) l b (λ j a c.
+    next-here h =
+        sym (least-is (λ x. ltb p x) past l k h (lt-ltb p (getD l k 0) (cut .high k (omega arith) h)) (λ j a b.
         ⊎-elim
         (λ q. rises-le j k q a)
-        (λ q. absurd (lt-irrefl p (omega (arith, cut .low j q))))
+        (λ q. absurd (lt-irrefl p (omega (arith, cut .low j q, ltb-true p (getD l j 0) b))))
         (le-or k j)))
-        (least-le p d l k h (cut .high k (omega arith) h))
 
 -- what the halving keeps: the starts before lo are not above x, those from hi on are
 pub record Bracket (l : List ℕ) (x lo hi : ℕ) : Type 0 where

@@ -1,60 +1,81 @@
--- What a segment move tells the layers above: it always leads to a position, and from within a track to one within it. Assumes nothing.
-use mathlib.Core.Path.{_≡_, refl, sym, _∙_}
-use mathlib.Core.List.{List}
+-- What a segment move tells the layers above: from within a track it leads to a position within it, and it leads nowhere only where nothing stands past
+-- the last start, so never in a finished recording. Assumes nothing.
+use mathlib.Core.Path.{_≡_, refl}
+use mathlib.Core.List.{List, [], _∷_}
 use Prim.Native.Nat.{ℕ, zero, suc, _-_, _≤_}
 use native.Mathlib.Omega.{arith}
+use lib.Dec.{ltb}
 use lib.IntN.{ℤ, pos, negsuc}
 use lib.ListN.{length}
+use Rattle.ground.specs.Lists.{those}
 use Rattle.player_walk.specs.Signed.{signedWord}
-use Rattle.player_walk.specs.Steps.{walk, goto}
-use Rattle.player_walk.specs.declared.Near.the-variants.{At}
+use Rattle.player_walk.specs.Steps.{then, walk, goto}
+use Rattle.player_walk.specs.declared.Near.{Near}
+use Rattle.player_walk.specs.declared.Near.the-variants.{At, Nothing}
 use Rattle.player_walk.specs.declared.Step.{Step}
 use Rattle.player_walk.specs.declared.Step.the-variants.{Previous, Next, First, Last, Goto}
-use Rattle.player_segments.specs.Segments.{segmentStarts, previousStart, nextStart, firstStart, lastStart, moveAlong, segmentMove, Rising}
+use Rattle.player_segments.specs.Segments.{leastOr, segmentStarts, previousStart, nextStart, firstStart, lastStart, moveAlong, segmentMove, Below}
 use Rattle.player_segments.proofs.Sides.{least-within}
 use Rattle.player_segments.proofs.Cuts.{previous-le}
 use Rattle.player_segments.proofs.Whole.{some, whole-within}
 
--- what each step of f keeps, the whole walk keeps
-kept : (P : ℕ → Type 0) (f : ℕ → ℕ) → ((x : ℕ) → P x → P (f x)) → (m x : ℕ) → P x → (q : ℕ) × (walk (λ p. At (f p)) m x ≡ At q) × P q
-kept P f on zero x h = (x, refl, h)
-kept P f on (suc m) x h = kept P f on m (f x) (on x h)
+-- where it leads has P; that it leads nowhere has N
+abbrev Leads : (ℕ → Type 0) → Type 0 → Near → Type 0
+Leads P N (At x) = P x
+Leads P N Nothing = N
 
-module _ (P : ℕ → Type 0) (l : List ℕ) (d p : ℕ) (here : P p) (first : P (firstStart l)) (last : P (lastStart l))
-    (next : (x : ℕ) → P x → P (nextStart l d x)) (previous : (x : ℕ) → P x → P (previousStart l x)) where
-  gone : (z : ℤ) → (q : ℕ) × (goto z p (At (firstStart l)) (λ q. At (nextStart l d q)) (At (lastStart l)) (λ q. At (previousStart l q)) ≡ At q) × P q
-  unfolding goto
-  gone (pos zero) = (p, refl, here)
-  gone (pos (suc m)) = kept P (nextStart l d) next m (firstStart l) first
-  gone (negsuc m) = kept P (previousStart l) previous m (lastStart l) last
+module _ (P : ℕ → Type 0) (N : Type 0) where
+  on-from : (near : Near) (f : ℕ → Near) → Leads P N near → ((x : ℕ) → P x → Leads P N (f x)) → Leads P N (then near f)
+  on-from (At x) f h on = on x h
+  on-from Nothing f h on = h
 
-  moved : (step : Step) → (q : ℕ) × (moveAlong step l d p ≡ At q) × P q
-  unfolding moveAlong
-  moved Previous = (previousStart l p, refl, previous p here)
-  moved Next = (nextStart l d p, refl, next p here)
-  moved First = (firstStart l, refl, first)
-  moved Last = (lastStart l, refl, last)
-  moved (Goto n) = gone (signedWord n)
+  -- what each step of f keeps, the whole walk keeps
+  kept : (f : ℕ → Near) → ((x : ℕ) → P x → Leads P N (f x)) → (m x : ℕ) → P x → Leads P N (walk f m x)
+  kept f on zero x h = h
+  kept f on (suc m) x h = on-from (f x) (walk f m) (on x h) (kept f on m)
 
-pub move-found : (step : Step) (starts : List ℕ) (d p : ℕ) → (q : ℕ) × (segmentMove step starts d p ≡ At q)
-move-found step starts d p =
-    let r = moved (λ x. Unit) (segmentStarts starts) d p tt tt tt (λ x h. tt) (λ x h. tt) step in
-    (r .0, r .1)
+  module _ (l : List ℕ) (past : Near) (p : ℕ) (here : P p) (first : P (firstStart l)) (last : P (lastStart l))
+      (next : (x : ℕ) → P x → Leads P N (nextStart l past x)) (previous : (x : ℕ) → P x → P (previousStart l x)) where
+    gone : (z : ℤ) → Leads P N (goto z p (At (firstStart l)) (nextStart l past) (At (lastStart l)) (λ q. At (previousStart l q)))
+    unfolding goto
+    gone (pos zero) = here
+    gone (pos (suc m)) = kept (nextStart l past) next m (firstStart l) first
+    gone (negsuc m) = kept (λ q. At (previousStart l q)) previous m (lastStart l) last
 
-pub move-within : (step : Step) (starts : List ℕ) (d p q : ℕ) → Rising starts d → p ≤ d → segmentMove step starts d p ≡ At q → q ≤ d
+    moved : (step : Step) → Leads P N (moveAlong step l past p)
+    unfolding moveAlong
+    moved Previous = previous p here
+    moved Next = next p here
+    moved First = first
+    moved Last = last
+    moved (Goto n) = gone (signedWord n)
+
+pub move-nowhere : (step : Step) (starts : List ℕ) (past : Near) (p : ℕ) → segmentMove step starts past p ≡ Nothing → past ≡ Nothing
 unfolding nextStart
-move-within step starts d p q r h e = let m = inside in rw (same (m .0) (sym (m .1) ∙ e)) at (m .2)
+move-nowhere step starts past p e =
+    rw e at (moved (λ x. Unit) (past ≡ Nothing) (segmentStarts starts) past p tt tt tt (λ x h. next (those (λ y. ltb x y) (segmentStarts starts))) (λ x h. tt) step)
   where
-    same : (x : ℕ) → At x ≡ At q → x ≡ q
-    same x e = cc
+    at-past : (near : Near) → Leads (λ x. Unit) (near ≡ Nothing) near
+    at-past (At x) = tt
+    at-past Nothing = refl
 
+    next : (later : List ℕ) → Leads (λ x. Unit) (past ≡ Nothing) (leastOr past later)
+    next [] = at-past past
+    next (x ∷ l) = tt
+
+pub move-within : (step : Step) (starts : List ℕ) (past : Near) (d p q : ℕ) → Below starts d → ((z : ℕ) → past ≡ At z → z ≤ d) → p ≤ d
+    → segmentMove step starts past p ≡ At q → q ≤ d
+unfolding nextStart
+move-within step starts past d p q below over h e =
+    rw e at (moved (λ x. x ≤ d) Unit (segmentStarts starts) past p h (whole-within starts d below 0 (some starts))
+    (whole-within starts d below (length (segmentStarts starts) - 1) (omega (arith, some starts))) next previous step)
+  where
     previous : (x : ℕ) → x ≤ d → previousStart (segmentStarts starts) x ≤ d
     previous x h = omega (arith, previous-le (segmentStarts starts) x)
 
-    next : (x : ℕ) → x ≤ d → nextStart (segmentStarts starts) d x ≤ d
-    next x h = least-within x d d (segmentStarts starts) (omega arith) (whole-within starts d r)
+    within : (near : Near) → ((q : ℕ) → near ≡ At q → q ≤ d) → Leads (λ x. x ≤ d) Unit near
+    within (At x) h = h x refl
+    within Nothing h = tt
 
-    inside : (x : ℕ) × (segmentMove step starts d p ≡ At x) × (x ≤ d)
-    inside =
-        moved (λ x. x ≤ d) (segmentStarts starts) d p h (whole-within starts d r 0 (some starts))
-        (whole-within starts d r (length (segmentStarts starts) - 1) (omega (arith, some starts))) next previous step
+    next : (x : ℕ) → x ≤ d → Leads (λ x. x ≤ d) Unit (nextStart (segmentStarts starts) past x)
+    next x h = within _ (least-within (λ y. ltb x y) past d (segmentStarts starts) over (λ k a b. whole-within starts d below k a))

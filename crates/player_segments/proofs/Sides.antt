@@ -1,72 +1,98 @@
--- The greatest of the elements that pass a test, and the least of those above p. Assumes nothing.
-use mathlib.Core.Path.{_≡_, refl}
+-- The greatest and the least of the elements that pass a test. Assumes nothing.
+use mathlib.Core.Path.{_≡_, refl, ap}
 use mathlib.Core.Bool.{Bool, true, false}
 use mathlib.Core.Logic.{⊎-elim}
 use mathlib.Core.List.{List, [], _∷_}
 use Prim.Native.Nat.{ℕ, zero, suc, _<_, _≤_, suc-le-suc}
 use native.Mathlib.Nat.{not-suc-le-zero, le-of-suc-le-suc}
 use native.Mathlib.Omega.{arith}
-use borrow.Author.Tests.{lt-ltb, le-ltb}
-use lib.Dec.{ltb}
 use lib.ListN.{length, getD}
 use Rattle.ground.specs.Lists.{those}
-use Rattle.ground.proofs.Cases.{le-or, true-or}
-use Rattle.player_segments.specs.Segments.{greatestOr, leastOr}
+use Rattle.ground.proofs.Cases.{true-or}
+use Rattle.player_walk.specs.declared.Near.{Near}
+use Rattle.player_walk.specs.declared.Near.the-variants.{At, Nothing}
+use Rattle.player_segments.specs.Segments.{greatestOr, least, leastOr}
 
 module _ (test : ℕ → Bool) where
-  -- m bounds each element that passes
-  abbrev pub Bounds : ℕ → List ℕ → Type 0
-  Bounds m l = (k : ℕ) → k < length l → test (getD l k 0) ≡ true → getD l k 0 ≤ m
+  -- each element that passes has P; none passes
+  abbrev pub Passing : (ℕ → Type 0) → List ℕ → Type 0
+  Passing P l = (k : ℕ) → k < length l → test (getD l k 0) ≡ true → P (getD l k 0)
 
-  -- what bounds z too bounds the greatest of these
-  pub greatest-le : (z m : ℕ) (l : List ℕ) → z ≤ m → Bounds m l → greatestOr z (those test l) ≤ m
+  abbrev pub NonePasses : List ℕ → Type 0
+  NonePasses l = (k : ℕ) → k < length l → test (getD l k 0) ≡ false
+
+  -- what holds of all holds of those behind the first
+  behind : (P : ℕ → Type 0) (x : ℕ) (l : List ℕ) → Passing P (x ∷ l) → Passing P l
+  behind P x l h k a b = h (suc k) (suc-le-suc a) b
+
+  -- what bounds z and each that passes bounds the greatest of these
+  pub greatest-le : (z m : ℕ) (l : List ℕ) → z ≤ m → Passing (λ x. x ≤ m) l → greatestOr z (those test l) ≤ m
   greatest-le z m [] b h = b
   greatest-le z m (x ∷ l) b h = ⊎-elim
-      (λ e. rw e (let c = h 0 (omega arith) e in omega (arith, greatest-le x m l c (λ k a b. h (suc k) (suc-le-suc a) b))))
-      (λ e. rw e (greatest-le z m l b (λ k a b. h (suc k) (suc-le-suc a) b)))
+      (λ e. rw e (let c = h 0 (omega arith) e in omega (arith, greatest-le x m l c (behind (λ x. x ≤ m) x l h))))
+      (λ e. rw e (greatest-le z m l b (behind (λ x. x ≤ m) x l h)))
       (true-or (test x))
 
-  -- the greatest is the element that passes and bounds all that do
-  pub greatest-is : (z : ℕ) (l : List ℕ) (j : ℕ) → j < length l → test (getD l j 0) ≡ true → Bounds (getD l j 0) l → greatestOr z (those test l) ≡ getD l j 0
+  -- the greatest is the one that passes and bounds all that do
+  pub greatest-is : (z : ℕ) (l : List ℕ) (j : ℕ) → j < length l → test (getD l j 0) ≡ true → Passing (λ x. x ≤ getD l j 0) l
+      → greatestOr z (those test l) ≡ getD l j 0
   greatest-is z [] j i g h = absurd (not-suc-le-zero i)
-  greatest-is z (x ∷ l) zero i g h = rw g (omega (arith, greatest-le x x l (omega arith) (λ k a b. h (suc k) (suc-le-suc a) b)))
+  greatest-is z (x ∷ l) zero i g h = rw g (omega (arith, greatest-le x x l (omega arith) (behind (λ y. y ≤ x) x l h)))
   greatest-is z (x ∷ l) (suc j) i g h = ⊎-elim
-      (λ e. rw e (omega (arith, h 0 (omega arith) e, greatest-is x l j (le-of-suc-le-suc i) g (λ k a b. h (suc k) (suc-le-suc a) b))))
-      (λ e. rw e (greatest-is z l j (le-of-suc-le-suc i) g (λ k a b. h (suc k) (suc-le-suc a) b)))
+      (λ e. rw e (omega (arith, h 0 (omega arith) e, greatest-is x l j (le-of-suc-le-suc i) g (behind (λ y. y ≤ getD l j 0) x l h))))
+      (λ e. rw e (greatest-is z l j (le-of-suc-le-suc i) g (behind (λ y. y ≤ getD l j 0) x l h)))
       (true-or (test x))
 
-  -- with none that passes, z
-  pub greatest-none : (z : ℕ) (l : List ℕ) → ((k : ℕ) → k < length l → test (getD l k 0) ≡ false) → greatestOr z (those test l) ≡ z
+  pub greatest-none : (z : ℕ) (l : List ℕ) → NonePasses l → greatestOr z (those test l) ≡ z
   greatest-none z [] h = refl
   greatest-none z (x ∷ l) h = rw (h 0 (omega arith)) (greatest-none z l (λ k a. h (suc k) (suc-le-suc a)))
 
-module _ (p : ℕ) where
-  -- what bounds z and each element above p from below bounds the least of these
-  pub le-least : (z m : ℕ) (l : List ℕ) → m ≤ z → ((k : ℕ) → k < length l → p < getD l k 0 → m ≤ getD l k 0) → m ≤ leastOr z (those (λ x. ltb p x) l)
-  le-least z m [] b h = b
-  le-least z m (x ∷ l) b h = ⊎-elim
-      (λ q. rw (le-ltb p x q) (le-least z m l b (λ k a b. h (suc k) (suc-le-suc a) b)))
-      (λ q. rw (lt-ltb p x q) (omega (arith, h 0 (omega arith) q, le-least x m l (h 0 (omega arith) q) (λ k a b. h (suc k) (suc-le-suc a) b))))
-      (le-or x p)
+  -- the least of x and those that pass is bounded from below by what bounds these, and is x where x does
+  least-le : (x m : ℕ) (l : List ℕ) → m ≤ x → Passing (λ y. m ≤ y) l → m ≤ least x (those test l)
+  least-le x m [] b h = b
+  least-le x m (y ∷ l) b h = ⊎-elim
+      (λ e. rw e (let c = h 0 (omega arith) e in omega (arith, least-le y m l c (behind (λ y. m ≤ y) y l h))))
+      (λ e. rw e (least-le x m l b (behind (λ y. m ≤ y) y l h)))
+      (true-or (test y))
 
-  -- an element above p is at least the least
-  pub least-le : (z : ℕ) (l : List ℕ) (k : ℕ) → k < length l → p < getD l k 0 → leastOr z (those (λ x. ltb p x) l) ≤ getD l k 0
-  least-le z [] k h g = absurd (not-suc-le-zero h)
-  least-le z (x ∷ l) zero h g = rw (lt-ltb p x g) (omega arith)
-  least-le z (x ∷ l) (suc k) h g = ⊎-elim
-      (λ q. rw (le-ltb p x q) (least-le z l k (le-of-suc-le-suc h) g))
-      (λ q. rw (lt-ltb p x q) (omega (arith, least-le x l k (le-of-suc-le-suc h) g)))
-      (le-or x p)
+  least-first : (x : ℕ) (l : List ℕ) → Passing (λ y. x ≤ y) l → least x (those test l) ≡ x
+  least-first x [] h = refl
+  least-first x (y ∷ l) h = ⊎-elim
+      (λ e. rw e (let c = h 0 (omega arith) e in omega (arith, least-le y x l c (behind (λ z. x ≤ z) y l h))))
+      (λ e. rw e (least-first x l (behind (λ z. x ≤ z) y l h)))
+      (true-or (test y))
 
-  -- with none above p, z
-  pub least-none : (z : ℕ) (l : List ℕ) → ((k : ℕ) → k < length l → getD l k 0 ≤ p) → z ≡ leastOr z (those (λ x. ltb p x) l)
-  least-none z [] h = refl
-  least-none z (x ∷ l) h = rw (le-ltb p x (h 0 (omega arith))) (least-none z l (λ k q. h (suc k) (suc-le-suc q)))
+  -- the least is the one that passes and is below all others that do
+  pub least-is : (past : Near) (l : List ℕ) (j : ℕ) → j < length l → test (getD l j 0) ≡ true → Passing (λ x. getD l j 0 ≤ x) l
+      → leastOr past (those test l) ≡ At (getD l j 0)
+  least-is past [] j i g h = absurd (not-suc-le-zero i)
+  least-is past (x ∷ l) zero i g h = rw g (ap (λ (n : ℕ). At n) (least-first x l (behind (λ y. x ≤ y) x l h)))
+  least-is past (x ∷ l) (suc j) i g h = ⊎-elim
+      (λ e. rw e (ap (λ (n : ℕ). At n) (lower (those test l) (h 0 (omega arith) e) (least-is Nothing l j (le-of-suc-le-suc i) g (behind (λ y. getD l j 0 ≤ y) x l h)))))
+      (λ e. rw e (least-is past l j (le-of-suc-le-suc i) g (behind (λ y. getD l j 0 ≤ y) x l h)))
+      (true-or (test x))
+    where
+      -- the least of those behind x, where it is not above x, is the least with x too
+      lower : (m : List ℕ) → getD l j 0 ≤ x → leastOr Nothing m ≡ At (getD l j 0) → least x m ≡ getD l j 0
+      lower [] b e = cc
+      lower (y ∷ m) b e = let c : least y m ≡ getD l j 0 = cc in omega arith
 
-  -- the least is at most a bound of z and of all
-  pub least-within : (z d : ℕ) (l : List ℕ) → z ≤ d → ((k : ℕ) → k < length l → getD l k 0 ≤ d) → leastOr z (those (λ x. ltb p x) l) ≤ d
-  least-within z d [] b h = b
-  least-within z d (x ∷ l) b h = ⊎-elim
-      (λ q. rw (le-ltb p x q) (least-within z d l b (λ k a. h (suc k) (suc-le-suc a))))
-      (λ q. rw (lt-ltb p x q) (omega (arith, h 0 (omega arith))))
-      (le-or x p)
+  -- the least is bounded by what bounds `past` and each that passes
+  pub least-within : (past : Near) (d : ℕ) (l : List ℕ) → ((z : ℕ) → past ≡ At z → z ≤ d) → Passing (λ x. x ≤ d) l
+      → (q : ℕ) → leastOr past (those test l) ≡ At q → q ≤ d
+  least-within past d [] b h q e = b q e
+  least-within past d (x ∷ l) b h q e = ⊎-elim
+      (λ t. let c : least x (those test l) ≡ q = same (rw t at e) in omega (arith, at-most (those test l), h 0 (omega arith) t))
+      (λ t. least-within past d l b (behind (λ x. x ≤ d) x l h) q (rw t at e))
+      (true-or (test x))
+    where
+      same : At (least x (those test l)) ≡ At q → least x (those test l) ≡ q
+      same f = cc
+
+      at-most : (m : List ℕ) → least x m ≤ x
+      at-most [] = omega arith
+      at-most (y ∷ m) = omega arith
+
+  pub least-none : (past : Near) (l : List ℕ) → NonePasses l → leastOr past (those test l) ≡ past
+  least-none past [] h = refl
+  least-none past (x ∷ l) h = rw (h 0 (omega arith)) (least-none past l (λ k a. h (suc k) (suc-le-suc a)))

@@ -1,4 +1,4 @@
--- A walk along the starts: each step leads to the next in a row that has no end, so m steps lead to the m-th. Assumes nothing.
+-- A walk along the starts: each step leads to the next in a row, so m steps lead to the m-th. Assumes nothing.
 use mathlib.Core.Path.{_≡_, refl, sym, ap, _∙_}
 use mathlib.Core.Logic.{⊎-elim}
 use mathlib.Core.List.{List}
@@ -6,26 +6,39 @@ use Prim.Native.Nat.{ℕ, zero, suc, _+_, _-_, _<_, _≤_}
 use native.Mathlib.Nat.{add-zero, zero-add}
 use native.Mathlib.Omega.{arith}
 use lib.IntN.{ℤ, pos, negsuc}
+use borrow.Author.Tests.{le-ltb}
+use lib.Dec.{ltb}
 use lib.ListN.{length, getD}
 use Rattle.ground.proofs.Cases.{le-or}
 use Rattle.player_walk.specs.Places.{wayOf}
 use Rattle.player_walk.specs.Signed.{signedWord}
-use Rattle.player_walk.specs.Steps.{walk, goto}
-use Rattle.player_walk.specs.declared.Near.the-variants.{At}
+use Rattle.player_walk.specs.Steps.{then, walk, goto}
+use Rattle.player_walk.specs.declared.Near.{Near}
+use Rattle.player_walk.specs.declared.Near.the-variants.{At, Nothing}
 use Rattle.player_walk.specs.declared.Step.the-variants.{Goto}
 use Rattle.player_walk.specs.declared.Way.{Way}
 use Rattle.player_walk.specs.declared.Way.the-variants.{Stay, Ahead, Back}
-use Rattle.player_segments.specs.Segments.{previousStart, nextStart, firstStart, lastStart, moveAlong, segmentStarts, segmentMove, Rising}
+use Rattle.player_segments.specs.Segments.{previousStart, nextStart, firstStart, lastStart, moveAlong, segmentStarts, segmentMove, Rising, Past}
 use Rattle.player_segments.specs.Closed.{startAhead, startBack}
 use Rattle.player_segments.proofs.Sides.{least-none}
 use Rattle.player_segments.proofs.Cuts.{Rises, cut-at, previous-first, previous-before, next-past, next-here}
 use Rattle.player_segments.proofs.Whole.{some, whole-rises, whole-within, from-zero, ahead-is, ahead-over, back-is, back-over}
 
-endless : (f elem : ℕ → ℕ) → ((k : ℕ) → f (elem k) ≡ elem (suc k)) → (m k : ℕ) → walk (λ p. At (f p)) m (elem k) ≡ At (elem (k + m))
-endless f elem on zero k = rw add-zero
-endless f elem on (suc m) k =
+-- going on from what was found, twice
+then-then : (near : Near) (f g : ℕ → Near) → then near (λ x. then (f x) g) ≡ then (then near f) g
+then-then (At x) f g = refl
+then-then Nothing f g = refl
+
+-- what f leads to from each of a row is the next of it, so m steps lead to the m-th
+endless : (f : ℕ → Near) (row : ℕ → Near) → ((k : ℕ) → then (row k) f ≡ row (suc k)) → (m k : ℕ) → then (row k) (walk f m) ≡ row (k + m)
+endless f row on zero k = rw add-zero (none (row k))
+  where
+    none : (near : Near) → then near (walk f zero) ≡ near
+    none (At x) = refl
+    none Nothing = refl
+endless f row on (suc m) k =
     let e : k + suc m ≡ suc k + m = omega arith in
-    rw (on k, e) (endless f elem on m (suc k))
+    rw (then-then (row k) f (walk f m), on k, e) (endless f row on m (suc k))
 
 module _ (l : List ℕ) where
   pub last-is : 0 < length l → startBack l 0 ≡ lastStart l
@@ -62,54 +75,57 @@ module _ (l : List ℕ) where
             let e : length l - 1 - k ≡ suc (length l - 1 - suc k) = omega arith in
             rw (back-is l k h, back-is l (suc k) q, e) (one-back (length l - 1 - suc k) (omega arith))
 
-    module _ (d : ℕ) (within : (i : ℕ) → i < length l → getD l i 0 ≤ d) where
-      above-none : nextStart l d d ≡ d
+    module _ (past : Near) (over : (d : ℕ) → past ≡ At d → (i : ℕ) → i < length l → getD l i 0 ≤ d) where
+      -- from past the last there is nothing further
+      stays-past : (near : Near) → past ≡ near → then near (nextStart l past) ≡ near
       unfolding nextStart
-      above-none = sym (least-none d d l within)
+      stays-past (At d) e = least-none (λ x. ltb d x) past l (λ i h. le-ltb d (getD l i 0) (over d e i h)) ∙ e
+      stays-past Nothing e = refl
 
-      next-on : (k : ℕ) → nextStart l d (startAhead l d k) ≡ startAhead l d (suc k)
+      next-on : (k : ℕ) → then (startAhead l past k) (nextStart l past) ≡ startAhead l past (suc k)
       next-on k = ⊎-elim
-          (λ h. rw (ahead-over l k d h, ahead-over l (suc k) d (omega arith)) above-none)
+          (λ h. rw (ahead-over l k past h, ahead-over l (suc k) past (omega arith)) (stays-past past refl))
           (λ h. ⊎-elim (last h) (inner h) (le-or (length l) (suc k)))
           (le-or (length l) k)
         where
-          last : k < length l → length l ≤ suc k → nextStart l d (startAhead l d k) ≡ startAhead l d (suc k)
+          last : k < length l → length l ≤ suc k → then (startAhead l past k) (nextStart l past) ≡ startAhead l past (suc k)
           last h q =
-              rw (ahead-is l k d h, ahead-over l (suc k) d q)
-              (sym (next-past l rises (getD l k 0) (suc k) d (cut-at l rises k h) q))
+              rw (ahead-is l k past h, ahead-over l (suc k) past q)
+              (sym (next-past l rises past (getD l k 0) (suc k) (cut-at l rises k h) q))
 
-          inner : k < length l → suc k < length l → nextStart l d (startAhead l d k) ≡ startAhead l d (suc k)
+          inner : k < length l → suc k < length l → then (startAhead l past k) (nextStart l past) ≡ startAhead l past (suc k)
           inner h q =
-              rw (ahead-is l k d h, ahead-is l (suc k) d q)
-              (sym (next-here l rises (getD l k 0) (suc k) d (cut-at l rises k h) q (within (suc k) q)))
+              rw (ahead-is l k past h, ahead-is l (suc k) past q)
+              (sym (next-here l rises past (getD l k 0) (suc k) (cut-at l rises k h) q))
 
 -- where Goto leads, by the way that its number says
-abbrev byWay : List ℕ → ℕ → ℕ → Way → ℕ
-byWay l d p Stay = p
-byWay l d p (Ahead m) = startAhead l d m
-byWay l d p (Back m) = startBack l m
+abbrev byWay : List ℕ → Near → ℕ → Way → Near
+byWay l past p Stay = At p
+byWay l past p (Ahead m) = startAhead l past m
+byWay l past p (Back m) = At (startBack l m)
 
-module _ (l : List ℕ) (rises : Rises l) (h : 0 < length l) (begin : getD l 0 0 ≡ 0) (d : ℕ) (within : (i : ℕ) → i < length l → getD l i 0 ≤ d) (p : ℕ) where
-  goto-is : (z : ℤ) → At (byWay l d p (wayOf z)) ≡ goto z p (At (firstStart l)) (λ q. At (nextStart l d q)) (At (lastStart l)) (λ q. At (previousStart l q))
+module _ (l : List ℕ) (rises : Rises l) (h : 0 < length l) (begin : getD l 0 0 ≡ 0) (past : Near)
+    (over : (d : ℕ) → past ≡ At d → (i : ℕ) → i < length l → getD l i 0 ≤ d) (p : ℕ) where
+  goto-is : (z : ℤ) → byWay l past p (wayOf z) ≡ goto z p (At (firstStart l)) (nextStart l past) (At (lastStart l)) (λ q. At (previousStart l q))
   unfolding goto
   goto-is (pos zero) = refl
   goto-is (pos (suc m)) =
-      sym (rw (ahead-is l 0 d h, zero-add) at (endless (nextStart l d) (startAhead l d) (next-on l rises d within) m 0))
+      sym (rw (ahead-is l 0 past h, zero-add) at (endless (nextStart l past) (startAhead l past) (next-on l rises past over) m 0))
   goto-is (negsuc m) =
-      sym (rw (last-is l h, zero-add) at (endless (previousStart l) (startBack l) (previous-on l rises h begin) m 0))
+      sym (rw (last-is l h, zero-add) at (endless (λ q. At (previousStart l q)) (λ k. At (startBack l k)) (λ k. ap (λ (n : ℕ). At n) (previous-on l rises h begin k)) m 0))
 
-module _ (s : List ℕ) (d p n : ℕ) (rising : Rising s d) where
-  leads : (w : Way) → w ≡ wayOf (signedWord n) → At (byWay (segmentStarts s) d p w) ≡ segmentMove (Goto n) s d p
+module _ (s : List ℕ) (past : Near) (p n : ℕ) (rising : Rising s) (over : Past s past) where
+  leads : (w : Way) → w ≡ wayOf (signedWord n) → byWay (segmentStarts s) past p w ≡ segmentMove (Goto n) s past p
   unfolding moveAlong
   leads w e =
-      ap (λ (v : Way). At (byWay (segmentStarts s) d p v)) e
-      ∙ goto-is (segmentStarts s) (whole-rises s d rising) (some s) (from-zero s d rising) d (whole-within s d rising) p (signedWord n)
+      ap (byWay (segmentStarts s) past p) e
+      ∙ goto-is (segmentStarts s) (whole-rises s rising) (some s) (from-zero s rising) past (λ d q. whole-within s d (over d q)) p (signedWord n)
 
-  pub stays : Stay ≡ wayOf (signedWord n) → At p ≡ segmentMove (Goto n) s d p
+  pub stays : Stay ≡ wayOf (signedWord n) → At p ≡ segmentMove (Goto n) s past p
   stays e = leads Stay e
 
-  pub goes-ahead : (m w q : ℕ) → Ahead m ≡ wayOf (signedWord n) → w ≡ m → q ≡ startAhead (segmentStarts s) d w → At q ≡ segmentMove (Goto n) s d p
+  pub goes-ahead : (m w : ℕ) (q : Near) → Ahead m ≡ wayOf (signedWord n) → w ≡ m → q ≡ startAhead (segmentStarts s) past w → q ≡ segmentMove (Goto n) s past p
   goes-ahead m w q e i h = rw (h, i) (leads (Ahead m) e)
 
-  pub goes-back : (m w q : ℕ) → Back m ≡ wayOf (signedWord n) → w ≡ m → q ≡ startBack (segmentStarts s) w → At q ≡ segmentMove (Goto n) s d p
+  pub goes-back : (m w q : ℕ) → Back m ≡ wayOf (signedWord n) → w ≡ m → q ≡ startBack (segmentStarts s) w → At q ≡ segmentMove (Goto n) s past p
   goes-back m w q e i h = rw (h, i) (leads (Back m) e)

@@ -5,10 +5,12 @@ use Prim.Native.Nat.{ℕ, _-_}
 use lib.Dec.{ltb}
 use lib.ListN.{length, getD}
 use Rattle.ground.specs.Cases.{pick}
+use Rattle.player_walk.specs.declared.Near.{Near}
+use Rattle.player_walk.specs.declared.Near.the-variants.{At}
 
--- m steps ahead from the first: past the last stands the end
-unfoldable pub startAhead : List ℕ → ℕ → ℕ → ℕ
-startAhead starts end m = pick (ltb m (length starts)) (getD starts m 0) end
+-- m steps ahead from the first: past the last stands the end, or nothing
+unfoldable pub startAhead : List ℕ → Near → ℕ → Near
+startAhead starts past m = pick (ltb m (length starts)) (At (getD starts m 0)) past
 
 -- m steps back from the last: before the first stands 0
 unfoldable pub startBack : List ℕ → ℕ → ℕ

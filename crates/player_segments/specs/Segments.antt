@@ -1,4 +1,5 @@
--- Segment moves (document 01, "Player rules"; Previous Segment as document 02, W-201, has it): positions, found from the starts of a track's segments.
+-- Segment moves (document 01, "Player rules"; document 02, W-201 and W-202): positions, found from the starts of a track's segments and from `past`, which
+-- stands past the last of them: D, or nothing where a recording is still running.
 -- Assumes nothing.
 use mathlib.Core.Path.{_≡_}
 use mathlib.Core.List.{List, [], _∷_}
@@ -16,14 +17,19 @@ use Rattle.player_walk.specs.declared.Step.the-variants.{Previous, Next, First,
 use Rattle.player_segments.specs.declared.NearPosition.{NearPosition}
 use Rattle.player_segments.specs.declared.NearPosition.the-variants.{Found, None}
 
--- the greatest, and the least, of a list, or z where it is empty
+-- the greatest of a list, or z where it is empty
 abbrev pub greatestOr : ℕ → List ℕ → ℕ
 greatestOr z [] = z
 greatestOr z (x ∷ l) = max x (greatestOr x l)
 
-abbrev pub leastOr : ℕ → List ℕ → ℕ
-leastOr z [] = z
-leastOr z (x ∷ l) = min x (leastOr x l)
+-- the least of x and a list; and of a list, or `past` where it is empty
+abbrev pub least : ℕ → List ℕ → ℕ
+least x [] = x
+least x (y ∷ l) = min x (least y l)
+
+abbrev pub leastOr : Near → List ℕ → Near
+leastOr past [] = past
+leastOr past (x ∷ l) = At (least x l)
 
 -- "A track without segments is one segment from 0."
 unfoldable pub segmentStarts : List ℕ → List ℕ
@@ -49,9 +55,9 @@ previousStart starts position =
     (startBefore starts (ownStart starts position))
     (ownStart starts position)
 
--- "Next: the least start above it, or D."
-unfoldable pub nextStart : List ℕ → ℕ → ℕ → ℕ
-nextStart starts end position = leastOr end (those (λ x. ltb position x) starts)
+-- "Next: the least start above it, or D"; of a running recording nowhere "with no later start"
+unfoldable pub nextStart : List ℕ → Near → ℕ → Near
+nextStart starts past position = leastOr past (those (λ x. ltb position x) starts)
 
 abbrev pub firstStart : List ℕ → ℕ
 firstStart starts = getD starts 0 0
@@ -60,28 +66,33 @@ abbrev pub lastStart : List ℕ → ℕ
 lastStart starts = getD starts (length starts - 1) 0
 
 -- the five moves, over starts of which there is one at least
-unfoldable pub moveAlong : Step → List ℕ → ℕ → ℕ → Near
-moveAlong Previous starts end position = At (previousStart starts position)
-moveAlong Next starts end position = At (nextStart starts end position)
-moveAlong First starts end position = At (firstStart starts)
-moveAlong Last starts end position = At (lastStart starts)
-moveAlong (Goto n) starts end position =
-    goto (signedWord n) position (At (firstStart starts)) (λ p. At (nextStart starts end p)) (At (lastStart starts)) (λ p. At (previousStart starts p))
+unfoldable pub moveAlong : Step → List ℕ → Near → ℕ → Near
+moveAlong Previous starts past position = At (previousStart starts position)
+moveAlong Next starts past position = nextStart starts past position
+moveAlong First starts past position = At (firstStart starts)
+moveAlong Last starts past position = At (lastStart starts)
+moveAlong (Goto n) starts past position =
+    goto (signedWord n) position (At (firstStart starts)) (nextStart starts past) (At (lastStart starts)) (λ p. At (previousStart starts p))
 
 -- of any track
-abbrev pub segmentMove : Step → List ℕ → ℕ → ℕ → Near
-segmentMove step starts end position = moveAlong step (segmentStarts starts) end position
+abbrev pub segmentMove : Step → List ℕ → Near → ℕ → Near
+segmentMove step starts past position = moveAlong step (segmentStarts starts) past position
 
 -- what was found, as a number
 abbrev pub nearPosition : NearPosition → Near
 nearPosition (Found x) = At (x .0)
 nearPosition None = Nothing
 
--- what a right catalogue tells of a track's starts
-pub record Rising (starts : List ℕ) (end : ℕ) : Type 0 where
+-- what a right catalogue tells of a track's starts, and of what stands past them
+pub record Rising (starts : List ℕ) : Type 0 where
   pub begin : getD starts 0 0 ≡ 0
   pub rise : (j i : ℕ) → i < j → j < length starts → getD starts i 0 < getD starts j 0
-  pub below : (i : ℕ) → i < length starts → getD starts i 0 < end
+
+abbrev pub Below : List ℕ → ℕ → Type 0
+Below starts d = (i : ℕ) → i < length starts → getD starts i 0 < d
+
+abbrev pub Past : List ℕ → Near → Type 0
+Past starts past = (d : ℕ) → past ≡ At d → Below starts d
 
 -- r parts the starts into those not above x and those above it
 pub record Cut (starts : List ℕ) (x r : ℕ) : Type 0 where

@@ -1,7 +1,7 @@
 // Moves along the segments of a track.
 ghost use mathlib.Core.Path.{_≡_};
 ghost use Rattle.player_walk.specs.declared.Step.the-variants.{Goto};
-ghost use Rattle.player_segments.specs.Segments.{previousStart, nextStart, segmentStarts, segmentMove, nearPosition, Rising, Cut};
+ghost use Rattle.player_segments.specs.Segments.{previousStart, nextStart, segmentStarts, segmentMove, nearPosition, Rising, Past, Cut};
 ghost use Rattle.player_segments.specs.Closed.{startAhead, startBack};
 
 pub enum NearPosition {
@@ -13,12 +13,8 @@ pub enum NearPosition {
 const PREVIOUS_MARGIN: u32 = 300;
 
 // How many starts are not above x, by halving.
-fn not_above(
-    starts: &[u32],
-    x: catalogue_tables::Position,
-    end: catalogue_tables::Position,
-) -> usize
-    requires { ⌜ Rising (now starts) (end .0) ⌝ }
+fn not_above(starts: &[u32], x: catalogue_tables::Position) -> usize
+    requires { ⌜ Rising (now starts) ⌝ }
     ensures { λ r. ⌜ Cut (now (starts .entry)) (x .0) r ⌝ }
 {
     let mut lo = 0;
@@ -35,15 +31,11 @@ fn not_above(
 }
 
 // The start of the segment before, or of the segment that the position lies in.
-fn previous_start(
-    starts: &[u32],
-    end: catalogue_tables::Position,
-    p: catalogue_tables::Position,
-) -> catalogue_tables::Position
-    requires { ⌜ Rising (now starts) (end .0) ⌝ }
+fn previous_start(starts: &[u32], p: catalogue_tables::Position) -> catalogue_tables::Position
+    requires { ⌜ Rising (now starts) ⌝ }
     ensures { λ r. ⌜ r .0 ≡ previousStart (segmentStarts (now (starts .entry))) (p .0) ⌝ }
 {
-    let k = not_above(starts, p, end);
+    let k = not_above(starts, p);
     // The first segment has none before it, and starts at 0.
     if k < 2 {
         let first = catalogue_tables::Position(0);
@@ -57,39 +49,31 @@ fn previous_start(
     catalogue_tables::Position(own)
 }
 
-// The least start above the position, or the end.
-fn next_start(
-    starts: &[u32],
-    end: catalogue_tables::Position,
-    p: catalogue_tables::Position,
-) -> catalogue_tables::Position
-    requires { ⌜ Rising (now starts) (end .0) ⌝ }
-    ensures { λ r. ⌜ r .0 ≡ nextStart (segmentStarts (now (starts .entry))) (end .0) (p .0) ⌝ }
+// The least start above the position, or what stands past the last.
+fn next_start(starts: &[u32], past: NearPosition, p: catalogue_tables::Position) -> NearPosition
+    requires { ⌜ Rising (now starts) ⌝ }
+    ensures { λ r. ⌜ nearPosition r ≡ nextStart (segmentStarts (now (starts .entry))) (nearPosition past) (p .0) ⌝ }
 {
-    let k = not_above(starts, p, end);
+    let k = not_above(starts, p);
     if starts.len() <= k {
-        return end;
+        return past;
     }
     let x = starts[k];
-    catalogue_tables::Position(x)
+    NearPosition::Found(catalogue_tables::Position(x))
 }
 
-// The start that m steps ahead lead to from the first, or the end.
-fn start_ahead(
-    starts: &[u32],
-    end: catalogue_tables::Position,
-    m: usize,
-) -> catalogue_tables::Position
-    ensures { λ r. ⌜ r .0 ≡ startAhead (segmentStarts (now (starts .entry))) (end .0) m ⌝ }
+// The start that m steps ahead lead to from the first, or what stands past the last.
+fn start_ahead(starts: &[u32], past: NearPosition, m: usize) -> NearPosition
+    ensures { λ r. ⌜ nearPosition r ≡ startAhead (segmentStarts (now (starts .entry))) (nearPosition past) m ⌝ }
 {
     if m < starts.len() {
         let x = starts[m];
-        return catalogue_tables::Position(x);
+        return NearPosition::Found(catalogue_tables::Position(x));
     }
     if m == 0 {
-        return catalogue_tables::Position(0);
+        return NearPosition::Found(catalogue_tables::Position(0));
     }
-    end
+    past
 }
 
 // The start that m steps back lead to from the last, or 0.
@@ -107,20 +91,18 @@ fn start_back(starts: &[u32], m: usize) -> catalogue_tables::Position
 // Where Goto leads from a position.
 fn goto_start(
     starts: &[u32],
-    end: catalogue_tables::Position,
+    past: NearPosition,
     p: catalogue_tables::Position,
     number: u32,
 ) -> NearPosition
-    requires { ⌜ Rising (now starts) (end .0) ⌝ }
-    ensures { λ r. ⌜ nearPosition r ≡ segmentMove (Goto number) (now (starts .entry)) (end .0) (p .0) ⌝ }
+    requires { ⌜ Rising (now starts) ⌝ }
+    requires { ⌜ Past (now starts) (nearPosition past) ⌝ }
+    ensures { λ r. ⌜ nearPosition r ≡ segmentMove (Goto number) (now (starts .entry)) (nearPosition past) (p .0) ⌝ }
 {
     let way = player_walk::way_of(number);
     match way {
         player_walk::Way::Stay => NearPosition::Found(p),
-        player_walk::Way::Ahead(m) => {
-            let x = start_ahead(starts, end, ground::wide_word(m));
-            NearPosition::Found(x)
-        }
+        player_walk::Way::Ahead(m) => start_ahead(starts, past, ground::wide_word(m)),
         player_walk::Way::Back(m) => {
             let x = start_back(starts, ground::wide_word(m));
             NearPosition::Found(x)
@@ -128,25 +110,23 @@ fn goto_start(
     }
 }
 
-// A segment move from a position of a track that has an end.
+// A segment move from a position of a track; `past` stands past its last segment's start.
 pub fn segment_after(
     starts: &[u32],
-    end: catalogue_tables::Position,
+    past: NearPosition,
     position: catalogue_tables::Position,
     step: player_walk::Step,
 ) -> NearPosition
-    requires { ⌜ Rising (now starts) (end .0) ⌝ }
-    ensures { λ r. ⌜ nearPosition r ≡ segmentMove step (now (starts .entry)) (end .0) (position .0) ⌝ }
+    requires { ⌜ Rising (now starts) ⌝ }
+    requires { ⌜ Past (now starts) (nearPosition past) ⌝ }
+    ensures { λ r. ⌜ nearPosition r ≡ segmentMove step (now (starts .entry)) (nearPosition past) (position .0) ⌝ }
 {
     match step {
         player_walk::Step::Previous => {
-            let x = previous_start(starts, end, position);
+            let x = previous_start(starts, position);
             NearPosition::Found(x)
         }
-        player_walk::Step::Next => {
-            let x = next_start(starts, end, position);
-            NearPosition::Found(x)
-        }
+        player_walk::Step::Next => next_start(starts, past, position),
         player_walk::Step::First => {
             let x = catalogue_tables::Position(0);
             NearPosition::Found(x)
@@ -155,6 +135,6 @@ pub fn segment_after(
             let x = start_back(starts, 0);
             NearPosition::Found(x)
         }
-        player_walk::Step::Goto(n) => goto_start(starts, end, position, n),
+        player_walk::Step::Goto(n) => goto_start(starts, past, position, n),
     }
 }

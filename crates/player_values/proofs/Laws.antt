@@ -1,16 +1,19 @@
 -- What each value is, how long, and that its octets tell a word. Assumes nothing.
 use mathlib.Core.Path.{_≡_, refl, ap, sym, _∙_}
 use mathlib.Core.Bool.{Bool, true, false}
+use mathlib.Core.Logic.{⊎-elim}
 use mathlib.Core.List.{List, [], _∷_}
 use Prim.Native.Nat.{ℕ, _/_, _%_, _^_, _≤_, _<_}
 use native.Mathlib.Omega.{arith}
-use borrow.Author.Tests.{ne-eqb}
+use borrow.Author.Tests.{ne-eqb, eqb-true}
 use lib.Dec.{eqb}
 use lib.ListN.{length, getD, length-take}
 use Rattle.ground.specs.Cases.{pick}
+use Rattle.ground.proofs.Cases.{true-or}
+use Rattle.catalogue_tables.specs.Tables.{durationOf, notYetKnown, isRunning}
 use Rattle.player_state.specs.declared.Player.{Player}
 use Rattle.player_state.specs.Player.{nameOf}
-use Rattle.player_values.specs.Values.{Source, source, wordOctets, titleValue, durationValue, positionValue, opcodesValue, valueOf}
+use Rattle.player_values.specs.Values.{Source, source, wordOctets, titleValue, durationRead, durationValue, positionValue, opcodesValue, valueOf}
 
 pub word-long : (w : ℕ) → length (wordOctets w) ≡ 4
 unfolding wordOctets
@@ -37,6 +40,13 @@ word-apart a b h k e =
 
     wider : (x : ℕ) → x / 65536 / 256 ≡ x / 16777216
     wider x = omega arith
+
+-- a duration is read as it is kept: the word that means not yet known is that of −1
+pub read-as-kept : (tracks : List ℕ) (t : ℕ) → durationOf tracks t ≡ durationRead tracks t
+read-as-kept tracks t = ⊎-elim
+    (λ e. rw e (eqb-true (durationOf tracks t) notYetKnown e))
+    (λ e. rw e)
+    (true-or (isRunning tracks t))
 
 -- each characteristic's value: which depend on the player alone, and which are a word, of four octets
 pub record Values (from : Source) (p : Player) : Type 0 where

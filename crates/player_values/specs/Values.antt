@@ -5,7 +5,7 @@ use mathlib.Core.List.{List, [], _∷_}
 use Prim.Native.Nat.{ℕ, _/_, _%_, _^_}
 use lib.Dec.{eqb}
 use Rattle.ground.specs.Cases.{pick}
-use Rattle.catalogue_tables.specs.Tables.{Tables, durationOf, titleOf}
+use Rattle.catalogue_tables.specs.Tables.{Tables, durationOf, isRunning, titleOf}
 use Rattle.player_state.specs.declared.Player.{Player}
 use Rattle.player_state.specs.Player.{isActive, nameOf}
 
@@ -28,11 +28,18 @@ wordOctets w = w % 256 ∷ w / 256 % 256 ∷ w / 65536 % 256 ∷ w / 16777216 % 
 unfoldable pub titleValue : Source → Player → List ℕ
 titleValue from p = pick (isActive p) (titleOf (from .tracks) (from .text) (p .place .track .0)) []
 
+abbrev pub minusOne : ℕ
+minusOne = 0xFFFF_FFFF
+
 abbrev pub orMinusOne : Player → ℕ → ℕ
-orMinusOne p x = pick (isActive p) x 0xFFFF_FFFF
+orMinusOne p x = pick (isActive p) x minusOne
+
+-- of a duration that is not yet known "6 then reads −1" (document 02, W-202)
+abbrev pub durationRead : List ℕ → ℕ → ℕ
+durationRead tracks t = pick (isRunning tracks t) minusOne (durationOf tracks t)
 
 unfoldable pub durationValue : List ℕ → Player → List ℕ
-durationValue tracks p = wordOctets (orMinusOne p (durationOf tracks (p .place .track .0)))
+durationValue tracks p = wordOctets (orMinusOne p (durationRead tracks (p .place .track .0)))
 
 unfoldable pub positionValue : Player → List ℕ
 positionValue p = wordOctets (orMinusOne p (p .place .position .0))

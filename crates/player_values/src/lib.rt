@@ -80,6 +80,7 @@ fn put_title(out: &mut [u8], tracks: &[u32], text: &[u8], p: player_state::Playe
     put(out, title)
 }
 
+// The word of a duration that is not yet known is that of −1 too, so it is handed out as it is kept.
 pub fn duration_word(tracks: &[u32], p: player_state::Player) -> u32
     ensures { λ r. ⌜ wordOctets r ≡ durationValue (now (tracks .entry)) p ⌝ }
 {

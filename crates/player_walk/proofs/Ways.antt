@@ -1,10 +1,13 @@
--- The way that a word says. Assumes nothing.
+-- The way that a word says, and whether its number is below 0. Assumes nothing.
 use mathlib.Core.Path.{_≡_, sym, ap}
+use mathlib.Core.Logic.{⊎-elim}
 use Prim.Native.Nat.{ℕ, suc, _-_, _<_, _≤_}
 use native.Mathlib.Omega.{arith}
-use borrow.Author.Tests.{lt-ltb, le-ltb}
+use borrow.Author.Tests.{lt-ltb, le-ltb, le-leb, lt-leb}
+use lib.Dec.{leb}
 use lib.IntN.{pos}
-use Rattle.player_walk.specs.Signed.{signedWord}
+use Rattle.ground.proofs.Cases.{le-or}
+use Rattle.player_walk.specs.Signed.{signedWord, isNegative}
 use Rattle.player_walk.specs.Places.{wayOf}
 use Rattle.player_walk.specs.declared.Way.the-variants.{Stay, Ahead, Back}
 
@@ -21,3 +24,10 @@ ahead w n h =
 pub back : (w : ℕ) → 0x8000_0000 ≤ w → Back (0xFFFF_FFFF - w) ≡ wayOf (signedWord w)
 unfolding signedWord
 back w h = rw (le-ltb w 0x8000_0000 h)
+
+pub negative : (w : ℕ) → leb 0x8000_0000 w ≡ isNegative (signedWord w)
+unfolding signedWord
+negative w = ⊎-elim
+    (λ h. rw (le-leb 0x8000_0000 w h, le-ltb w 0x8000_0000 h))
+    (λ h. rw (lt-leb 0x8000_0000 w h, lt-ltb w 0x8000_0000 h))
+    (le-or 0x8000_0000 w)

@@ -1,7 +1,7 @@
 // Steps along a list of any kind, on the places of its elements.
 ghost use mathlib.Core.Path.{_≡_};
 ghost use Prim.Native.Nat.{_<_};
-ghost use Rattle.player_walk.specs.Signed.{signedWord};
+ghost use Rattle.player_walk.specs.Signed.{signedWord, isNegative};
 ghost use Rattle.player_walk.specs.Places.{wayOf, wrap, mirror, gotoPlace, placeAfter};
 
 pub enum Near {
@@ -23,6 +23,13 @@ pub enum Way {
     Stay,
     Ahead(u32),
     Back(u32),
+}
+
+// Whether the number of a word is below 0.
+pub fn is_negative(word: u32) -> bool
+    ensures { λ r. ⌜ r ≡ isNegative (signedWord word) ⌝ }
+{
+    0x8000_0000 <= word
 }
 
 pub fn way_of(word: u32) -> Way

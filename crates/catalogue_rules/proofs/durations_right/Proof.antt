@@ -1,18 +1,19 @@
 -- `catalogue_rules::durations_right`: after i turns, the rule of the first i tracks.
 use mathlib.Core.Path.{_≡_, refl}
+use mathlib.Core.Bool.{_||_}
 use Prim.Native.Nat.{_≤_, _-_}
 use lib.Dec.{leb}
 use Rattle.ground.specs.Lists.{allBelow}
 use Rattle.ground.proofs.Bounded.{all-turn, all-end}
 use Rattle.ground.specs.Limits.{mostDuration}
-use Rattle.catalogue_tables.specs.Tables.{durationOf}
+use Rattle.catalogue_tables.specs.Tables.{durationOf, isRunning}
 use Rattle.catalogue_rules.specs.Rules.{durationsRule}
 use borrow.Author.Needs.{needs}
 use Rattle.catalogue_rules.proofs.durations_right.Statement.{statement}
 use Rattle.catalogue_rules.proofs.durations_right.Tie as tie
 
 abbrev Inv-loop : tie.InvT-loop
-Inv-loop tracks n good₀ i₀ good i = (i ≤ n) × (good ≡ allBelow i (λ t. leb (durationOf tracks t) mostDuration))
+Inv-loop tracks n good₀ i₀ good i = (i ≤ n) × (good ≡ allBelow i (λ t. leb (durationOf tracks t) mostDuration || isRunning tracks t))
 
 abbrev μ-loop : tie.MeasureT-loop
 μ-loop tracks n good₀ i₀ good i = n - i

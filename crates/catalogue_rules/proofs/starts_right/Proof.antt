@@ -1,7 +1,6 @@
 -- `catalogue_rules::starts_right`: after i turns, the rule of the first i tracks.
-use mathlib.Core.Path.{_≡_, refl, ap, _∙_}
-use mathlib.Core.List.{List}
-use Prim.Native.Nat.{ℕ, _≤_, _-_}
+use mathlib.Core.Path.{_≡_, refl, _∙_}
+use Prim.Native.Nat.{_≤_, _-_}
 use native.Mathlib.Omega.{arith}
 use Rattle.ground.specs.Lists.{allBelow}
 use Rattle.ground.proofs.Bounded.{all-turn, all-end}
@@ -61,6 +60,9 @@ mul-duration c = search needs
 shared-slice-read-duration : tie.Need-shared-slice-read-duration Inv-loop μ-loop
 shared-slice-read-duration c = search needs
 
+end-by-requires : tie.Need-end-by-requires Inv-loop μ-loop
+end-by-requires c κs = search needs
+
 mul-starts-of-track-right : tie.Need-mul-starts-of-track-right Inv-loop μ-loop
 mul-starts-of-track-right c = search needs
 
@@ -72,7 +74,7 @@ part-starts-of-track-right-start c = search needs
 
 part-starts-of-track-right-end : tie.Need-part-starts-of-track-right-end Inv-loop μ-loop
 part-starts-of-track-right-end c =
-    let l = c .before .before .before .before .before .before in
+    let l = c .before .before .before .before .before .before .before in
     omega (arith, l .before .before .before .pre (l .loop .i) (omega arith))
 
 starts-of-track-right-requires : tie.Need-starts-of-track-right-requires Inv-loop μ-loop
@@ -85,13 +87,14 @@ loop-less : tie.Need-loop-less Inv-loop μ-loop
 loop-less c = search needs
 
 loop-again : tie.Need-loop-again Inv-loop μ-loop
-unfolding startsOf
+unfolding startsOf endOf
 loop-again c =
-    let w = c .before .before .before in
+    let e = c .before .before in
+    let w = e .before .before in
     let l = w .before .before .before .before .before .loop in
     let a = w .before .before .before .before .before .before .before .before .args in
     let part = run-part (a .segments .now) (w .before .before .wide-word .result) (w .wide-word2 .result) (w .before .before .wide-word .ensures .0) (w .wide-word2 .ensures .0) in
-    (search needs, all-turn _ _ _ _ (l .inv .1) (c .starts-of-track-right .ensures ∙ ap (λ (starts : List ℕ). startsRight starts (endOf (a .tracks .now) (l .i))) part))
+    (search needs, all-turn _ _ _ _ (l .inv .1) (c .starts-of-track-right .ensures ∙ (λ k. startsRight (part k) (e .end-by .ensures k))))
 
 returns : tie.Need-returns Inv-loop μ-loop
 unfolding startsRule
@@ -117,6 +120,7 @@ starts-right-spec =
     add-duration
     mul-duration
     shared-slice-read-duration
+    end-by-requires
     mul-starts-of-track-right
     sub-starts-of-track-right
     part-starts-of-track-right-start

@@ -2,7 +2,7 @@
 use mathlib.Core.Path.{ap, _∙_}
 use Rattle.player_state.specs.Player.{atPosition}
 use Rattle.player_moves.specs.Control.{success, acted}
-use Rattle.player_moves.proofs.Ready.{seated, current, current-run, rising-now}
+use Rattle.player_moves.proofs.Ready.{seated, current, current-run, rising-now, below-now}
 use borrow.Author.Needs.{needs}
 use Rattle.player_moves.proofs.act.Statement.{statement}
 use Rattle.player_moves.proofs.act.Tie as tie
@@ -70,7 +70,7 @@ enum-known-action-2 c = search needs
 move-segment-requires : tie.Need-move-segment-requires
 move-segment-requires c κs =
     let s = c .before .before .before .before .before .before in
-    rising-now _ _ _ (s .pre .0) (s .args .p) (s .pre .1 .0) (s .pre .1 .1)
+    (rising-now _ _ _ (s .pre .0) (s .args .p) (s .pre .1 .0) (s .pre .1 .1), below-now _ _ _ (s .pre .0) (s .args .p) (s .pre .1 .0) (s .pre .1 .1))
 
 enum-known-action-3 : tie.Need-enum-known-action-3
 enum-known-action-3 c = search needs

@@ -1,16 +1,18 @@
 -- `player_moves::move_segment`: to the position that was found, or result 4.
 use mathlib.Core.Path.{_≡_, sym, ap, _∙_}
+use Rattle.catalogue_tables.specs.Tables.{startsOf}
 use Rattle.player_walk.specs.declared.Near.{Near}
 use Rattle.player_state.specs.Player.{atPosition}
 use Rattle.player_segments.specs.Segments.{segmentMove, nearPosition}
 use Rattle.player_moves.specs.Moves.{segmentAfter}
 use Rattle.player_moves.specs.Control.{success, onward}
+use Rattle.player_moves.proofs.Past.{past-starts}
 use borrow.Author.Needs.{needs}
 use Rattle.player_moves.proofs.move_segment.Statement.{statement}
 use Rattle.player_moves.proofs.move_segment.Tie as tie
 
-end-requires : tie.Need-end-requires
-end-requires c κs = search needs
+past-last-requires : tie.Need-past-last-requires
+past-last-requires c κs = search needs
 
 starts-requires : tie.Need-starts-requires
 starts-requires c κs = search needs
@@ -18,7 +20,10 @@ starts-requires c κs = search needs
 segment-after-requires : tie.Need-segment-after-requires
 segment-after-requires c κs =
     let start = c .before .before .before .before .before .before in
-    rw (c .starts .ensures, c .before .end .ensures) (start .pre)
+    let tracks = start .args .tracks .now in
+    let t = start .args .p .place .track .0 in
+    rw (c .starts .ensures, c .before .past-last .ensures)
+    (start .pre .0, past-starts tracks t (startsOf tracks (start .args .segments .now) t) (start .pre .1))
 
 enum-known-near : tie.Need-enum-known-near
 enum-known-near c = search needs
@@ -40,7 +45,7 @@ found : (s : tie.After-segment-after) → let a = s .before .before .before .bef
 unfolding segmentAfter
 found s =
     let a = s .before .before .before .before .before .before .before .args in
-    s .segment-after .ensures ∙ (λ k. segmentMove (a .step) (s .before .starts .ensures k) (s .before .before .end .ensures k) (a .p .place .position .0))
+    s .segment-after .ensures ∙ (λ k. segmentMove (a .step) (s .before .starts .ensures k) (s .before .before .past-last .ensures k) (a .p .place .position .0))
 
 returns : tie.Need-returns
 returns c =
@@ -59,7 +64,7 @@ pub move-segment-spec : {M : Type 1} → statement M
 move-segment-spec =
     tie.close
     (tie.spec
-    end-requires
+    past-last-requires
     starts-requires
     segment-after-requires
     enum-known-near

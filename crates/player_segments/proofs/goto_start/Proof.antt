@@ -30,19 +30,21 @@ start-back-requires : tie.Need-start-back-requires
 start-back-requires c κs = search needs
 
 returns : tie.Need-returns
-returns c = stays _ _ _ _ (c .before .before .before .before .pre) (sym (c .enum-told .given .1) ∙ c .before .before .way-of .ensures)
+returns c =
+    let start = c .before .before .before .before in
+    stays _ _ _ _ (start .pre .0) (start .pre .1) (sym (c .enum-told .given .1) ∙ c .before .before .way-of .ensures)
 
 returns-2 : tie.Need-returns-2
 returns-2 c =
     let w = c .before .before .before in
     let start = w .before .before .before .before in
-    goes-ahead _ (start .args .end .0) (start .args .p .0) _ (start .pre) _ _ _ (sym (w .way .given .1) ∙ w .before .before .way-of .ensures) (c .before .wide-word .ensures .0) (c .start-ahead .ensures)
+    goes-ahead _ _ (start .args .p .0) _ (start .pre .0) (start .pre .1) _ _ _ (sym (w .way .given .1) ∙ w .before .before .way-of .ensures) (c .before .wide-word .ensures .0) (c .start-ahead .ensures)
 
 returns-3 : tie.Need-returns-3
 returns-3 c =
     let w = c .before .before .before in
     let start = w .before .before .before .before in
-    goes-back _ _ _ _ (start .pre) _ _ _ (sym (w .way2 .given .1) ∙ w .before .before .way-of .ensures) (c .before .wide-word2 .ensures .0) (c .start-back .ensures)
+    goes-back _ _ _ _ (start .pre .0) (start .pre .1) _ _ _ (sym (w .way2 .given .1) ∙ w .before .before .way-of .ensures) (c .before .wide-word2 .ensures .0) (c .start-back .ensures)
 
 pub goto-start-spec : {M : Type 1} → statement M
 goto-start-spec =

@@ -1,6 +1,5 @@
 -- `player_segments::next_start`: the start at the cut at the position.
 use mathlib.Core.Path.{_∙_}
-use native.Mathlib.Omega.{arith}
 use borrow.Author.Needs.{needs}
 use Rattle.player_segments.proofs.Cuts.{next-past, next-here}
 use Rattle.player_segments.proofs.Whole.{next-same}
@@ -22,8 +21,7 @@ shared-slice-read-x c = search needs
 returns-2 : tie.Need-returns-2
 returns-2 c =
     let n = c .before .before in
-    let start = n .before .before in
-    next-here _ (start .pre .rise) _ _ _ (n .not-above .ensures) (c .before .if1 .left) (omega (arith, start .pre .below (n .not-above .result) (c .before .if1 .left))) ∙ next-same _ _ _
+    next-here _ (n .before .before .pre .rise) _ _ _ (n .not-above .ensures) (c .before .if1 .left) ∙ next-same _ _ _
 
 pub next-start-spec : {M : Type 1} → statement M
 next-start-spec =

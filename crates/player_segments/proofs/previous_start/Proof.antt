@@ -11,7 +11,7 @@ not-above-requires : tie.Need-not-above-requires
 not-above-requires c κs = search needs
 
 returns : tie.Need-returns
-returns c = previous-in-first _ _ _ _ (c .before .before .before .pre) (c .before .not-above .ensures) (c .if1 .taken)
+returns c = previous-in-first _ _ _ (c .before .before .before .pre) (c .before .not-above .ensures) (c .if1 .taken)
 
 sub-own : tie.Need-sub-own
 sub-own c = search needs

@@ -42,11 +42,11 @@ returns c = rw (c .before .enum-told .given .1) (ap (λ (n : ℕ). At n) (c .pre
 
 returns-2 : tie.Need-returns-2
 unfolding moveAlong
-returns-2 c = rw (c .before .enum-told2 .given .1) (ap (λ (n : ℕ). At n) (c .next-start .ensures))
+returns-2 c = rw (c .before .enum-told2 .given .1) (c .next-start .ensures)
 
 returns-3 : tie.Need-returns-3
 unfolding moveAlong
-returns-3 c = rw (c .enum-told3 .given .1) (ap (λ (n : ℕ). At n) (sym (from-zero _ _ (c .before .before .before .pre))))
+returns-3 c = rw (c .enum-told3 .given .1) (ap (λ (n : ℕ). At n) (sym (from-zero _ (c .before .before .before .pre .0))))
 
 returns-4 : tie.Need-returns-4
 unfolding moveAlong
