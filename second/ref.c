@@ -1,6 +1,6 @@
-/* The desk player core, written along document 01 and the requests of document 02 that have landed: W-201, and W-212 for
- * the cue sheet. A comment in quotation marks is a sentence of document 01; where a request is named, and in the cue
- * sheet's part, it is one of document 02. */
+/* The desk player core, written along document 01 and the requests of document 02 that have landed: W-201, W-202, and
+ * W-212 for the cue sheet. A comment in quotation marks is a sentence of document 01; where a request is named, and in
+ * the cue sheet's part, it is one of document 02. */
 #include "ref.h"
 
 #include <string.h>
@@ -78,12 +78,24 @@ static uint32_t group_first(const catalogue *c, uint32_t g) { return c->groups[3
 static uint32_t group_tracks(const catalogue *c, uint32_t g) { return c->groups[3u * g + 2u]; }
 
 /* "track = duration, age stamp, first segment, segment count, title offset, title length" */
-static uint32_t track_duration(const catalogue *c, uint32_t t) { return c->tracks[6u * t]; }
+static uint32_t track_duration_word(const catalogue *c, uint32_t t) { return c->tracks[6u * t]; }
 static uint32_t track_stamp(const catalogue *c, uint32_t t) { return c->tracks[6u * t + 1u]; }
 static uint32_t track_first(const catalogue *c, uint32_t t) { return c->tracks[6u * t + 2u]; }
 static uint32_t track_segments(const catalogue *c, uint32_t t) { return c->tracks[6u * t + 3u]; }
 static uint32_t track_title(const catalogue *c, uint32_t t) { return c->tracks[6u * t + 4u]; }
 static uint32_t track_title_len(const catalogue *c, uint32_t t) { return c->tracks[6u * t + 5u]; }
+
+#define LONGEST_DURATION 8640000u
+
+/* Request W-202: "Duration word 0xFFFFFFFF means not yet known" */
+static int is_running(const catalogue *c, uint32_t t) { return track_duration_word(c, t) == 0xFFFFFFFFu; }
+
+/* "the duration, D"; request W-202, of a running recording: "The position is 0 to 8,640,000 and every hold to D is to
+ * 8,640,000, and what is owed reads D so too; starts lie below that." */
+static uint32_t track_d(const catalogue *c, uint32_t t)
+{
+    return is_running(c, t) ? LONGEST_DURATION : track_duration_word(c, t);
+}
 
 /* "UTF-8 is RFC 3629": each character is decoded; overlong forms, surrogates and what lies above 10FFFF are none. */
 static int is_utf8(const uint8_t *s, size_t len)
@@ -166,8 +178,8 @@ static int catalogue_stands(const catalogue *c)
     }
 
     for (t = 0; t < c->track_count; t++) {
-        /* "Duration is 0 to 8,640,000 hundredths of a second." */
-        if (track_duration(c, t) > 8640000u) {
+        /* "Duration is 0 to 8,640,000 hundredths of a second.", or not yet known. */
+        if (track_d(c, t) > LONGEST_DURATION) {
             return 0;
         }
         /* "Segment starts begin at 0, rise strictly and lie below the duration." */
@@ -176,7 +188,7 @@ static int catalogue_stands(const catalogue *c)
             if (k == 0 ? at != 0 : at <= c->segments[track_first(c, t) + k - 1u]) {
                 return 0;
             }
-            if (at >= track_duration(c, t)) {
+            if (at >= track_d(c, t)) {
                 return 0;
             }
         }
@@ -599,11 +611,23 @@ static uint32_t previous_start(const uint32_t *starts, uint32_t count, uint32_t 
     return position - starts[own] < PREVIOUS_MARGIN && own > 0 ? starts[own - 1u] : starts[own];
 }
 
-static void segment_move(const catalogue *c, ref_state *s, int move, int64_t n)
+/* Next where no start is later: "or D". Request W-202, of a running recording: "Next Segment with no later start, and a
+ * Goto that needs it, give result 4." Whether the move can be made. */
+static int next_without_later_start(const catalogue *c, ref_state *s)
+{
+    if (is_running(c, s->track)) {
+        return 0;
+    }
+    s->position = track_d(c, s->track);
+    return 1;
+}
+
+/* Whether the move can be made; where it cannot, nothing moves. */
+static int segment_move(const catalogue *c, ref_state *s, int move, int64_t n)
 {
     static const uint32_t WHOLE[1] = {0};
     const uint32_t *starts;
-    uint32_t count = track_segments(c, s->track), duration = track_duration(c, s->track), k;
+    uint32_t count = track_segments(c, s->track), k;
     uint64_t steps;
 
     /* "A track without segments is one segment from 0." */
@@ -616,42 +640,44 @@ static void segment_move(const catalogue *c, ref_state *s, int move, int64_t n)
     switch (move) {
     case PREVIOUS:
         s->position = previous_start(starts, count, s->position);
-        return;
-    case NEXT: {
+        return 1;
+    case NEXT:
         /* "Next: the least start above it, or D." */
-        uint32_t to = duration;
-        for (k = count; k > 0; k--) {
-            if (starts[k - 1u] > s->position) {
-                to = starts[k - 1u];
+        for (k = 0; k < count; k++) {
+            if (starts[k] > s->position) {
+                s->position = starts[k];
+                return 1;
             }
         }
-        s->position = to;
-        return;
-    }
+        return next_without_later_start(c, s);
     case FIRST:
         s->position = starts[0];
-        return;
+        return 1;
     case LAST:
         s->position = starts[count - 1u];
-        return;
+        return 1;
     default:
         break;
     }
     /* "Goto n > 0: First, then Next n − 1 times; n < 0: Last, then Previous |n| − 1 times; 0: nothing moves." From a
-     * start Next leads to the following one, from the last to D, and from D it stays there. Previous is made step by
-     * step, until it is at 0 and stays there. */
+     * start Next leads to the following one, from the last, where it can be made, to D, and from D it stays there.
+     * Previous is made step by step, until it is at 0 and stays there. */
     if (n == 0) {
-        return;
+        return 1;
     }
     steps = (uint64_t)(n > 0 ? n : -n) - 1u;
     if (n > 0) {
-        s->position = steps < count ? starts[steps] : duration;
+        if (steps >= count) {
+            return next_without_later_start(c, s);
+        }
+        s->position = starts[steps];
     } else {
         s->position = starts[count - 1u];
         for (; steps > 0 && s->position > 0; steps--) {
             s->position = previous_start(starts, count, s->position);
         }
     }
+    return 1;
 }
 
 /* "Seeking speed rungs: −32, −16, −8, −4, 4, 8, 16, 32." */
@@ -715,7 +741,7 @@ static int carries_number(uint8_t opcode)
 static uint8_t control(const catalogue *c, ref_state *s, uint8_t opcode, int64_t n)
 {
     uint32_t bit = mask_bit(opcode);
-    int made = 1;
+    int made;
 
     /* "Higher mask bits count as 0." */
     if (bit == 32u || ((s->mask & ALL_OPCODES) >> bit & 1u) == 0) {
@@ -744,14 +770,16 @@ static uint8_t control(const catalogue *c, ref_state *s, uint8_t opcode, int64_t
         break;
     case 0x10:
         /* "Move Relative: the sum, held to 0..D." "Segment moves and Move Relative keep the state." */
-        s->position = held((int64_t)s->position + n, track_duration(c, s->track));
+        s->position = held((int64_t)s->position + n, track_d(c, s->track));
         break;
     case 0x20:
     case 0x21:
     case 0x22:
     case 0x23:
     case 0x24:
-        segment_move(c, s, opcode - 0x20, n);
+        if (!segment_move(c, s, opcode - 0x20, n)) {
+            return 4;
+        }
         break;
     default:
         made = opcode < 0x40 ? track_move(c, s, opcode - 0x30, n) : group_move(c, s, opcode - 0x40, n);
@@ -768,15 +796,15 @@ static uint8_t control(const catalogue *c, ref_state *s, uint8_t opcode, int64_t
 }
 
 /* "Position write: v ≥ 0 gives the lesser of v and D; v < 0 gives D + v, not below 0. While Inactive the write is taken
- * and alters nothing." */
+ * and alters nothing." Request W-202, of a running recording: "A negative position write is taken and moves nothing." */
 static void write_position(const catalogue *c, ref_state *s, int64_t v)
 {
-    uint32_t duration;
-    if (s->media == REF_INACTIVE) {
+    uint32_t d;
+    if (s->media == REF_INACTIVE || (v < 0 && is_running(c, s->track))) {
         return;
     }
-    duration = track_duration(c, s->track);
-    s->position = held(v >= 0 ? v : (int64_t)duration + v, duration);
+    d = track_d(c, s->track);
+    s->position = held(v >= 0 ? v : (int64_t)d + v, d);
 }
 
 /* ---- Values */
@@ -808,7 +836,8 @@ static uint32_t value_of(const catalogue *c, const ref_state *s, uint32_t charac
         memcpy(out, c->text + track_title(c, s->track), track_title_len(c, s->track));
         return track_title_len(c, s->track);
     case C_DURATION:
-        return put_32(out, inactive ? 0xFFFFFFFFu : track_duration(c, s->track));
+        /* Request W-202: "6 then reads −1", which is the word itself. */
+        return put_32(out, inactive ? 0xFFFFFFFFu : track_duration_word(c, s->track));
     case C_POSITION:
         return put_32(out, inactive ? 0xFFFFFFFFu : s->position);
     case C_SPEED:
@@ -903,7 +932,7 @@ static int player_stands(const catalogue *c, const ref_state *s)
         return 0;
     }
     /* "Otherwise the position is 0 to the duration, D." */
-    return s->position <= track_duration(c, s->track);
+    return s->position <= track_d(c, s->track);
 }
 
 static int record_stands(const ref_client *r)
@@ -1126,20 +1155,22 @@ uint32_t ref_advance(REF_CATALOGUE, ref_state *state, uint32_t d)
     }
     before = *state;
     if (state->media == REF_PLAYING) {
-        /* "Playing adds d; at D or beyond, the next track at 0, or, where none, Paused at D. One move per call." */
+        /* "Playing adds d; at D or beyond, the next track at 0, or, where none, Paused at D. One move per call." Request
+         * W-202, of a running recording: "Advance never ends such a track; at 8,640,000 it stays there in its state." */
         uint64_t to = (uint64_t)state->position + d;
-        uint32_t duration = track_duration(&c, state->track);
-        if (to < duration) {
+        uint32_t end = track_d(&c, state->track);
+        if (to < end) {
             state->position = (uint32_t)to;
             quiet = 1;
+        } else if (is_running(&c, state->track)) {
+            state->position = end;
         } else if (!track_move(&c, state, NEXT, 0)) {
             set_media(state, REF_PAUSED);
-            state->position = duration;
+            state->position = end;
         }
     } else if (state->media == REF_SEEKING) {
         /* "Seeking adds d times the seeking speed, held to 0..D." */
-        state->position =
-            held((int64_t)state->position + (int64_t)d * state->seeking, track_duration(&c, state->track));
+        state->position = held((int64_t)state->position + (int64_t)d * state->seeking, track_d(&c, state->track));
     }
     make_owed(&c, &before, state, NO_CLIENT, quiet);
     return 0;
