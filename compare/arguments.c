@@ -109,7 +109,7 @@ uint32_t reach(const run *r, uint8_t opcode)
     case 0x44:
         return group_count(&r->lent);
     default:
-        return track_word(&r->lent, r->second.track, DURATION);
+        return end_of_track(track_word(&r->lent, r->second.track, DURATION));
     }
 }
 
@@ -131,7 +131,7 @@ uint32_t value_length(const run *r, uint32_t characteristic)
 
 uint32_t some_time(dice *d, const run *r)
 {
-    uint32_t left = has_track(r) ? track_word(&r->lent, r->second.track, DURATION) - r->second.position : 100;
+    uint32_t left = has_track(r) ? end_of_track(track_word(&r->lent, r->second.track, DURATION)) - r->second.position : 100;
     switch (below(d, 8)) {
     case 0:
         return ONE_OF(d, 0, 1, 0x7FFFFFFFu, 0x80000000u, 0xFFFFFFFFu, 0x08000000u);

@@ -87,13 +87,14 @@ static void draw_groups(dice *d, tables *t, const shape *s)
 
 static uint32_t random_duration(dice *d, uint32_t starts)
 {
-    uint32_t duration = one_in(d, 6)   ? ONE_OF(d, 0, 1, 2, MOST_DURATION, MOST_DURATION - 1u)
-                        : one_in(d, 3) ? below(d, MOST_DURATION + 1u)
+    uint32_t duration = one_in(d, 8)   ? MCS_RUNNING
+                        : one_in(d, 6) ? ONE_OF(d, 0, 1, 2, MCS_MOST_DURATION, MCS_MOST_DURATION - 1u)
+                        : one_in(d, 3) ? below(d, MCS_MOST_DURATION + 1u)
                                        : between(d, 1, 400);
     return duration < starts ? starts + below(d, 3) : duration;
 }
 
-/* "Segment starts begin at 0, rise strictly and lie below the duration." */
+/* "Segment starts begin at 0, rise strictly and lie below the duration." One in a few ends right below it. */
 static void draw_starts(dice *d, uint32_t *starts, uint32_t count, uint32_t duration)
 {
     uint32_t at = 0, slack = duration - count;
@@ -102,6 +103,9 @@ static void draw_starts(dice *d, uint32_t *starts, uint32_t count, uint32_t dura
         starts[k] = at;
         slack -= more;
         at += 1u + more;
+    }
+    if (count > 1 && one_in(d, 8)) {
+        starts[count - 1u] = duration - 1u;
     }
 }
 
@@ -121,7 +125,7 @@ static void draw_tracks(dice *d, tables *t, const shape *s)
         record[STAMP] = one_in(d, 6) ? ONE_OF(d, 0, 0x7FFFFFFFu, 0x80000000u, 0xFFFFFFFFu) : below(d, few_stamps);
         record[FIRST_SEGMENT] = first;
         record[SEGMENT_COUNT] = count;
-        draw_starts(d, t->segments + first, count, record[DURATION]);
+        draw_starts(d, t->segments + first, count, end_of_track(record[DURATION]));
         first += count;
     }
     t->length[SEGMENTS] = first;

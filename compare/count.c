@@ -10,6 +10,7 @@
 #define LEAST_TRUTHS 500u
 enum { CONNECTED, ENCRYPTED, ENCRYPTED_UNCONNECTED, TRUTHS };
 enum { IN_FIRST, AT_ITS_START, WITHIN_MARGIN, LAST_WITHIN, AT_MARGIN, BEYOND_MARGIN, PREVIOUS_FROM };
+enum { REACHES_END, STAYS_AT_END, SEEKS_AT_END, NEGATIVE_WRITE, RUNNING_CASES };
 enum { NO_STARTS, NO_ROOM_LEFT, LONGEST, ONE_TOO_LONG, BOUNDS };
 
 static unsigned long calls, by_share[SHARES], by_number[CALLS][NUMBERS], by_twice[CALLS][2], unchanged[CALLS],
@@ -18,7 +19,7 @@ static unsigned long by_media[4], by_order[9], by_rung[256], by_result[OPCODES +
 static unsigned long taken[CHARACTERISTIC_BOUND], read_whole[CHARACTERISTIC_BOUND], read_on[CHARACTERISTIC_BOUND],
     written[CHARACTERISTIC_BOUND];
 static unsigned long by_truth[TRUTHS][REF_CLIENTS], by_truth_value[NUMBERS], by_mended[CALLS][NUMBERS];
-static unsigned long by_next[3][4], by_bound[BOUNDS], by_previous[PREVIOUS_FROM];
+static unsigned long by_next[3][4], by_bound[BOUNDS], by_previous[PREVIOUS_FROM], by_running[RUNNING_CASES];
 
 static uint32_t counted_as(uint32_t number) { return number < NUMBERS ? number : NUMBERS - 1u; }
 
@@ -40,6 +41,21 @@ static void count_previous(const run *r)
                 : past < 300u ? LAST_WITHIN
                 : past == 300 ? AT_MARGIN
                               : BEYOND_MARGIN]++;
+}
+
+/* What only a running recording does (document 02, W-202). */
+static void count_running(const run *r, const step *s)
+{
+    const ref_state *now = &r->second;
+    int at_end = now->position == MCS_MOST_DURATION, was_at_end = r->position_before == MCS_MOST_DURATION;
+    if (now->media == REF_INACTIVE || track_word(&r->lent, now->track, DURATION) != MCS_RUNNING) {
+        return;
+    }
+    if (s->kind == ADVANCE && now->media == REF_PLAYING && at_end) {
+        by_running[was_at_end ? STAYS_AT_END : REACHES_END]++;
+    }
+    by_running[SEEKS_AT_END] += s->kind == ADVANCE && now->media == REF_SEEKING && at_end;
+    by_running[NEGATIVE_WRITE] += s->kind == WRITE && s->what == MCS_POSITION && s->octets[3] > 0x7F;
 }
 
 /* The code is seen where the writer is subscribed to the results: it is the last of those that wait. */
@@ -72,6 +88,7 @@ static void count_accepted(const run *r, const step *s)
     if (s->kind == WRITE && s->what == MCS_CONTROL_POINT) {
         count_result(r, s);
     }
+    count_running(r, s);
     if (has_state(s->kind)) {
         by_media[r->second.media & 3u]++;
         by_order[r->second.order % 9u]++;
@@ -260,14 +277,15 @@ static void tell_numbers(uint32_t kind, const unsigned long counts[NUMBERS])
     }
 }
 
-/* An unknown opcode gives 2 alone. Only a neighbour and a Goto, of tracks and of groups, can be missing. */
+/* An unknown opcode gives 2 alone. Only a neighbour and a Goto, of tracks and of groups, can be missing, and of segments a later one,
+ * where a recording is still running (document 02, W-202). */
 static int result_can_be(uint32_t place, uint32_t result)
 {
     uint8_t opcode = place < OPCODES ? OPCODE[place] : 0;
     if (opcode == 0 || result == 0) {
         return result == MCS_RESULT_NOT_SUPPORTED;
     }
-    return result != MCS_RESULT_NOT_COMPLETED ||
+    return result != MCS_RESULT_NOT_COMPLETED || opcode == MCS_OPCODE_NEXT_SEGMENT || opcode == MCS_OPCODE_GOTO_SEGMENT ||
            (opcode >= MCS_OPCODE_PREVIOUS_TRACK && (opcode & 15) != 2 && (opcode & 15) != 3);
 }
 
@@ -294,6 +312,12 @@ static void tell_player(void)
         static const char *const FROM[PREVIOUS_FROM] = {"in the first segment", "at a start", "1 to 298 past", "299 past",
                                                         "300 past", "further past"};
         tell(by_previous[k], 1, "%s", FROM[k]);
+    }
+    row("running recordings");
+    for (uint32_t k = 0; k < RUNNING_CASES; k++) {
+        static const char *const WHAT[RUNNING_CASES] = {"advance to the end", "advance at the end", "Seeking at the end",
+                                                        "negative position write"};
+        tell(by_running[k], 1, "%s", WHAT[k]);
     }
     row("after accepted calls");
     for (uint32_t k = 0; k < 4; k++) {

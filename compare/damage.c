@@ -20,7 +20,7 @@ static void damage_player(dice *d, const run *r, step *s)
     const ref_state *now = &r->second;
     uint32_t groups = group_count(&r->lent), duration = 0, first = 0, count = 0;
     if (now->track < track_count(&r->lent)) {
-        duration = track_word(&r->lent, now->track, DURATION);
+        duration = end_of_track(track_word(&r->lent, now->track, DURATION));
     }
     if (now->group < groups) {
         first = group_word(&r->lent, now->group, FIRST_TRACK);
@@ -174,7 +174,8 @@ static void damage_track(dice *d, const run *r, step *s)
     s->number = MCS_TRACK_WORDS * track + word;
     switch (word) {
     case DURATION:
-        s->what = ONE_OF(d, 0, last, last + 1u, last - 1u, MOST_DURATION, MOST_DURATION + 1u, 0x80000000u, 0xFFFFFFFFu);
+        s->what = ONE_OF(d, 0, last, last + 1u, last - 1u, MCS_MOST_DURATION, MCS_MOST_DURATION + 1u, 0x80000000u,
+                         MCS_RUNNING - 1u, MCS_RUNNING);
         break;
     case STAMP:
         s->what = any_word(d);

@@ -26,7 +26,7 @@ static void full_catalogue(tables *t, uint32_t groups, uint32_t tracks, uint32_t
     }
     for (uint32_t k = 0; k < tracks; k++) {
         uint32_t *record = t->tracks + MCS_TRACK_WORDS * k;
-        record[DURATION] = MOST_DURATION;
+        record[DURATION] = MCS_MOST_DURATION;
         record[FIRST_SEGMENT] = k == 0 ? 0 : segments;
         record[SEGMENT_COUNT] = k == 0 ? segments : 0;
         record[TITLE] = k == 0 ? text - 128u : text;
@@ -79,8 +79,17 @@ static void limit_cases(void)
         loads(CASES[k].what, &t, CASES[k].of_card);
     }
     full_catalogue(&t, 64, 256, 1024, 32768);
-    t.tracks[DURATION] = MOST_DURATION + 1u;
+    t.tracks[DURATION] = MCS_MOST_DURATION + 1u;
     starts("a duration too long", &t, MCS_BAD_CATALOGUE);
+    /* Document 02, W-202: "Duration word 0xFFFFFFFF means not yet known", "starts lie below that", 8,640,000 */
+    t.tracks[DURATION] = MCS_RUNNING - 1u;
+    starts("a duration of 0xFFFFFFFE", &t, MCS_BAD_CATALOGUE);
+    t.tracks[DURATION] = MCS_RUNNING;
+    starts("a running recording", &t, 0);
+    t.segments[1023] = MCS_MOST_DURATION - 1u;
+    starts("a start right below the end of a running recording", &t, 0);
+    t.segments[1023] = MCS_MOST_DURATION;
+    starts("a start at the end of a running recording", &t, MCS_BAD_CATALOGUE);
     full_catalogue(&t, 64, 256, 1024, 32768);
     t.tracks[TITLE] -= 1;
     t.tracks[TITLE_LENGTH] = 129;

@@ -10,7 +10,7 @@
 #include <string.h>
 
 enum { NOTE = 0, FIRST_CALL = 1, LAST_CALL = 12, DAMAGE = 13 };
-enum { SAMPLE, LONG_TITLES, OWN_PARENT, CUT_GROUPS, CLOSE_SEGMENTS, CATALOGUES };
+enum { SAMPLE, LONG_TITLES, OWN_PARENT, CUT_GROUPS, CLOSE_SEGMENTS, RUNNING, CATALOGUES };
 
 #define GESPRAECH                                                                                                          \
     "Gespr\xC3\xA4"                                                                                                        \
@@ -24,7 +24,8 @@ static void make_catalogues(void)
 {
     static const char LONG_TEXT[] = GESPRAECH GESPRAECH;
     static const uint32_t CLOSE_STARTS[4] = {0, 200, 450, 5800};
-    tables *titled = &catalogue[LONG_TITLES], *close = &catalogue[CLOSE_SEGMENTS];
+    static const uint32_t RUNNING_STARTS[3] = {0, 1500, 8639999};
+    tables *titled = &catalogue[LONG_TITLES], *close = &catalogue[CLOSE_SEGMENTS], *running = &catalogue[RUNNING];
     for (uint32_t k = 0; k < CATALOGUES; k++) {
         sample_catalogue(&catalogue[k]);
     }
@@ -42,6 +43,15 @@ static void make_catalogues(void)
     close->length[SEGMENTS] = close->tracks[SEGMENT_COUNT] = 4;
     for (uint32_t k = 1; k < 4; k++) {
         close->tracks[MCS_TRACK_WORDS * k + FIRST_SEGMENT] = 4;
+    }
+    /* All tracks but the first are still running, and the first of those has segments. */
+    memcpy(running->segments + 3, RUNNING_STARTS, sizeof RUNNING_STARTS);
+    running->length[SEGMENTS] = 6;
+    for (uint32_t k = 1; k < 4; k++) {
+        uint32_t *record = running->tracks + MCS_TRACK_WORDS * k;
+        record[DURATION] = MCS_RUNNING;
+        record[FIRST_SEGMENT] = k == 1 ? 3 : 6;
+        record[SEGMENT_COUNT] = k == 1 ? 3 : 0;
     }
 }
 

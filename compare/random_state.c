@@ -25,7 +25,7 @@ uint32_t random_mtu(dice *d)
 /* At the ends; at or beside a start, or as far past one as the margin of Previous Segment is; or anywhere. */
 uint32_t random_position(dice *d, const tables *t, uint32_t track)
 {
-    uint32_t duration = track_word(t, track, DURATION), starts = track_word(t, track, SEGMENT_COUNT);
+    uint32_t duration = end_of_track(track_word(t, track, DURATION)), starts = track_word(t, track, SEGMENT_COUNT);
     uint32_t start = (track_word(t, track, FIRST_SEGMENT) + below(d, starts)) % SEGMENTS_ROOM, at;
     switch (below(d, 4)) {
     case 0:

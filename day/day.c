@@ -34,7 +34,7 @@ static void morning(uint32_t group)
     print_heading("The typist at the left pedal begins");
     press(LEFT_PEDAL, MCS_OPCODE_PLAY);
     tell_all();
-    let_pass(track_duration() / 3u);
+    let_pass(track_end() / 3u);
     tell_all();
     press(LEFT_PEDAL, MCS_OPCODE_PREVIOUS_SEGMENT);
     tell_all();
@@ -48,7 +48,7 @@ static void morning(uint32_t group)
     press(LEFT_PEDAL, MCS_OPCODE_FAST_FORWARD);
     press(LEFT_PEDAL, MCS_OPCODE_FAST_FORWARD);
     tell_all();
-    let_pass(track_duration() / 16u);
+    let_pass(track_end() / 16u);
     press(LEFT_PEDAL, MCS_OPCODE_PAUSE);
     tell_all();
 }
@@ -141,7 +141,7 @@ static void afternoon(void)
     print_heading("The tape runs to the end of its track");
     press(RIGHT_PEDAL, MCS_OPCODE_PLAY);
     tell_all();
-    let_pass(track_duration());
+    let_pass(track_end());
     tell_all();
 }
 

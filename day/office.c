@@ -21,7 +21,7 @@ static int is_active(void) { return desk.state[MCS_AT_MEDIA_STATE] != MCS_INACTI
 static uint32_t current_track(void) { return word_at(desk.state + MCS_AT_TRACK); }
 static const uint32_t *track_record(void) { return desk.catalogue.tracks + (size_t)MCS_TRACK_WORDS * current_track(); }
 
-uint32_t track_duration(void) { return is_active() ? track_record()[DURATION] : 0; }
+uint32_t track_end(void) { return is_active() ? end_of_track(track_record()[DURATION]) : 0; }
 
 static const uint8_t *client_at(uint32_t who) { return desk.state + MCS_AT_CLIENT(who); }
 static uint32_t waiting_of(uint32_t who) { return word_at(client_at(who) + MCS_IN_WAITING); }
@@ -44,9 +44,13 @@ static void show_desk(void)
     if (is_active()) {
         printf("group %u  track %u  ", word_at(desk.state + MCS_AT_GROUP), current_track());
         print_time(word_at(desk.state + MCS_AT_POSITION));
-        printf(" of ");
-        print_time(track_duration());
-        printf("  ");
+        if (track_record()[DURATION] == MCS_RUNNING) {
+            printf(", still recording  ");
+        } else {
+            printf(" of ");
+            print_time(track_end());
+            printf("  ");
+        }
     }
     printf("%s  speed ", mcs_playing_order_words(desk.state[MCS_AT_ORDER]));
     print_value(MCS_PLAYBACK_SPEED, desk.state + MCS_AT_SPEED, 1);

@@ -14,7 +14,7 @@ void introduce(void);
 void open_group(uint32_t group);
 void close_group(void);
 void let_pass(uint32_t hundredths);
-uint32_t track_duration(void);
+uint32_t track_end(void); /* 0 where there is no track */
 
 /* What the devices do. */
 void join(uint32_t who);

@@ -84,9 +84,9 @@ void print_value(uint32_t characteristic, const uint8_t *octets, size_t len)
         return;
     case MCS_DURATION:
     case MCS_POSITION:
-        /* -1: there is no track. */
+        /* -1: there is no track, or its duration is not yet known. */
         if (word_at(octets) == 0xFFFFFFFFu) {
-            printf("none");
+            printf(characteristic == MCS_DURATION ? "none, or not yet known" : "none");
         } else {
             print_time(word_at(octets));
         }

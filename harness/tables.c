@@ -71,6 +71,8 @@ uint32_t track_count(const tables *t) { return t->length[TRACKS] / MCS_TRACK_WOR
 uint32_t group_word(const tables *t, uint32_t group, uint32_t word) { return t->groups[MCS_GROUP_WORDS * group + word]; }
 uint32_t track_word(const tables *t, uint32_t track, uint32_t word) { return t->tracks[MCS_TRACK_WORDS * track + word]; }
 
+uint32_t end_of_track(uint32_t duration) { return duration == MCS_RUNNING ? MCS_MOST_DURATION : duration; }
+
 void tables_of_lines(const catalogue_lines *lines, tables *t)
 {
     uint32_t first_track = 0;

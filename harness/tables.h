@@ -14,7 +14,6 @@ enum { GROUPS, TRACKS, SEGMENTS, TEXT, TABLES };
 /* Words of a record. */
 enum { PARENT, FIRST_TRACK, TRACK_COUNT };
 enum { DURATION, STAMP, FIRST_SEGMENT, SEGMENT_COUNT, TITLE, TITLE_LENGTH };
-#define MOST_DURATION 8640000u
 
 typedef struct {
     uint32_t groups[GROUPS_ROOM], tracks[TRACKS_ROOM], segments[SEGMENTS_ROOM];
@@ -41,6 +40,9 @@ uint32_t group_count(const tables *t);
 uint32_t track_count(const tables *t);
 uint32_t group_word(const tables *t, uint32_t group, uint32_t word);
 uint32_t track_word(const tables *t, uint32_t track, uint32_t word);
+
+/* D of a track: its duration, or the most that there is where the recording is still running. */
+uint32_t end_of_track(uint32_t duration);
 
 /* ---- Catalogues from lines: runs of tracks, runs of segments and places of titles follow from them */
 

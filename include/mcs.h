@@ -97,19 +97,26 @@ extern "C" {
 
 /* Words of a group, a track and a segment record, and the most of each, in records; of text, in octets. */
 #define MCS_GROUP_WORDS 3u   /* parent, first track, number of tracks */
-#define MCS_TRACK_WORDS 6u   /* duration in hundredths of a second, age stamp, first segment, number of segments, title's offset and length in the text */
+#define MCS_TRACK_WORDS 6u   /* duration, age stamp, first segment, number of segments, title's offset and length in the text */
 #define MCS_SEGMENT_WORDS 1u /* start */
 #define MCS_MOST_GROUPS 64u
 #define MCS_MOST_TRACKS 256u
 #define MCS_MOST_SEGMENTS 1024u
 #define MCS_MOST_TEXT 32768u
 
+/* A duration is in hundredths of a second, at most MCS_MOST_DURATION; or MCS_RUNNING, which says that it is not yet known, since
+ * the recording is still running. Its positions are then 0 to MCS_MOST_DURATION, the clock never ends the track, a negative write
+ * of the position is accepted and moves nothing, and a Next Segment with no later start, or a Goto Segment that needs one, has
+ * the result MCS_RESULT_NOT_COMPLETED. */
+#define MCS_MOST_DURATION 8640000u
+#define MCS_RUNNING 0xFFFFFFFFu
+
 /* ---- Characteristics: the last part of their section's number in the Media Control Service 1.0.1 ---------------------------- */
 
 #define MCS_NAME 1u             /* Media Player Name: text; read, notify */
 #define MCS_TRACK_CHANGED 4u    /* empty; notify */
 #define MCS_TITLE 5u            /* Track Title: text; read, notify */
-#define MCS_DURATION 6u         /* Track Duration: 4 octets; read, notify */
+#define MCS_DURATION 6u         /* Track Duration: 4 octets, -1 while it is not yet known and while Inactive; read, notify */
 #define MCS_POSITION 7u         /* Track Position: 4 octets; read, write, notify */
 #define MCS_PLAYBACK_SPEED 8u   /* 1 octet; read, write, notify */
 #define MCS_SEEKING_SPEED 9u    /* 1 octet; read, notify */

@@ -287,6 +287,45 @@ static void previous_segment_cases(void)
     EQUAL(result(SEGMENT + PREVIOUS, 0), 1); PAUSES(1, 0, 0); EQUAL(result(SEGMENT + PREVIOUS, 0), 1); PAUSES(1, 0, 0);
 }
 
+/* W-202: a track whose duration is not yet known. END is what its D is taken for. */
+#define UNKNOWN 0xFFFFFFFFu
+#define END 8640000u
+#define CANNOT(from, opcode, n) do { stand(3, 0, from); EQUAL(result(opcode, n), 4); PAUSES(1, 0, from); } while (0)
+
+static void running_cases(void)
+{
+    uint32_t *tracks = lent.words[TRACKS];
+    lend_sample(); tracks[0] = UNKNOWN;
+    /* "6 then reads −1"; "every hold to D is to 8,640,000": Move Relative, the position write, Seeking at both ends. */
+    stand(3, 0, 5000); CHECK(reads_as(0, 6, 0, "\xFF\xFF\xFF\xFF", 4) && reads_as(0, 7, 0, "\x88\x13\x00\x00", 4));
+    LEADS(5000, RELATIVE, 1, 5001); LEADS(5000, RELATIVE, MOST, END); LEADS(5000, RELATIVE, LEAST, 0); LEADS(END, RELATIVE, -1, END - 1);
+    stand(3, 0, 5000); EQUAL(moves_to(0, 8640001), 0); PAUSES(1, 0, END); EQUAL(moves_to(0, 8639999), 0); PAUSES(1, 0, END - 1);
+    EQUAL(result(FORWARD, 0), 1); EQUAL(advance(1), 0); SEEKS(END, 4); EQUAL(advance(0xFFFFFFFFu), 0); SEEKS(END, 4);
+    EQUAL(result(PAUSE, 0), 1); EQUAL(result(REWIND, 0), 1); EQUAL(advance(1), 0); SEEKS(END - 4, -4);
+    EQUAL(advance(0xFFFFFFFFu), 0); SEEKS(0, -4); EQUAL(advance(1), 0); SEEKS(0, -4);
+    /* "A negative position write is taken and moves nothing." */
+    stand(3, 0, 5000); EQUAL(moves_to(0, -1) + moves_to(0, -8640000) + moves_to(0, LEAST), 0); PAUSES(1, 0, 5000);
+    /* "Advance never ends such a track; at 8,640,000 it stays there in its state.": in once and repeat orders. */
+    for (uint8_t order = 1; order <= 8; order++) {
+        stand(order, 0, END - 2); EQUAL(result(PLAY, 0), 1); EQUAL(advance(1), 0); PLAYS(1, 0, END - 1); EQUAL(advance(1), 0);
+        PLAYS(1, 0, END); EQUAL(advance(0), 0); PLAYS(1, 0, END); EQUAL(advance(0xFFFFFFFFu), 0); PLAYS(1, 0, END);
+    }
+    stand(3, 0, 0); EQUAL(result(PLAY, 0), 1); EQUAL(advance(0xFFFFFFFFu), 0); PLAYS(1, 0, END);
+    EQUAL(result(PAUSE, 0), 1); EQUAL(advance(1), 0); PAUSES(1, 0, END);
+    /* The last of a once order, and Next Track, which is as ever. */
+    tracks[12] = UNKNOWN; stand(3, 2, END); EQUAL(result(PLAY, 0), 1); EQUAL(advance(1), 0); PLAYS(1, 2, END); TURNS(3, 0, NEXT, 0, 1);
+    /* "Next Segment with no later start, and a Goto that needs it, give result 4." */
+    LEADS(1499, SEGMENT + NEXT, 0, 1500); LEADS(3999, SEGMENT + NEXT, 0, 4000); CANNOT(4000, SEGMENT + NEXT, 0);
+    CANNOT(END, SEGMENT + NEXT, 0); LEADS(77, SEGMENT + GOTO, 3, 4000); CANNOT(77, SEGMENT + GOTO, 4); CANNOT(77, SEGMENT + GOTO, MOST);
+    LEADS(77, SEGMENT + GOTO, 0, 77); LEADS(77, SEGMENT + GOTO, -3, 0); LEADS(77, SEGMENT + GOTO, LEAST, 0);
+    LEADS(77, SEGMENT + LAST, 0, 4000); LEADS(END, SEGMENT + PREVIOUS, 0, 4000);
+    stand(3, 0, 4000); EQUAL(result(FORWARD, 0), 1); EQUAL(result(SEGMENT + NEXT, 0), 4); SEEKS(4000, 4);
+    /* Without segments there is one start, 0. */
+    tracks[6] = UNKNOWN; stand(3, 1, 0); EQUAL(result(SEGMENT + NEXT, 0), 4); EQUAL(moves_to(0, 9), 0);
+    EQUAL(result(SEGMENT + NEXT, 0), 4); EQUAL(result(SEGMENT + GOTO, 2), 4); PAUSES(1, 1, 9); EQUAL(result(SEGMENT + GOTO, 1), 1);
+    PAUSES(1, 1, 0); EQUAL(moves_to(0, 9), 0); EQUAL(result(SEGMENT + GOTO, -2), 1); PAUSES(1, 1, 0);
+}
+
 static void media_cases(void)
 {
     static const int8_t DOWN[6] = {-4, -8, -16, -32, -32, -32}, UP[9] = {-16, -8, -4, 4, 8, 16, 32, 32, 32};
@@ -342,6 +381,14 @@ static void owed_cases(void)
     EQUAL(deactivate(), 0); OWES(0, B4 | B6 | B7 | B17); FORGIVE(); EQUAL(deactivate(), 0); OWES(0, 0);
     EQUAL(activate(1), 0); OWES(0, B4 | B5 | B6 | B7 | B17); EQUAL(writes(0, 15, 2) + commands(1, PLAY, 0), 0); FORGIVE();
     EQUAL(advance(6000), 0); OWES(0, 0); EQUAL(advance(5) + advance(6000), 0); OWES(0, B7); EQUAL(writes(0, 15, 3), 0); FORGIVE();
+    /* W-202: "what is owed reads D so too": 7 when the step reaches 8,640,000, and no more then. A negative write owes nothing. */
+    lent.words[TRACKS][0] = UNKNOWN; EQUAL(moves_to(0, 8639998) + commands(0, PLAY, 0), 0); FORGIVE();
+    EQUAL(advance(1) + moves_to(0, -5), 0); OWES(0, 0); EQUAL(advance(1), 0); OWES(0, B7); FORGIVE(); EQUAL(advance(1), 0); OWES(0, 0);
+    /* 6 is −1 before and after: to and from none, and from one such track to another. From a duration of 300 it changes. */
+    EQUAL(deactivate(), 0); OWES(0, B4 | B5 | B7 | B17); FORGIVE(); EQUAL(activate(1), 0); OWES(0, B4 | B5 | B7 | B17); FORGIVE();
+    EQUAL(commands(1, TRACK + NEXT, 0), 0); OWES(0, B4 | B5 | B6 | B7); FORGIVE(); EQUAL(commands(1, TRACK + PREVIOUS, 0), 0);
+    OWES(0, B4 | B5 | B6 | B7); FORGIVE(); lent.words[TRACKS][6] = UNKNOWN; EQUAL(commands(1, TRACK + NEXT, 0), 0);
+    OWES(0, B4 | B5 | B7); lend_sample(); EQUAL(activate(1) + advance(0), 0); FORGIVE();
     /* An equal title on another track is no change of 5. 7 is owed with its value as it was, and 0x80 is about values. */
     lent.words[TRACKS][6 + 4] = 0; lent.words[TRACKS][6 + 5] = 10;
     EQUAL(reads(0, 5, 0) + reads(0, 7, 0) + reads(0, 6, 0) + commands(1, TRACK + NEXT, 0), 0); OWES(0, B4 | B6 | B7);
@@ -396,8 +443,11 @@ static void catalogue_cases(void)
     WRONG(g[1] = 1); WRONG(g[7] = 0); WRONG(g[5] = 2); WRONG(g[5] = 0xFFFFFFFFu); WRONG(g[11] = 2); WRONG(g[11] = 0);
     WRONG(t[2] = 1); WRONG(t[3] = 2); WRONG(t[3] = 4); WRONG(t[3] = 0xFFFFFFFFu); WRONG(t[8] = 2); WRONG(t[20] = 0);
     WRONG(g[8] = 0xFFFFFFFFu; g[10] = 2; g[11] = 2); WRONG(t[9] = 0xFFFFFFFFu; t[14] = 2; t[15] = 1);
-    /* "Duration is 0 to 8,640,000"; starts "begin at 0, rise strictly and lie below the duration". Any stamp. */
-    RIGHT(t[0] = 8640000u); WRONG(t[0] = 8640001u); RIGHT(t[0] = 4001); WRONG(t[0] = 4000); WRONG(t[0] = 0);
+    /* "Duration is 0 to 8,640,000"; starts "begin at 0, rise strictly and lie below the duration". Any stamp. W-202: "Duration
+     * word 0xFFFFFFFF means not yet known"; "starts lie below" 8,640,000. */
+    RIGHT(t[0] = UNKNOWN); WRONG(t[0] = UNKNOWN - 1); RIGHT(t[0] = UNKNOWN; starts[2] = END - 1); WRONG(t[0] = UNKNOWN; starts[2] = END);
+    RIGHT(t[12] = UNKNOWN);
+    RIGHT(t[0] = END); WRONG(t[0] = END + 1); RIGHT(t[0] = 4001); WRONG(t[0] = 4000); WRONG(t[0] = 0);
     WRONG(starts[0] = 1); WRONG(starts[1] = 0); WRONG(starts[2] = 1500); RIGHT(starts[2] = 5999); RIGHT(t[1] = 0xFFFFFFFFu);
     /* "Titles, also empty ones, lie in the text, have at most 128 octets and are UTF-8." What is no title may be anything. */
     RIGHT(t[16] = 18); WRONG(t[16] = 19); WRONG(t[16] = 0xFFFFFFFFu); WRONG(t[22] = 15); WRONG(t[23] = 5); WRONG(t[23] = 0xFFFFFFFFu);
@@ -477,6 +527,8 @@ static void state_cases(void)
     BROKEN(s.seeking = 4); STANDS(s.media = 3; s.seeking = -32); BROKEN(s.media = 3; s.seeking = 5);
     BROKEN(s.group = 2); BROKEN(s.group = 3); BROKEN(s.group = 4); STANDS(s.track = 2); BROKEN(s.track = 3); STANDS(s.group = s.track = 3);
     STANDS(s.position = 6000); BROKEN(s.position = 6001); BROKEN(s.track = 2; s.position = 1); BROKEN(s.turn = 4);
+    /* W-202: "The position is 0 to 8,640,000" */
+    lent.words[TRACKS][0] = UNKNOWN; STANDS(s.position = END); BROKEN(s.position = END + 1); lend_sample();
     /* "connected with over 8 results or a result code not 1..4": two wait, PLAY and PAUSE. The octets behind eight results are
      * the next record's, here 1 and 1, and would pass for a ninth. */
     BROKEN(r->waiting = 0); BROKEN(r->waiting = 3); STANDS(r->waiting = 8; EACH(0, 8) r->results[k].code = 4);
@@ -709,6 +761,7 @@ static void damaged_octets(void)
 static void history(void)
 {
     one_in(4) ? lend_full(one_in(2) ? 193 : 256) : lend_sample();
+    lent.words[TRACKS][6 * below(4)] = one_in(3) ? UNKNOWN : END;
     EQUAL(start(one_in(3) ? any() : ALL_OPCODES), 0); (void)activate(below(2));
     EACH(0, 30) EQUAL((k % 10 == 0 ? connects(k / 10, 23 + below(200)) : 0) + subscribes(k / 10, SLOT[k % 10]), 0);
     EACH(0, 150) { one_in(6) ? damaged_call() : random_call(); }
@@ -719,7 +772,7 @@ int main(int argc, char **argv)
 {
     unsigned long histories = argc > 1 ? strtoul(argv[1], NULL, 10) : 300, made = 0;
     seed += (argc > 2 ? strtoul(argv[2], NULL, 10) : 0) * 0x9E3779B97F4A7C15u;
-    move_cases(); previous_segment_cases(); media_cases(); owed_cases(); take_cases();
+    move_cases(); previous_segment_cases(); running_cases(); media_cases(); owed_cases(); take_cases();
     catalogue_cases(); name_cases(); order_cases(); state_cases();
     card_cases(); sheet_cases();
     for (unsigned long k = 0; k < histories; k++) history();
