@@ -1,8 +1,8 @@
 // A block of a card: its head, its check octets, its rules.
 ghost use mathlib.Core.Path.{_≡_};
-ghost use Prim.Native.Nat.{_+_, _<_, _≤_};
+ghost use Prim.Native.Nat.{_+_, _*_, _<_, _≤_};
 ghost use lib.ListN.{length};
-ghost use Rattle.card_block.specs.Sums.{sumsOf};
+ghost use Rattle.card_block.specs.Sums.{sumOf, runningSums, sumsOf};
 ghost use Rattle.card_block.specs.Block.{blockSize, headSize, summed, kindOf, countOf, recordSize, mostRecords, recordsEnd, allZero, checkRule, numberRule, kindRule, countRule, paddingRule, blockRule};
 
 // The octets in a block, in its head, and in head and records; behind those stand the two check octets.
@@ -21,21 +21,52 @@ pub struct CheckSums {
     pub running: u32,
 }
 
-// Both check sums, the remainder taken at each step.
-pub fn sums(s: &[u8]) -> CheckSums
-    ensures { λ r. ⌜ r ≡ sumsOf (now (s .entry)) ⌝ }
+// The octets in a half of what is summed.
+const HALF: usize = 255;
+
+// What an octet adds to the sum of the running sums of a half. A weight is at most 255, so the product fits 16 bits, and a vector holds more of them.
+fn weighed(weight: u16, octet: u8) -> u32
+    requires { ⌜ weight ≤ 255 ⌝ }
+    ensures { λ r. ⌜ r ≡ weight * octet ⌝ }
+{
+    let product = weight * (octet as u16);
+    product as u32
+}
+
+// The sum of a half, and the sum of its running sums. Octet i of 255 stands in 255 − i of these: summed so, with weights, the loop is vector code.
+fn half_sums(s: &[u8]) -> CheckSums
+    requires { ⌜ length (now s) ≡ 255 ⌝ }
+    ensures { λ r. ⌜ (r .plain ≡ sumOf (now (s .entry))) × (r .running ≡ sumOf (runningSums 0 (now (s .entry)))) ⌝ }
 {
     let mut plain: u32 = 0;
     let mut running: u32 = 0;
+    let mut weight: u16 = 255;
     let mut i: usize = 0;
-    while i < s.len() {
-        plain = (plain + ground::wide_octet(s[i])) % 255;
-        running = (running + plain) % 255;
+    while i < HALF {
+        let octet = s[i];
+        plain += ground::wide_octet(octet);
+        running += weighed(weight, octet);
+        weight -= 1;
         i += 1;
     }
     CheckSums {
         plain: plain,
         running: running,
+    }
+}
+
+// Both check sums: summed plainly, and the remainder of each taken at the end. The second half's running sums begin at the sum of the first.
+pub fn sums(s: &[u8]) -> CheckSums
+    requires { ⌜ length (now s) ≡ summed ⌝ }
+    ensures { λ r. ⌜ r ≡ sumsOf (now (s .entry)) ⌝ }
+{
+    let first = half_sums(&s[0..HALF]);
+    let second = half_sums(&s[HALF..SUMMED]);
+    let plain = first.plain + second.plain;
+    let running = first.running + 255 * first.plain + second.running;
+    CheckSums {
+        plain: plain % 255,
+        running: running % 255,
     }
 }
 

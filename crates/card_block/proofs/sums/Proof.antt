@@ -1,69 +1,77 @@
--- `card_block::sums`: the sums from here over what is left are the sums of the whole, which mean what the document says.
-use Prim.Native.Nat.{_≤_, _<_, _-_}
-use mathlib.Core.Path.{_≡_, sym, _∙_}
+-- `card_block::sums`: the two halves' sums are those of the whole, which fit; the remainders are then what the document says.
+use Prim.Native.Nat.{_%_}
 use native.Mathlib.Omega.{arith}
 use borrow.Author.Needs.{needs}
-use lib.ListN.{length, drop, drop-of-length-le}
-use Rattle.card_block.proofs.SumLaws.{sumsFrom, sums-turn, sums-mean}
+use Rattle.card_block.specs.Sums.{sumsOf}
+use Rattle.card_block.proofs.SumLaws.{Octets, FromHalves, from-halves}
 use Rattle.card_block.proofs.sums.Statement.{statement}
 use Rattle.card_block.proofs.sums.Tie as tie
 
-abbrev Inv-loop : tie.InvT-loop
-Inv-loop s plain₀ running₀ i₀ plain running i =
-    (i ≤ length s) × (plain < 255) × (running < 255) × (sumsFrom plain running (drop i s) ≡ sumsFrom 0 0 s)
+sub-half-sums : tie.Need-sub-half-sums
+sub-half-sums c = search needs
 
-abbrev μ-loop : tie.MeasureT-loop
-μ-loop s plain₀ running₀ i₀ plain running i = length s - i
+part-half-sums-start : tie.Need-part-half-sums-start
+part-half-sums-start c = search needs
 
-loop-holds : tie.Need-loop-holds Inv-loop μ-loop
-loop-holds c = search needs
+part-half-sums-end : tie.Need-part-half-sums-end
+part-half-sums-end c = search needs
 
-shared-slice-read-wide-octet : tie.Need-shared-slice-read-wide-octet Inv-loop μ-loop
-shared-slice-read-wide-octet c = search needs
+half-sums-requires : tie.Need-half-sums-requires
+half-sums-requires c κs = search needs
 
-wide-octet-requires : tie.Need-wide-octet-requires Inv-loop μ-loop
-wide-octet-requires c κs = search needs
+sub-half-sums-2 : tie.Need-sub-half-sums-2
+sub-half-sums-2 c = search needs
 
-add-plain : tie.Need-add-plain Inv-loop μ-loop
-add-plain c = search needs
+part-half-sums-start-2 : tie.Need-part-half-sums-start-2
+part-half-sums-start-2 c = search needs
 
-add-running : tie.Need-add-running Inv-loop μ-loop
-add-running c = search needs
+part-half-sums-end-2 : tie.Need-part-half-sums-end-2
+part-half-sums-end-2 c = search needs
 
-add-i : tie.Need-add-i Inv-loop μ-loop
-add-i c = search needs
+half-sums-requires-2 : tie.Need-half-sums-requires-2
+half-sums-requires-2 c κs = search needs
 
-loop-less : tie.Need-loop-less Inv-loop μ-loop
-loop-less c = search needs
+whole : (c : tie.After-half-sums2) → FromHalves
+    (c .before .before .before .before .before .args .s .now)
+    (c .before .before .half-sums .result .plain)
+    (c .before .before .half-sums .result .running)
+    (c .half-sums2 .result .plain)
+    (c .half-sums2 .result .running)
+whole c =
+    let start = c .before .before .before .before in
+    let o : Octets (start .before .args .s .now) = λ i. omega (arith, start .shared-slice-known .given i) in
+    from-halves (start .before .args .s .now) _ _ _ _ o (start .before .pre) (c .before .before .half-sums .ensures) (c .half-sums2 .ensures)
 
-loop-again : tie.Need-loop-again Inv-loop μ-loop
-loop-again c =
-    let l = c .before .before .before in
-    let s = l .before .before .args .s .now in (
-      omega arith,
-      omega arith,
-      omega arith,
-      rw (c .wide-octet .ensures .0) (sym (sums-turn s (l .loop .i) (l .loop .plain) (l .loop .running) (omega arith)) ∙ l .loop .inv .3),
-    )
+add-plain : tie.Need-add-plain
+add-plain c = omega (arith, whole (c .before .before) .plain-fits)
 
-returns : tie.Need-returns Inv-loop μ-loop
-unfolding sumsFrom
-returns c =
-    let s = c .before .before .before .args .s .now in
-    (rw (drop-of-length-le s (c .loop-test .left)) at (c .before .loop .inv .3)) ∙ sums-mean s
+mul-running : tie.Need-mul-running
+mul-running c = omega (arith, whole (c .before .before .before) .running-fits)
+
+add-running : tie.Need-add-running
+add-running c = omega (arith, whole (c .before .before .before .before) .running-fits)
+
+add-running-2 : tie.Need-add-running-2
+add-running-2 c = omega (arith, whole (c .before .before .before .before .before) .running-fits)
+
+returns : tie.Need-returns
+unfolding sumsOf
+returns c = let w = whole (c .before .before .before .before .before) in λ k. record { plain = w .plain k % 255; running = w .running k % 255 }
 
 pub sums-spec : {M : Type 1} → statement M
 sums-spec =
     tie.close
     (tie.spec
-    Inv-loop
-    μ-loop
-    loop-holds
-    shared-slice-read-wide-octet
-    wide-octet-requires
+    sub-half-sums
+    part-half-sums-start
+    part-half-sums-end
+    half-sums-requires
+    sub-half-sums-2
+    part-half-sums-start-2
+    part-half-sums-end-2
+    half-sums-requires-2
     add-plain
+    mul-running
     add-running
-    add-i
-    loop-less
-    loop-again
+    add-running-2
     returns)
