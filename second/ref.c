@@ -1,6 +1,6 @@
-/* The desk player core, written along document 01 and the requests of document 02 that have landed: W-201, W-202, and
- * W-212 for the cue sheet. A comment in quotation marks is a sentence of document 01; where a request is named, and in
- * the cue sheet's part, it is one of document 02. */
+/* The desk player core, written along document 01 and the requests of document 02 that have landed: W-201, W-202, W-203, and
+ * W-212 for the cue sheet. A comment in quotation marks is a sentence of document 01; where a request is named, and in the
+ * cue sheet's part, it is one of document 02. */
 #include "ref.h"
 
 #include <string.h>
@@ -243,10 +243,25 @@ static const uint32_t MOST_RECORDS[5] = {0, 42, 21, 126, 505};
 /* Octets of a record by kind. */
 static const uint32_t RECORD_OCTETS[5] = {0, 12, 24, 4, 1};
 
+/* "Byte 510 is the sum of bytes 0 to 509 modulo 255; byte 511 is the sum of the 510 running sums modulo 255." W-203: "Sum
+ * plainly over the 510 bytes and take the remainder of each sum at the end." An octet is in its own running sum and in all
+ * that follow: the one at k in 510 − k of them. Both sums fit 32 bits, since 255 · (510 + 509 + ... + 1) is 33,227,775. */
+static void check_octets(const uint8_t *block, uint8_t check[2])
+{
+    uint32_t sum = 0, sum_of_sums = 0, k;
+
+    for (k = 0; k < 510u; k++) {
+        sum += block[k];
+        sum_of_sums += (510u - k) * block[k];
+    }
+    check[0] = (uint8_t)(sum % 255u);
+    check[1] = (uint8_t)(sum_of_sums % 255u);
+}
+
 static int block_stands(const uint8_t *block, uint32_t number, uint32_t kind_before)
 {
     uint32_t kind = block[2], count = octets_16(block + 3), k;
-    uint64_t sum = 0, sum_of_sums = 0;
+    uint8_t check[2];
 
     /* "Bytes 0–1 block number from 0; 2 kind (1 group, 2 track, 3 segment, 4 text), never falling" */
     if (octets_16(block) != number || kind < 1 || kind > 4 || kind < kind_before) {
@@ -262,12 +277,8 @@ static int block_stands(const uint8_t *block, uint32_t number, uint32_t kind_bef
             return 0;
         }
     }
-    /* "Byte 510 is the sum of bytes 0 to 509 modulo 255; byte 511 is the sum of the 510 running sums modulo 255." */
-    for (k = 0; k <= 509u; k++) {
-        sum += block[k];
-        sum_of_sums += sum;
-    }
-    return block[510] == sum % 255u && block[511] == sum_of_sums % 255u;
+    check_octets(block, check);
+    return block[510] == check[0] && block[511] == check[1];
 }
 
 uint32_t ref_card_load(const uint8_t *card, size_t card_len, uint32_t *groups, size_t groups_len, uint32_t *tracks,

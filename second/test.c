@@ -621,6 +621,11 @@ static void card_cases(void)
     /* The octets 4, 1, 250 at 2, 3, 5 have the sum 255, that is 0, and 508 · 4 + 507 · 1 + 505 · 250 = 128,789, that is 14; 255 in
      * place of 0 breaks the block. */
     b = add_block(4, 1, 1); b[5] = 250; b[510] = 0; b[511] = 14; EQUAL(LOADS(), 0); b[510] = 255; EQUAL(LOADS(), 211);
+    /* W-203: "Same check, same answers". 4, 2, 47, 1 at 2, 3, 5, 6: 54, and 2,032 + 1,014 + 23,735 + 504 = 107 · 255, that is 0. */
+    card_len = 0; b = add_block(4, 2, 2); b[5] = 47; b[6] = 1; b[510] = 54; b[511] = 0; EQUAL(LOADS(), 0); b[511] = 255; EQUAL(LOADS(), 211);
+    /* The greatest sums, of 505 octets of 255 behind 4, 249, 1 at 2, 3, 4: 505 · 255 + 254, and a multiple of 255 more than
+     * 2,032 + 126,243 + 506 = 505 · 255 + 6. */
+    card_len = 0; b = add_block(4, 505, 0); memset(b + 5, 255, 505); b[510] = 254; b[511] = 6; EQUAL(LOADS(), 0); b[511] = 7; EQUAL(LOADS(), 211);
     /* "Bytes 0–1 block number from 0; 2 kind"; "3–4 record count, 1 up to 42, 21, 126 or 505 by kind"; "zeros up to byte 509" */
     ONE((void)0, 0); ONE(b[0] = 1, 211); ONE(b[1] = 1, 211); ONE(b[2] = 0, 211); ONE(b[2] = 5, 211); ONE(b[3] = 0, 211);
     ONE(b[3] = 21, 0); ONE(b[3] = 22, 211); ONE(b[2] = 1; b[3] = 42, 0); ONE(b[2] = 1; b[3] = 43, 211); ONE(b[2] = 3; b[3] = 126, 0);
