@@ -1,5 +1,5 @@
 #!/usr/bin/env python3
-"""The vectors of the card reader, the catalogue check, the text check and the cue sheet reader.
+"""The vectors of the card reader, the catalogue check, the text check, the cue sheet reader and the card writer.
 
     python3 vectors/make.py            writes the files below
     python3 vectors/make.py --check    compares them, and fails on a difference
@@ -8,10 +8,11 @@
     crates/vectors/stdout   the answer of each
     crates/inspect/stdin    the card of the sample catalogue
 
-Each vector has its answer beside it, worked out by hand from document 01, and that of a sheet from W-212 of document 02.
-Only two things are computed: the check numbers of the tables, from the tables that the vector was made of, and the starts of
-the two sheets that have 1,024 and 3,640 of them, by the request's formula. Many sheets are variants that a loop makes, with
-one answer set by hand for all of them. A comment in quotation marks is a sentence of document 01, and of document 02 where it stands over sheets.
+Each vector has its answer beside it, worked out by hand from document 01, and that of a sheet or a written card from W-212
+or W-204 of document 02. Only three things are computed: the check numbers of the tables, from the tables that the vector was
+made of; those of written cards, from cards made by document 01's words on blocks; and the starts of the two sheets that have
+1,024 and 3,640 of them, by the request's formula. Many sheets are variants that a loop makes, with
+one answer set by hand for all of them. A comment in quotation marks is a sentence of document 01, and of document 02 where it stands over sheets or written cards.
 """
 import struct
 import sys
@@ -20,7 +21,7 @@ from vector_files import write_or_compare
 
 WORD = 0xFFFFFFFF
 
-CARD, CATALOGUE, TEXT, SHEET = 1, 2, 3, 4
+CARD, CATALOGUE, TEXT, SHEET, WRITE = 1, 2, 3, 4, 5
 GROUP_KIND, TRACK_KIND, SEGMENT_KIND, TEXT_KIND = 1, 2, 3, 4
 
 # One entry for each vector: its kind, its name, the octets of its case, its answer.
@@ -312,10 +313,13 @@ card('first-210-129-bad-blocks', '210', b'\xFF' * 66048, room=NO_ROOM)
 
 # ---- Catalogues
 
-def tables_case(name, answer, tables):
+def lent_tables(tables):
     case = words((len(tables.groups), len(tables.tracks), len(tables.segments), len(tables.text)))
-    case += words(tables.groups) + words(tables.tracks) + words(tables.segments) + tables.text
-    add(CATALOGUE, name, case, answer)
+    return case + words(tables.groups) + words(tables.tracks) + words(tables.segments) + tables.text
+
+
+def tables_case(name, answer, tables):
+    add(CATALOGUE, name, lent_tables(tables), answer)
 
 
 def catalogue(name, answer, groups=SAMPLE_GROUPS, tracks=SAMPLE_TRACKS, segments=SAMPLE_SEGMENTS, text=SAMPLE_TEXT):
@@ -1004,6 +1008,85 @@ sheet('sheet-65536-octets-226-in-last', '226 65536', b'\n' * 65535 + b'x')
 sheet('sheet-65537-octets-226-in-line-1', '225', b'x' * 65537, room=0)
 
 
+# ---- Written cards: how many blocks there are, or the refusal; and the lent card, which was 0xA5 in each octet.
+
+def write(name, answer, room, groups=(), tracks=(), segments=(), text=b'', written=True):
+    """A catalogue that is written into a card of so many octets. "Octets behind the last block stay." """
+    front = card_of(groups, tracks, segments, text) if written else b''
+    left = front + b'\xA5' * (room - len(front))
+    case = lent_tables(Tables(groups, tracks, segments, text)) + words((room,))
+    add(WRITE, name, case, '%s %d' % (answer, check_number(left)))
+
+
+def no_write(name, answer, room, groups=(), tracks=(), segments=(), text=b''):
+    """One that is refused: "alters nothing"."""
+    write(name, answer, room, groups, tracks, segments, text, False)
+
+
+SAMPLE_RECORDS = (SAMPLE_GROUPS, SAMPLE_TRACKS, SAMPLE_SEGMENTS, SAMPLE_TEXT)
+FULL_RECORDS = (FULL_GROUPS, FULL_TRACKS, FULL_SEGMENTS, FULL_TEXT)
+
+
+def bare_groups(n):
+    return [(0, 0, 0)] * n
+
+
+def bare_tracks(n):
+    """A group of n tracks that have nothing."""
+    return [(0, 0, n)], [PLAIN] * n
+
+
+def segments_of_one(n):
+    """A group of one track that has n segments, a hundredth apart."""
+    return [(0, 0, 1)], [(n, 0, 0, n, 0, 0)], list(range(n))
+
+
+# "From a catalogue the writer fills a lent buffer with blocks .. and returns how many." The sample has a block of each kind.
+write('write-sample', '4', 2048, *SAMPLE_RECORDS)
+# A catalogue of nothing has no block, and no room is enough for it.
+write('write-nothing', '0', 0)
+write('write-nothing-in-a-block', '0', 512)
+# One kind alone: groups, and text. Tracks are in a group and segments in a track, so those two bring others with them.
+write('write-one-group', '1', 512, bare_groups(1))
+write('write-text-alone', '1', 512, text=b'\xFF\0a')
+write('write-one-track', '2', 1024, *bare_tracks(1))
+write('write-one-segment', '3', 1536, *segments_of_one(1))
+write('write-group-and-text', '2', 1024, bare_groups(1), text=b'ab')
+
+# ".. every block but the last of its kind full": 42, 21, 126 and 505 records fill a block, and one more begins another.
+write('write-42-groups', '1', 512, bare_groups(42))
+write('write-43-groups', '2', 1024, bare_groups(43))
+write('write-21-tracks', '2', 1024, *bare_tracks(21))
+write('write-22-tracks', '3', 1536, *bare_tracks(22))
+write('write-126-segments', '3', 1536, *segments_of_one(126))
+write('write-127-segments', '4', 2048, *segments_of_one(127))
+write('write-505-text', '1', 512, text=b'z' * 505)
+write('write-506-text', '2', 1024, text=b'z' * 506)
+write('write-1010-text', '2', 1024, text=bytes(range(202)) * 5)
+# 64 groups are 42 and 22, 256 tracks 12 times 21 and 4, 1,024 segments 8 times 126 and 16, 32,768 octets 64 times 505 and 448:
+# 2 + 13 + 9 + 65 blocks, which are 45,568 octets.
+write('write-full', '89', 45568, *FULL_RECORDS)
+
+# 213 "exactly when the blocks exceed the lent room"
+no_write('write-room-one-short', '213', 2047, *SAMPLE_RECORDS)
+no_write('write-full-room-one-short', '213', 45567, *FULL_RECORDS)
+no_write('write-no-room', '213', 0, bare_groups(1))
+no_write('write-room-for-groups-only', '213', 512, *bare_tracks(1))
+# "Octets behind the last block stay."
+write('write-one-octet-behind', '4', 2049, *SAMPLE_RECORDS)
+write('write-511-octets-behind', '4', 2559, *SAMPLE_RECORDS)
+write('write-blocks-behind', '4', 65536, *SAMPLE_RECORDS)
+write('write-room-above-a-card', '89', 66048, *FULL_RECORDS)
+
+# "200 first, then 213"
+no_write('write-200-with-room', '200', 2048, SAMPLE_GROUPS, SAMPLE_TRACKS, [0, 1500, 1500], SAMPLE_TEXT)
+no_write('write-200-no-room', '200', 0, SAMPLE_GROUPS, SAMPLE_TRACKS, [0, 1500, 1500], SAMPLE_TEXT)
+no_write('write-tracks-alone', '200', 512, tracks=[PLAIN])
+no_write('write-segments-alone', '200', 512, segments=[0])
+no_write('write-65-groups', '200', 1024, bare_groups(65))
+no_write('write-text-32769', '200', 65536, text=b'a' * 32769)
+
+
 # ---- Files
 
 def files():
@@ -1018,7 +1101,7 @@ def files():
 
 def main(arguments):
     differing = write_or_compare(__doc__, arguments, files())
-    for kind, kind_name in ((CARD, 'cards'), (CATALOGUE, 'catalogues'), (TEXT, 'texts'), (SHEET, 'sheets')):
+    for kind, kind_name in ((CARD, 'cards'), (CATALOGUE, 'catalogues'), (TEXT, 'texts'), (SHEET, 'sheets'), (WRITE, 'written cards')):
         print('%s: %d' % (kind_name, sum(1 for vector in VECTORS if vector[0] == kind)))
     if differing:
         sys.exit(1)

@@ -6,3 +6,5 @@ pub mod Bounded
 pub mod Words
 pub mod Sweep
 pub mod Filling
+pub mod Octets
+pub mod Laying

@@ -1,12 +1,13 @@
--- Laws of `words`: how many there are, and the word at a place. Assumes nothing.
-use Prim.Native.Nat.{ℕ, zero, suc, _+_, _*_, _/_, _≤_, zero-le, suc-le-suc}
+-- Laws of `words` and `octetsOf`: how many there are, the word at a place, and that the octets of words are those words again. Assumes nothing.
+use Prim.Native.Nat.{ℕ, zero, suc, _+_, _*_, _/_, _%_, _≤_, _<_, zero-le, suc-le-suc}
 use mathlib.Core.Path.{_≡_, refl, sym, ap, _∙_}
-use mathlib.Core.List.{List, [], _∷_}
+use mathlib.Core.List.{List, [], _∷_, _++_}
 use native.Mathlib.Nat.{add-assoc}
+use native.Mathlib.Numerals.{add-one}
 use native.Mathlib.Omega.{arith}
 use lib.ListN.{length, getD, take, drop}
-use lib.Seq.{getD-drop, take-nil}
-use Rattle.ground.specs.Words.{wordOf, wordAt, words}
+use lib.Seq.{getD-drop, take-nil, take-suc}
+use Rattle.ground.specs.Words.{wordOf, wordAt, words, octetsOfWord, octetsOf}
 
 -- four octets on
 word-past : (a b c d : ℕ) (s : List ℕ) (k : ℕ) → wordAt (a ∷ b ∷ c ∷ d ∷ s) (k + 4) ≡ wordAt s k
@@ -64,3 +65,26 @@ words-take (suc (suc (suc (suc j)))) (a ∷ b ∷ c ∷ []) = sym (take-nil (suc
 words-take (suc (suc (suc (suc j)))) (a ∷ b ∷ c ∷ d ∷ s) =
     let e : suc (suc (suc (suc j))) / 4 ≡ suc (j / 4) = omega arith in
     rw e (ap (λ (l : List ℕ). wordOf a b c d ∷ l) (words-take j s))
+
+pub octets-append : (s t : List ℕ) → octetsOf (s ++ t) ≡ octetsOf s ++ octetsOf t
+unfolding octetsOf
+octets-append [] t = refl
+octets-append (w ∷ s) t = ap (λ (l : List ℕ). octetsOfWord w ++ l) (octets-append s t)
+
+-- one word more
+pub octets-more : (s : List ℕ) (i : ℕ) → i < length s → octetsOf (take (i + 1) s) ≡ octetsOf (take i s) ++ octetsOfWord (getD s i 0)
+unfolding octetsOf
+octets-more s i h = rw (add-one i, take-suc s i 0 h) (octets-append (take i s) (getD s i 0 ∷ []))
+
+pub octets-length : (s : List ℕ) → length (octetsOf s) ≡ length s * 4
+unfolding octetsOf
+octets-length [] = refl
+octets-length (w ∷ s) = omega (arith, octets-length s)
+
+-- the octets of words are those words again
+pub words-octets : (s : List ℕ) → words (octetsOf s) ≡ s
+unfolding words octetsOf
+words-octets [] = refl
+words-octets (w ∷ s) =
+    let e : wordOf (w % 256) (w / 256 % 256) (w / 65536 % 256) (w / 16777216) ≡ w = omega arith in
+    λ i. e i ∷ words-octets s i

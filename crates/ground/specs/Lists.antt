@@ -15,6 +15,10 @@ part s a e = take (e - a) (drop a s)
 abbrev pub filled : {A : Type 0} → List A → List A → List A
 filled front old = front ++ drop (length front) old
 
+-- s over a part of d, from the place at on; what lies before it and behind it stays
+unfoldable pub laid : {A : Type 0} → List A → ℕ → List A → List A
+laid d at s = take at d ++ (s ++ drop (at + length s) d)
+
 -- a lent table or output afterwards: "on success fills the front of each table", "lent octets behind the answer stay"; a refusal alters nothing
 abbrev pub tableAfter : Said → List ℕ → List ℕ → List ℕ
 tableAfter said front old = pick (said .isGranted) (filled front old) old

@@ -1,7 +1,7 @@
 -- Little endian numbers in octets.
 -- Assumes nothing.
-use mathlib.Core.List.{List, [], _∷_}
-use Prim.Native.Nat.{ℕ, _+_, _*_}
+use mathlib.Core.List.{List, [], _∷_, _++_}
+use Prim.Native.Nat.{ℕ, _+_, _*_, _/_, _%_}
 use lib.ListN.{getD}
 
 abbrev pub halfOf : ℕ → ℕ → ℕ
@@ -24,3 +24,12 @@ words (a ∷ []) = []
 words (a ∷ b ∷ []) = []
 words (a ∷ b ∷ c ∷ []) = []
 words (a ∷ b ∷ c ∷ d ∷ s) = wordOf a b c d ∷ words s
+
+-- the four octets of a word. The last is no remainder, so that the octets of any number are that number again; that it is an octet is the code's affair
+abbrev pub octetsOfWord : ℕ → List ℕ
+octetsOfWord w = w % 256 ∷ w / 256 % 256 ∷ w / 65536 % 256 ∷ w / 16777216 ∷ []
+
+-- the octets that words are
+unfoldable pub octetsOf : List ℕ → List ℕ
+octetsOf [] = []
+octetsOf (w ∷ s) = octetsOfWord w ++ octetsOf s

@@ -21,7 +21,7 @@ pub const MOST_TITLE: usize = 128;
 
 pub const LEAST_OUTPUT: usize = 128;
 
-// The numbers of document 01's table, in its order, and of document 02's cue sheets.
+// The numbers of document 01's table, in its order, and of document 02's card write and cue sheets.
 pub const BAD_CATALOGUE: u32 = 200;
 
 pub const SMALL_OUTPUT: u32 = 205;
@@ -65,6 +65,8 @@ pub const BAD_CARD_LENGTH: u32 = 210;
 pub const BAD_BLOCK: u32 = 211;
 
 pub const NO_ROOM: u32 = 212;
+
+pub const NO_CARD_ROOM: u32 = 213;
 
 pub const LONG_SHEET: u32 = 225;
 

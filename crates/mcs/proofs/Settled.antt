@@ -7,6 +7,7 @@ use contract.Lifetimes.{Lfts}
 use denote.Ref.{RefT, at-last}
 use Rattle.mcs.proofs.Leaving.{leaves-settled}
 use Rattle.mcs.proofs.mcs_card_load.Reads as card-load
+use Rattle.mcs.proofs.mcs_card_write.Reads as card-write
 use Rattle.mcs.proofs.mcs_cue_sheet.Reads as cue-sheet
 use Rattle.mcs.proofs.mcs_start.Reads as start
 use Rattle.mcs.proofs.mcs_set_name.Reads as set-name
@@ -93,6 +94,14 @@ module _ (κs : Lfts 6) (card groups tracks segments text counts : RefT (List �
     p .1 .1 .1 .1 .0 ∙ sym (q .1 .1 .1 .1 .0),
     p .1 .1 .1 .1 .1 ∙ sym (q .1 .1 .1 .1 .1),
   )
+
+-- a card write's card and its number of blocks
+module _ (κs : Lfts 6) (groups tracks segments text card blocks : RefT (List ℕ)) where
+  pub card-write-settled : (n₁ n₂ : ℕ) (c₁ c₂ b₁ b₂ : List ℕ)
+      → card-write.Post κs (lent groups tracks segments text card (card, (blocks, tt))) n₁ (lent groups tracks segments text card (at-last card c₁, (at-last blocks b₁, tt)))
+      → card-write.Post κs (lent groups tracks segments text card (card, (blocks, tt))) n₂ (lent groups tracks segments text card (at-last card c₂, (at-last blocks b₂, tt)))
+      → (n₁ ≡ n₂) × (c₁ ≡ c₂) × (b₁ ≡ b₂)
+  card-write-settled n₁ n₂ c₁ c₂ b₁ b₂ p q = (p .0 ∙ sym (q .0), p .1 .0 ∙ sym (q .1 .0), p .1 .1 ∙ sym (q .1 .1))
 
 -- a cue sheet's starts, its count and its line
 module _ (κs : Lfts 4) (sheet starts count line : RefT (List ℕ)) where

@@ -14,6 +14,9 @@ use Rattle.ground.proofs.Cases.{and-left, and-right}
 use Rattle.catalogue_tables.specs.Tables.{Tables}
 use Rattle.card_load.specs.Card.{blocksOf, recordCount}
 use Rattle.card_load.specs.Load.{fits, roomRule, loadRows, loadSaid}
+use Rattle.catalogue_check.proofs.Laws.{is-right}
+use Rattle.card_write.specs.Write.{writeRows, writeSaid}
+use Rattle.card_write.proofs.Answers.{most-blocks}
 use Rattle.catalogue_cue.specs.Sheet.{cueSaid}
 use Rattle.catalogue_cue.proofs.Small.{cue-small}
 use Rattle.desk_slots.specs.Slots.{clientCount, slotTable, characteristicOf}
@@ -102,6 +105,13 @@ load-words card groups tracks segments text =
             ),
           ),
         )
+
+-- a card has at most 89 blocks
+pub write-words : (k : Tables) (room : ℕ) → AllWords (writeSaid k room .values)
+unfolding writeSaid bare
+write-words k room =
+    behind-rows (λ said. said) (λ said. said) (λ said. refl) (writeRows k room) (refl, (refl, tt)) _
+    (λ n. (omega (arith, most-blocks k (is-right k (not-false _ (n .0)))), tt))
 
 module _ (k : Tables) (d : Desk) where
   -- a read's length is at most its value's, which is at most 128

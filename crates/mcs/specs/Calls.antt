@@ -39,7 +39,7 @@ abbrev pub saidWords : Said → List ℕ
 saidWords said = getD (said .values) 0 0 ∷ getD (said .values) 1 0 ∷ getD (said .values) 2 0 ∷ getD (said .values) 3 0 ∷ []
 
 -- those of a call; as they were where it is refused. A read's is its number of octets; a take's are client, characteristic and number of octets, 0, 0, 0
--- where nothing is owed; a card load's are the four counts
+-- where nothing is owed; a card load's are the four counts, a card write's is the number of blocks
 abbrev pub wordsAfter : Said → List ℕ → List ℕ
 wordsAfter said old = toldAfter (said .isGranted) (saidWords said) old
 

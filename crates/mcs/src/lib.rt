@@ -10,6 +10,8 @@ ghost use Rattle.ground.specs.Lists.{tableAfter};
 ghost use Rattle.ground.specs.Words.{words};
 ghost use Rattle.card_load.specs.Card.{blocksOf, gather, octets};
 ghost use Rattle.card_load.specs.Load.{saidOf as loadSaidOf, loadSaid};
+ghost use Rattle.card_write.specs.Card.{cardOf};
+ghost use Rattle.card_write.specs.Write.{saidOf as writeSaidOf, writeSaid};
 ghost use Rattle.ground.specs.Refusals.{refusalOf, granted as grantedWith};
 ghost use Rattle.catalogue_cue.specs.Sheet.{saidOf as cueSaidOf, cueSaid, sheetLines, startsOf};
 ghost use Rattle.mcs_state.specs.Codec.{flag, deskOf};
@@ -20,6 +22,7 @@ ghost use Rattle.desk_exchange.specs.Write.{writeCall};
 ghost use Rattle.desk_take.specs.Take.{takeCall, takeOctets};
 ghost use Rattle.mcs.specs.Calls.{Leaves, toldOf, toldAfter, wordsAfter, carriedAfter};
 use card_load::Loaded;
+use card_write::Written;
 use catalogue_cue::Cued;
 use desk_replies::Answer;
 use desk_replies::Outcome;
@@ -70,7 +73,7 @@ fn granted(first: usize, second: usize, third: usize, fourth: usize) -> Told
     }
 }
 
-// What is told of an answer of the calls on the state, of card load's, and of cue sheet's.
+// What is told of an answer of the calls on the state, of card load's, of card write's, and of cue sheet's.
 fn told_of(a: Answer) -> Told
     ensures { λ r. ⌜ r ≡ toldOf (saidOf a) ⌝ }
 {
@@ -96,6 +99,15 @@ fn told_of_load(l: Loaded) -> Told
     match l {
         Loaded::Done(c) => granted(c.groups, c.tracks, c.segments, c.text),
         Loaded::Refused(r) => refused(r),
+    }
+}
+
+fn told_of_write(w: Written) -> Told
+    ensures { λ r. ⌜ r ≡ toldOf (writeSaidOf w) ⌝ }
+{
+    match w {
+        Written::Done(blocks) => granted(blocks, 0, 0, 0),
+        Written::Refused(r) => refused(r),
     }
 }
 
@@ -157,6 +169,27 @@ pub extern "C" fn mcs_card_load(
     let t = told_of_load(l);
     let values = t.values;
     tell(t.granted, values, counts);
+    t.number
+}
+
+// Card write.
+#[no_mangle]
+pub extern "C" fn mcs_card_write(
+    groups: &[u32],
+    tracks: &[u32],
+    segments: &[u32],
+    text: &[u8],
+    card: &mut [u8],
+    blocks: &mut [u32; 1],
+) -> u32
+    ensures { λ r. ⌜ r ≡ (writeSaid (tables (now (groups .entry)) (now (tracks .entry)) (now (segments .entry)) (now (text .entry))) (len (now (card .entry)))) .number ⌝ }
+    ensures { λ r. ⌜ now (card .exit) ≡ tableAfter (writeSaid (tables (now (groups .entry)) (now (tracks .entry)) (now (segments .entry)) (now (text .entry))) (len (now (card .entry)))) (cardOf (tables (now (groups .entry)) (now (tracks .entry)) (now (segments .entry)) (now (text .entry)))) (now (card .entry)) ⌝ }
+    ensures { λ r. ⌜ now (blocks .exit) ≡ wordsAfter (writeSaid (tables (now (groups .entry)) (now (tracks .entry)) (now (segments .entry)) (now (text .entry))) (len (now (card .entry)))) (now (blocks .entry)) ⌝ }
+{
+    let w = card_write::write(groups, tracks, segments, text, card);
+    let t = told_of_write(w);
+    let values = t.values;
+    tell(t.granted, values, blocks);
     t.number
 }
 

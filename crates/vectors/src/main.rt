@@ -1,8 +1,10 @@
-// Runs card load, the catalogue check, the text check and the reading of a cue sheet on framed cases from standard input, and writes a line for each.
-// A frame: an octet for the kind (1 card, 2 catalogue, 3 text, 4 cue sheet), an octet for the length of the name, the name, the case.
+// Runs card load, the catalogue check, the text check, the reading of a cue sheet and card write on framed cases from standard input, and writes a line for
+// each. A frame: an octet for the kind (1 card, 2 catalogue, 3 text, 4 cue sheet, 5 catalogue to be written), an octet for the length of the name, the name,
+// the case.
 ghost use Prim.Native.Nat.{_-_, _≤_};
 ghost use lib.ListN.{length};
 use card_load::Loaded;
+use card_write::Written;
 use catalogue_check::Catalogue;
 use catalogue_cue::Cued;
 use text::Checked;
@@ -196,7 +198,46 @@ fn check_catalogue(groups: &[u32], tracks: &[u32], segments: &[u32], text: &[u8]
     }
 }
 
-fn read_catalogue(groups: &[u8], g: usize, t: usize, n: usize, x: usize) -> &[u8]
+fn write_written(answer: Written) {
+    match answer {
+        Written::Done(blocks) => {
+            write_number(blocks);
+        }
+        Written::Refused(r) => {
+            write_refusal(r);
+        }
+    }
+}
+
+// Writes the answer and the check number of the whole lent card, so that what lies behind the last block is seen too.
+fn write_card(groups: &[u32], tracks: &[u32], segments: &[u32], text: &[u8], card: &mut [u8]) {
+    write_written(card_write::write(groups, tracks, segments, text, card));
+    write_sum_of_octets(card);
+}
+
+fn write_card_into(groups: &[u32], tracks: &[u32], segments: &[u32], text: &[u8], room: usize) {
+    let mut card = [0xA5u8; 66048];
+    let n = at_most(room, 66048);
+    write_card(groups, tracks, segments, text, &mut card[0..n]);
+}
+
+// Checks a catalogue, or writes it where the case has a room for its card.
+fn check_or_write(
+    writes: bool,
+    groups: &[u32],
+    tracks: &[u32],
+    segments: &[u32],
+    text: &[u8],
+    room: usize,
+) {
+    if writes {
+        write_card_into(groups, tracks, segments, text, room);
+    } else {
+        check_catalogue(groups, tracks, segments, text);
+    }
+}
+
+fn read_catalogue(writes: bool, groups: &[u8], g: usize, t: usize, n: usize, x: usize) -> &[u8]
     ensures { λ r. ⌜ length (now r) ≤ length (now (groups .entry)) ⌝ }
 {
     let mut group_table = [0u32; 2048];
@@ -208,26 +249,38 @@ fn read_catalogue(groups: &[u8], g: usize, t: usize, n: usize, x: usize) -> &[u8
     read_words(&mut group_table, groups);
     read_words(&mut track_table, tracks);
     read_words(&mut segment_table, segments);
-    check_catalogue(
+    let room = rest(text, x);
+    check_or_write(
+        writes,
         front_of_words(&group_table, g),
         front_of_words(&track_table, t),
         front_of_words(&segment_table, n),
         front(text, x),
+        number(room),
     );
-    rest(text, x)
+    room
 }
 
 // The lengths of the groups, tracks and segments in words and of the text in octets, and then these.
-fn catalogue_case(s: &[u8]) -> &[u8]
+fn catalogue_case(writes: bool, s: &[u8]) -> &[u8]
     ensures { λ r. ⌜ length (now r) ≤ length (now (s .entry)) ⌝ }
 {
     read_catalogue(
+        writes,
         rest(s, 16),
         number(s),
         number(rest(s, 4)),
         number(rest(s, 8)),
         number(rest(s, 12)),
     )
+}
+
+// A catalogue, and the room for its card in octets.
+fn write_case(s: &[u8]) -> &[u8]
+    ensures { λ r. ⌜ length (now r) ≤ length (now (s .entry)) ⌝ }
+{
+    let room = catalogue_case(true, s);
+    rest(room, 4)
 }
 
 // The length of the text, and the text.
@@ -301,9 +354,10 @@ fn case_of_kind(kind: u8, s: &[u8]) -> &[u8]
 {
     match kind {
         1 => card_case(s),
-        2 => catalogue_case(s),
+        2 => catalogue_case(false, s),
         3 => text_case(s),
         4 => sheet_case(s),
+        5 => write_case(s),
         _ => rest(s, s.len()),
     }
 }
@@ -330,7 +384,7 @@ fn frames(s: &[u8]) {
 }
 
 fn main() {
-    let mut input = [0u8; 1048576];
+    let mut input = [0u8; 2097152];
     let n = io::read_full(0, &mut input);
     frames(&input[..n]);
 }

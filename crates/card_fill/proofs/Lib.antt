@@ -1,0 +1,4 @@
+-- The laws that belong to no one function.
+pub mod Making
+pub mod Right
+pub mod Only

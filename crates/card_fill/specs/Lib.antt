@@ -1,0 +1,2 @@
+-- A block as it is written.
+pub mod Filled
