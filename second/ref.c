@@ -1,6 +1,6 @@
-/* The desk player core, written along document 01 and the requests of document 02 that have landed: W-201, W-202, W-203, and
- * W-212 for the cue sheet. A comment in quotation marks is a sentence of document 01; where a request is named, and in the
- * cue sheet's part, it is one of document 02. */
+/* The desk player core, written along document 01 and the requests of document 02 that have landed: W-201 to W-204, and W-212 for
+ * the cue sheet. A comment in quotation marks is a sentence of document 01; where a request is named, and in the cue sheet's
+ * part, it is one of document 02. */
 #include "ref.h"
 
 #include <string.h>
@@ -19,6 +19,7 @@ enum {
     CARD_LENGTH = 210,
     BLOCK_WRONG = 211,
     NO_ROOM = 212,
+    CARD_SMALL = 213,
     SHEET_LONG = 225,
     LINE_WRONG = 226,
     NOT_RISING = 227,
@@ -238,6 +239,22 @@ static uint32_t octets_32(const uint8_t *p)
     return (uint32_t)p[0] | ((uint32_t)p[1] << 8) | ((uint32_t)p[2] << 16) | ((uint32_t)p[3] << 24);
 }
 
+static void put_16(uint8_t *out, uint32_t number)
+{
+    out[0] = (uint8_t)(number & 0xFFu);
+    out[1] = (uint8_t)(number >> 8 & 0xFFu);
+}
+
+static uint32_t put_32(uint8_t *out, uint32_t word)
+{
+    put_16(out, word & 0xFFFFu);
+    put_16(out + 2, word >> 16);
+    return 4;
+}
+
+#define BLOCK 512u
+#define RECORDS_AT 5u
+#define CHECK_AT 510u
 /* "1 up to 42, 21, 126 or 505 by kind" */
 static const uint32_t MOST_RECORDS[5] = {0, 42, 21, 126, 505};
 /* Octets of a record by kind. */
@@ -250,9 +267,9 @@ static void check_octets(const uint8_t *block, uint8_t check[2])
 {
     uint32_t sum = 0, sum_of_sums = 0, k;
 
-    for (k = 0; k < 510u; k++) {
+    for (k = 0; k < CHECK_AT; k++) {
         sum += block[k];
-        sum_of_sums += (510u - k) * block[k];
+        sum_of_sums += (CHECK_AT - k) * block[k];
     }
     check[0] = (uint8_t)(sum % 255u);
     check[1] = (uint8_t)(sum_of_sums % 255u);
@@ -272,13 +289,13 @@ static int block_stands(const uint8_t *block, uint32_t number, uint32_t kind_bef
         return 0;
     }
     /* "then the records; zeros up to byte 509" */
-    for (k = 5u + count * RECORD_OCTETS[kind]; k <= 509u; k++) {
+    for (k = RECORDS_AT + count * RECORD_OCTETS[kind]; k < CHECK_AT; k++) {
         if (block[k] != 0) {
             return 0;
         }
     }
     check_octets(block, check);
-    return block[510] == check[0] && block[511] == check[1];
+    return block[CHECK_AT] == check[0] && block[CHECK_AT + 1u] == check[1];
 }
 
 uint32_t ref_card_load(const uint8_t *card, size_t card_len, uint32_t *groups, size_t groups_len, uint32_t *tracks,
@@ -290,12 +307,12 @@ uint32_t ref_card_load(const uint8_t *card, size_t card_len, uint32_t *groups, s
     uint32_t *words[4];
 
     /* "card length no multiple of 512, or over 65,536" */
-    if (card_len % 512u != 0 || card_len > 65536u) {
+    if (card_len % BLOCK != 0 || card_len > 65536u) {
         return CARD_LENGTH;
     }
-    blocks = (uint32_t)(card_len / 512u);
+    blocks = (uint32_t)(card_len / BLOCK);
     for (number = 0; number < blocks; number++) {
-        const uint8_t *block = card + 512u * number;
+        const uint8_t *block = card + BLOCK * number;
         if (!block_stands(block, number, kind_before)) {
             return BLOCK_WRONG;
         }
@@ -314,22 +331,80 @@ uint32_t ref_card_load(const uint8_t *card, size_t card_len, uint32_t *groups, s
     words[2] = tracks;
     words[3] = segments;
     for (number = 0; number < blocks; number++) {
-        const uint8_t *block = card + 512u * number;
+        const uint8_t *block = card + BLOCK * number;
         uint32_t kind = block[2];
         uint32_t octets = octets_16(block + 3) * RECORD_OCTETS[kind];
         if (kind == 4u) {
             for (k = 0; k < octets; k++) {
-                *text++ = block[5u + k];
+                *text++ = block[RECORDS_AT + k];
             }
         } else {
             for (k = 0; k < octets; k += 4u) {
-                *words[kind]++ = octets_32(block + 5u + k);
+                *words[kind]++ = octets_32(block + RECORDS_AT + k);
             }
         }
     }
     for (k = 0; k < 4u; k++) {
         counts[k] = total[k + 1u];
     }
+    return 0;
+}
+
+static uint32_t record_count(const catalogue *c, uint32_t kind)
+{
+    return kind == 1u ? c->group_count : kind == 2u ? c->track_count : kind == 3u ? c->segment_count : c->text_count;
+}
+
+/* W-204: "Work is done one block of 512 zeros at a time, filled and then checked." Its records are `count` of that kind,
+ * from number `first` on. */
+static void fill_block(const catalogue *c, uint32_t number, uint32_t kind, uint32_t first, uint32_t count,
+                       uint8_t block[BLOCK])
+{
+    const uint32_t *table = kind == 1u ? c->groups : kind == 2u ? c->tracks : c->segments;
+    uint32_t record_words = RECORD_OCTETS[kind] / 4u, k;
+
+    memset(block, 0, BLOCK);
+    put_16(block, number);
+    block[2] = (uint8_t)kind;
+    put_16(block + 3, count);
+    if (kind == 4u) {
+        memcpy(block + RECORDS_AT, c->text + first, count);
+    } else {
+        for (k = 0; k < count * record_words; k++) {
+            (void)put_32(block + RECORDS_AT + 4u * k, table[first * record_words + k]);
+        }
+    }
+    check_octets(block, block + CHECK_AT);
+}
+
+/* W-204: "From a catalogue the writer fills a lent buffer with blocks, every block but the last of its kind full, and
+ * returns how many." "Octets behind the last block stay." */
+uint32_t ref_card_write(REF_CATALOGUE, uint8_t *card, size_t card_len, uint32_t *blocks)
+{
+    catalogue c;
+    uint32_t needed = 0, number = 0, kind, first, count;
+
+    /* W-204: "200 first, then 213 exactly when the blocks exceed the lent room" */
+    if (!LEND(c)) {
+        return CATALOGUE_WRONG;
+    }
+    for (kind = 1; kind <= 4u; kind++) {
+        needed += (record_count(&c, kind) + MOST_RECORDS[kind] - 1u) / MOST_RECORDS[kind];
+    }
+    if (needed > card_len / BLOCK) {
+        return CARD_SMALL;
+    }
+    for (kind = 1; kind <= 4u; kind++) {
+        for (first = 0; first < record_count(&c, kind); first += count) {
+            count = record_count(&c, kind) - first;
+            if (count > MOST_RECORDS[kind]) {
+                count = MOST_RECORDS[kind];
+            }
+            fill_block(&c, number, kind, first, count, card + BLOCK * number);
+            number++;
+        }
+    }
+    *blocks = number;
     return 0;
 }
 
@@ -819,15 +894,6 @@ static void write_position(const catalogue *c, ref_state *s, int64_t v)
 }
 
 /* ---- Values */
-
-static uint32_t put_32(uint8_t *out, uint32_t word)
-{
-    out[0] = (uint8_t)(word & 0xFFu);
-    out[1] = (uint8_t)(word >> 8 & 0xFFu);
-    out[2] = (uint8_t)(word >> 16 & 0xFFu);
-    out[3] = (uint8_t)(word >> 24);
-    return 4;
-}
 
 /* "Values: 1 and 5 text; 4 empty; 6, 7, 19 four octets; 16 two; 18 two; the rest one." The length; 18 has no value apart
  * from its results and comes out empty here. */

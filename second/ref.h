@@ -1,7 +1,7 @@
-/* The desk player core: card reader, cue sheet reader, catalogue check, player and the layer of four clients.
+/* The desk player core: card reader and writer, cue sheet reader, catalogue check, player and the layer of four clients.
  *
- * Every call returns 0, or the refusal number of document 01's table (ATT codes as 0x01 to 0x80), of a cue sheet that of
- * document 02's request W-212.
+ * Every call returns 0, or the refusal number of document 01's table (ATT codes as 0x01 to 0x80), of a card write and a cue
+ * sheet those of document 02's requests W-204 and W-212.
  * "A refusal returns its number alone and alters nothing."
  */
 #ifndef REF_H
@@ -60,6 +60,9 @@ typedef struct {
 uint32_t ref_card_load(const uint8_t *card, size_t card_len, uint32_t *groups, size_t groups_len, uint32_t *tracks,
                        size_t tracks_len, uint32_t *segments, size_t segments_len, uint8_t *text, size_t text_len,
                        uint32_t counts[4]);
+
+/* The catalogue's card fills the front of the lent octets; blocks is how many it has. */
+uint32_t ref_card_write(REF_CATALOGUE, uint8_t *card, size_t card_len, uint32_t *blocks);
 
 /* The starts fill the front of the table; line is written by 226 and 227 alone, count where the sheet is accepted. */
 uint32_t ref_cue_sheet(const uint8_t *sheet, size_t sheet_len, uint32_t *starts, size_t starts_len, uint32_t *count,

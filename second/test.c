@@ -642,6 +642,86 @@ static void card_cases(void)
     }
 }
 
+/* W-204: the lent catalogue into that room, and into `card` where it is written. A refusal leaves room and blocks as they were,
+ * a success what lies behind the last block. */
+static uint32_t writes_card(size_t room)
+{
+    uint32_t *t0 = exact(lent.words[0], 4 * lent.len[0]), *t1 = exact(lent.words[1], 4 * lent.len[1]);
+    uint32_t *t2 = exact(lent.words[2], 4 * lent.len[2]), refusal, blocks;
+    uint8_t *t3 = exact(lent.text, lent.len[3]), *out;
+    memset(card, FILL, sizeof card);
+    memset(&blocks, FILL, sizeof blocks);
+    out = exact(card, room);
+    refusal = ref_card_write(LENT(t), out, room, &blocks);
+    card_len = refusal == 0 ? 512 * blocks : 0;
+    CHECK(refusal == 0 || all_are(&blocks, FILL, sizeof blocks));
+    CHECK(card_len <= room && (room == 0 || all_are(out + card_len, FILL, room - card_len)));
+    memcpy(card, room == 0 ? card : out, card_len);
+    free(t0); free(t1); free(t2); free(t3); free(out);
+    return refusal;
+}
+
+/* "Loading what was written gives the tables back", and "every block but the last of its kind" is full. What the blocks hold
+ * besides is what the reader asks for, so there is one card only that does all this. */
+static int comes_back(void)
+{
+    static const uint32_t FULL[5] = {0, 42, 21, 126, 505};
+    int right = LOADS() == 0 && 3 * counts[0] == lent.len[0] && 6 * counts[1] == lent.len[1] && counts[2] == lent.len[2] &&
+                counts[3] == lent.len[3] && memcmp(got.text, lent.text, lent.len[3]) == 0;
+    EACH(0, 3) right &= memcmp(got.words[k], lent.words[k], 4 * lent.len[k]) == 0;
+    EACH(1, card_len / 512) {
+        const uint8_t *b = card + 512 * (k - 1);
+        right &= b[512 + 2] != b[2] || b[3] + 256u * b[4] == FULL[b[2]];
+    }
+    return right;
+}
+/* It takes so many blocks: that room suffices, an octet less does not. */
+#define TAKES(blocks)                                                                                                      \
+    do {                                                                                                                   \
+        size_t octets = 512u * (size_t)(blocks), less = octets == 0 ? 0 : octets - 1;                                      \
+        EQUAL(writes_card(octets), 0); EQUAL(card_len, octets); CHECK(comes_back());                                       \
+        EQUAL(writes_card(less), octets == 0 ? 0 : 213);                                                                   \
+    } while (0)
+
+static void writer_cases(void)
+{
+    static uint8_t before[1536];
+    /* A block of the sample by hand: number 2, kind 3, count 3, the words 0, 1500 and 4000. Its sum is 408, that is 153; the sum
+     * of sums 1,020 + 1,524 + 1,521 + 110,220 + 2,500 + 79,520 + 7,440 = 799 · 255, that is 0. */
+    lend_sample(); TAKES(4); EQUAL(writes_card(65536), 0);
+    CHECK(memcmp(card + 1024, "\x02\x00\x03\x03\x00\x00\x00\x00\x00\xDC\x05\x00\x00\xA0\x0F\x00\x00", 17) == 0);
+    CHECK(all_are(card + 1024 + 17, 0, 510 - 17)); EQUAL(card[1024 + 510], 153); EQUAL(card[1024 + 511], 0);
+    /* "Octets behind the last block stay.": rooms beside whole blocks; "200 first, then 213" */
+    EQUAL(writes_card(2049), 0); EQUAL(writes_card(2559), 0); EQUAL(writes_card(2560), 0); EQUAL(writes_card(1536), 213);
+    EQUAL(writes_card(511), 213); EQUAL(writes_card(0), 213); lent.len[GROUPS] = 11; EQUAL(writes_card(0), 200); EQUAL(writes_card(65536), 200);
+    lend_sample(); lent.words[TRACKS][0] = UNKNOWN; TAKES(4);
+    /* Nothing; groups alone, and text alone: exactly full last blocks, and one record over. */
+    lent = (tables){.len = {0}}; TAKES(0); EQUAL(writes_card(600), 0);
+    lent.len[GROUPS] = 3; TAKES(1); lent.len[GROUPS] = 42 * 3; TAKES(1); lent.len[GROUPS] = 43 * 3; TAKES(2); lent.len[GROUPS] = 192; TAKES(2);
+    lent = (tables){.len = {0, 0, 0, 1}}; EACH(0, 32768) lent.text[k] = (uint8_t)(k % 251); /* no title, so any octets */
+    TAKES(1); lent.len[TEXT] = 505; TAKES(1); lent.len[TEXT] = 506; TAKES(2); lent.len[TEXT] = 1010; TAKES(2); lent.len[TEXT] = 32768; TAKES(65);
+    /* A group of tracks, and a track of segments: one block, or two, and those of the tracks or the segments. */
+    static const uint32_t TRACK_COUNTS[5][2] = {{21, 2}, {22, 3}, {252, 13}, {253, 14}, {256, 14}};
+    static const uint32_t START_COUNTS[5][2] = {{126, 3}, {127, 4}, {1008, 10}, {1009, 11}, {1024, 11}};
+    EACH(0, 5) {
+        uint32_t n = TRACK_COUNTS[k][0];
+        lent = (tables){.len = {3, 6 * n}}; lent.words[GROUPS][2] = n; for (uint32_t j = 0; j < n; j++) lent.words[TRACKS][6 * j + 1] = j;
+        TAKES(TRACK_COUNTS[k][1]);
+        n = START_COUNTS[k][0];
+        lent = (tables){{{0, 0, 1}, {END, 0, 0, n}}, {0}, {3, 6, n}}; for (uint32_t j = 0; j < n; j++) lent.words[SEGMENTS][j] = 7 * j;
+        TAKES(START_COUNTS[k][1]);
+    }
+    /* All four limits: 2, 13, 9 and 65 blocks, 45,568 octets. */
+    lend_full(193); TAKES(89);
+    /* "writing what was loaded gives the card back for cards filled that way"; another card of the same tables becomes that one. */
+    card_len = 0; (void)add_block(4, 505, 255); (void)add_block(4, 505, 7); (void)add_block(4, 3, 3); memcpy(before, card, 1536);
+    EQUAL(LOADS(), 0); EQUAL(counts[3], 1013); lent = (tables){.len = {0, 0, 0, 1013}}; memcpy(lent.text, got.text, 1013);
+    TAKES(3); EQUAL(writes_card(1536), 0); CHECK(memcmp(card, before, 1536) == 0);
+    lent = (tables){.text = "abc", .len = {0, 0, 0, 3}}; TAKES(1);
+    card_len = 0; add_block(4, 2, 0)[5] = 'a'; card[6] = 'b'; seal(card); add_block(4, 1, 0)[5] = 'c'; seal(card + 512);
+    CHECK(LOADS() == 0 && memcmp(got.text, "abc", 3) == 0);
+}
+
 /* ---- Cue sheets */
 
 #define SHEET 65536u
@@ -771,6 +851,7 @@ static void history(void)
     EACH(0, 30) EQUAL((k % 10 == 0 ? connects(k / 10, 23 + below(200)) : 0) + subscribes(k / 10, SLOT[k % 10]), 0);
     EACH(0, 150) { one_in(6) ? damaged_call() : random_call(); }
     EACH(0, 30) damaged_octets();
+    (void)writes_card(below(50000));
 }
 
 int main(int argc, char **argv)
@@ -779,7 +860,7 @@ int main(int argc, char **argv)
     seed += (argc > 2 ? strtoul(argv[2], NULL, 10) : 0) * 0x9E3779B97F4A7C15u;
     move_cases(); previous_segment_cases(); running_cases(); media_cases(); owed_cases(); take_cases();
     catalogue_cases(); name_cases(); order_cases(); state_cases();
-    card_cases(); sheet_cases();
+    card_cases(); writer_cases(); sheet_cases();
     for (unsigned long k = 0; k < histories; k++) history();
     EACH(0, CALLS) { CHECK(histories < 40 || (accepted[k] > 0 && refused[k] > 0)); made += accepted[k] + refused[k]; }
     printf("checks: %lu, failures: %lu; random histories: %lu, calls: %lu\n", checks, failures, histories, made);
