@@ -47,6 +47,7 @@ static double batch(const row *r, uint32_t times, uint32_t which)
         uint8_t out[MCS_OUTPUT_OCTETS];
         uint32_t word, served[3], counts[4], line, starts[MOST_STARTS];
         tables loaded;
+        uint8_t card[MCS_CARD_OCTETS];
     } answers;
     const void *before = PROGRAMS[which].on_octets ? (const void *)r->before.octets : (const void *)&r->before.state;
     size_t octets = PROGRAMS[which].on_octets ? sizeof r->before.octets : sizeof r->before.state;
@@ -60,6 +61,8 @@ static double batch(const row *r, uint32_t times, uint32_t which)
     c.room = whole_room(&answers.loaded);
     c.starts = answers.starts;
     c.starts_len = MOST_STARTS;
+    c.card = answers.card;
+    c.card_len = sizeof answers.card;
     c.word = &answers.word;
     c.served = answers.served;
     c.counts = answers.counts;

@@ -20,6 +20,7 @@ typedef struct {
     uint32_t word, served[3], counts[4], line;
     tables loaded;
     uint32_t starts[MOST_STARTS];
+    uint8_t card[MCS_CARD_OCTETS];
 } answers;
 
 /* More card loads than the report has. */
@@ -39,6 +40,8 @@ static call lend(call made, void *state, answers *a)
     made.room = whole_room(&a->loaded);
     made.starts = a->starts;
     made.starts_len = MOST_STARTS;
+    made.card = a->card;
+    made.card_len = sizeof a->card;
     made.word = &a->word;
     made.served = a->served;
     made.counts = a->counts;
@@ -321,6 +324,7 @@ void add_calls(table *t, const catalogue *c)
     take_until(&falling, c, 0);
 
     add_card_load(t, c);
+    add(t, "card write", c, plain(CARD_WRITE, 0, 0, 0), inactive, ACCEPTED);
     add(t, "start", c, start(NAME, sizeof NAME - 1u), inactive, ACCEPTED);
     add(t, "set name", c, with_octets(SET_NAME, 0, 0, NAME, 10), plays, ACCEPTED);
     add(t, "activate, order 3", c, plain(ACTIVATE, 0, 0, GROUP), inactive, ACCEPTED);

@@ -10,6 +10,7 @@
 #define LEAST_TRUTHS 500u
 enum { CONNECTED, ENCRYPTED, ENCRYPTED_UNCONNECTED, TRUTHS };
 enum { IN_FIRST, AT_ITS_START, WITHIN_MARGIN, LAST_WITHIN, AT_MARGIN, BEYOND_MARGIN, PREVIOUS_FROM };
+enum { NO_BLOCKS, EXACT_ROOM, ROOM_BEHIND, ONE_OCTET_SHORT, WRITE_BOUNDS };
 enum { REACHES_END, STAYS_AT_END, SEEKS_AT_END, NEGATIVE_WRITE, RUNNING_CASES };
 enum { NO_STARTS, NO_ROOM_LEFT, LONGEST, ONE_TOO_LONG, BOUNDS };
 
@@ -19,7 +20,7 @@ static unsigned long by_media[4], by_order[9], by_rung[256], by_result[OPCODES +
 static unsigned long taken[CHARACTERISTIC_BOUND], read_whole[CHARACTERISTIC_BOUND], read_on[CHARACTERISTIC_BOUND],
     written[CHARACTERISTIC_BOUND];
 static unsigned long by_truth[TRUTHS][REF_CLIENTS], by_truth_value[NUMBERS], by_mended[CALLS][NUMBERS];
-static unsigned long by_next[3][4], by_bound[BOUNDS], by_previous[PREVIOUS_FROM], by_running[RUNNING_CASES];
+static unsigned long by_next[3][4], by_bound[BOUNDS], by_previous[PREVIOUS_FROM], by_running[RUNNING_CASES], by_room[WRITE_BOUNDS];
 
 static uint32_t counted_as(uint32_t number) { return number < NUMBERS ? number : NUMBERS - 1u; }
 
@@ -135,6 +136,19 @@ static void count_sheet(const run *r, const step *s)
     }
 }
 
+/* ---- Card writes at a bound of the room */
+
+static void count_written(const run *r, const step *s)
+{
+    uint32_t room = s->room[0], octets = r->written.length;
+    if (r->second_said.number == 0) {
+        by_room[NO_BLOCKS] += octets == 0;
+        by_room[EXACT_ROOM] += octets > 0 && room == octets;
+        by_room[ROOM_BEHIND] += octets > 0 && room > octets;
+    }
+    by_room[ONE_OCTET_SHORT] += r->second_said.number == MCS_NO_CARD_ROOM && room % MCS_BLOCK_OCTETS == MCS_BLOCK_OCTETS - 1u;
+}
+
 /* ---- A yes or no that is neither 1 nor 0: which octet, with what value, and the number of the same call without it, so that
  * 201 is seen to come before that number */
 
@@ -204,6 +218,9 @@ void count_call(const run *r, const step *s, uint32_t share)
     if (s->kind == CUE_SHEET) {
         count_sheet(r, s);
     }
+    if (s->kind == CARD_WRITE) {
+        count_written(r, s);
+    }
     if (has_state(s->kind) && s->kind != START && !plain_truths(r->octets)) {
         count_truths(r, s);
     }
@@ -264,6 +281,7 @@ static const uint8_t ROWS[CALLS][12] = {
     [TAKE] = {200, 205, 201, 0},
     [CARD_LOAD] = {210, 211, 212, 0},
     [CUE_SHEET] = {225, 226, 227, 228, 0},
+    [CARD_WRITE] = {200, 213, 0},
 };
 
 static void tell_numbers(uint32_t kind, const unsigned long counts[NUMBERS])
@@ -306,6 +324,11 @@ static void tell_player(void)
             tell(by_move[order][move][1], order != 1 || move > 1, "%s", MOVE[move]);
             tell(by_move[order][move][4], order % 2u == 1 && move != 2 && move != 3, "%s not made", MOVE[move]);
         }
+    }
+    row("card writes");
+    for (uint32_t k = 0; k < WRITE_BOUNDS; k++) {
+        static const char *const WHAT[WRITE_BOUNDS] = {"no blocks", "exact room", "room behind", "an octet short of a block"};
+        tell(by_room[k], 1, "%s", WHAT[k]);
     }
     row("Previous Segment");
     for (uint32_t k = 0; k < PREVIOUS_FROM; k++) {

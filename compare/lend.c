@@ -19,12 +19,13 @@ static const struct {
     {offsetof(call, state), NO_LENGTH, 1, MCS_STATE_OCTETS, "the state"},
     {offsetof(call, octets), offsetof(call, length), 1, SHEET_ROOM, "the name, value, card or cue sheet"},
     {offsetof(call, out), offsetof(call, out_len), 1, OUT_ROOM, "the output"},
-    {offsetof(call, word), NO_LENGTH, 4, 1, "the length of a read or count of a cue sheet"},
+    {offsetof(call, word), NO_LENGTH, 4, 1, "the length of a read, count of a cue sheet or blocks of a card write"},
     {offsetof(call, served), NO_LENGTH, 4, 3, "what a take served"},
     {offsetof(call, counts), NO_LENGTH, 4, 4, "the counts of a card load"},
     {offsetof(call, line), NO_LENGTH, 4, 1, "the line of a cue sheet"},
     TABLES_OF(room, "a loaded table"),
     {offsetof(call, starts), offsetof(call, starts_len), 4, STARTS_ROOM, "the starts"},
+    {offsetof(call, card), offsetof(call, card_len), 1, CARD_ROOM, "the written card"},
 };
 
 void *lent_at(const call *c, uint32_t buffer)
@@ -110,6 +111,15 @@ static void lend_sheet(run *r, const step *s, call *c)
     }
 }
 
+static void lend_room_for_card(run *r, const step *s, call *c)
+{
+    c->card = r->written.octets;
+    c->card_len = s->room[0];
+    for (uint32_t k = 0; k < s->room[0]; k++) {
+        r->written.octets[k] = filled(s->fill, k);
+    }
+}
+
 void lend_plainly(run *r, const step *s, call *c)
 {
     answer *a = &r->second_said;
@@ -121,20 +131,24 @@ void lend_plainly(run *r, const step *s, call *c)
     c->octets = s->octets;
     c->length = s->length;
     fill_answer(s, a);
-    if (has_state(s->kind)) {
+    if (has_catalogue(s->kind)) {
         c->catalogue = lent(&r->lent);
+    }
+    if (has_state(s->kind)) {
         c->state = r->octets;
     }
     if (has_output(s->kind)) {
         c->out = a->out;
         c->out_len = s->room[0];
     }
-    c->word = s->kind == READ || s->kind == CUE_SHEET ? &a->length : NULL;
+    c->word = s->kind == READ || s->kind == CUE_SHEET || s->kind == CARD_WRITE ? &a->length : NULL;
     c->served = s->kind == TAKE ? a->served : NULL;
     if (s->kind == CARD_LOAD) {
         lend_card(r, s, c);
     } else if (s->kind == CUE_SHEET) {
         lend_sheet(r, s, c);
+    } else if (s->kind == CARD_WRITE) {
+        lend_room_for_card(r, s, c);
     }
 }
 

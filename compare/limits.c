@@ -100,6 +100,42 @@ static void limit_cases(void)
     loads("a card of no blocks", &t, 0);
 }
 
+/* ---- Written cards: a block holds 42 groups, 21 tracks, 126 segments or 505 octets */
+
+static void writes(const char *what, const tables *t, uint32_t room, uint32_t number, uint32_t blocks)
+{
+    step s = blank(CARD_WRITE);
+    now_trying(what);
+    begin_run(both, t);
+    s.room[0] = room;
+    makes(s, number);
+    if (number == 0) {
+        expect("the blocks", both->library_said.length, blocks);
+    }
+}
+
+static void written_cases(void)
+{
+    static tables t;
+    memset(&t, 0, sizeof t);
+    writes("no blocks without room", &t, 0, 0, 0);
+    sample_catalogue(&t);
+    writes("the sample", &t, 4 * 512, 0, 4);
+    writes("the sample with room behind", &t, 4 * 512 + 1, 0, 4);
+    writes("the sample with an octet less", &t, 4 * 512 - 1, MCS_NO_CARD_ROOM, 0);
+    writes("the sample without room", &t, 0, MCS_NO_CARD_ROOM, 0);
+    t.length[GROUPS] -= 1;
+    writes("a wrong catalogue without room", &t, 0, MCS_BAD_CATALOGUE, 0);
+    /* 2 + 13 + 9 + 65 */
+    full_catalogue(&t, 64, 256, 1024, 32768);
+    writes("all limits", &t, 89 * 512, 0, 89);
+    writes("all limits with an octet less", &t, 89 * 512 - 1, MCS_NO_CARD_ROOM, 0);
+    full_catalogue(&t, 42, 42, 126, 505);
+    writes("blocks that are exactly full", &t, 5 * 512, 0, 1 + 2 + 1 + 1);
+    full_catalogue(&t, 43, 43, 127, 506);
+    writes("one record over in each kind", &t, 9 * 512, 0, 2 + 3 + 2 + 2);
+}
+
 /* ---- Cue sheets */
 
 /* A sheet of lines 1 frame apart from a frame on, then so often an octet, then a line; what it gives, where it is refused with
@@ -166,6 +202,7 @@ static void sheet_cases(void)
 static void all_limits(void)
 {
     limit_cases();
+    written_cases();
     sheet_cases();
 }
 

@@ -1,7 +1,9 @@
-/* Cards: made of a catalogue, damaged, and loaded into tables of any room. */
+/* Cards: made of a catalogue, damaged, and loaded into tables of any room; and written, into any room. */
 #include "blocks.h"
 #include "damage.h"
 #include "play.h"
+
+#include <string.h>
 
 static int room_suffices(const run *r, const step *s)
 {
@@ -92,6 +94,46 @@ static void too_many(play *p)
     take_step(p);
 }
 
+/* As much room as the blocks need, or about that. */
+static void draw_card_room(play *p, step *s)
+{
+    uint32_t octets = 0, room;
+    for (uint32_t table = 0; table < TABLES; table++) {
+        octets += MCS_BLOCK_OCTETS * blocks_for(table, p->r->lent.length[table] / record_entries(table));
+    }
+    room = one_in(&p->d, 3)   ? octets
+           : one_in(&p->d, 3) ? ONE_OF(&p->d, 0, octets - 1u, octets + 1u, octets - MCS_BLOCK_OCTETS, octets + MCS_BLOCK_OCTETS)
+                              : octets + below(&p->d, 1024);
+    s->room[0] = room > CARD_ROOM ? CARD_ROOM : room;
+}
+
+static void write_card(play *p)
+{
+    step *s = new_step(p);
+    if (p->going) {
+        blank_step(&p->d, CARD_WRITE, s);
+        draw_card_room(p, s);
+        take_step(p);
+    }
+}
+
+/* What both wrote is the card that is made of the catalogue here; "Loading what was written gives the tables back". */
+static void write_right_card(play *p)
+{
+    static card made;
+    write_card(p);
+    if (!p->going || p->r->second_said.number != 0) {
+        return;
+    }
+    make_card(&p->r->lent, &made);
+    if (p->r->written.length != made.length || memcmp(p->r->written.octets, made.octets, made.length) != 0) {
+        cannot_be(p, "both write another card than the catalogue's");
+        return;
+    }
+    bare_step(p, WRITTEN_CARD, 0);
+    load(p, 1);
+}
+
 void play_cards(play *p)
 {
     p->share = FROM_CARD;
@@ -108,6 +150,14 @@ void play_cards(play *p)
             damage(p, few_times(p), damage_card);
         }
         load(p, right);
+        if (beyond) {
+            write_card(p);
+        }
+        bare_step(p, PUT_BACK, 0);
+        write_right_card(p);
+        bare_step(p, KEEP, 0);
+        damage(p, few_times(p), damage_catalogue);
+        write_card(p);
         bare_step(p, PUT_BACK, 0);
     }
 }

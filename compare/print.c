@@ -81,6 +81,8 @@ static void print_answer(FILE *out, const char *program, const step *s, const an
     fprintf(out, faulted ? "fault" : a->number >= 200 || a->number == 0 ? "%u" : "0x%02X", (unsigned)a->number);
     if (s->kind == CUE_SHEET) {
         fprintf(out, ", count %u, line %u", (unsigned)a->length, (unsigned)a->line);
+    } else if (s->kind == CARD_WRITE && a->number == 0) {
+        fprintf(out, ", blocks %u", (unsigned)a->length);
     } else if (s->kind == READ && a->number == 0) {
         print_octets(out, a->out, a->length < OUT_ROOM ? a->length : OUT_ROOM);
     } else if (s->kind == TAKE && a->number == 0) {

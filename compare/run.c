@@ -154,6 +154,9 @@ static int do_call(run *r, const step *s)
     }
     r->library_said.number = number[0];
     collect(r, &plain, &made[0]);
+    if (s->kind == CARD_WRITE) {
+        r->written.length = number[0] == 0 ? MCS_BLOCK_OCTETS * r->second_said.length : 0;
+    }
 
     if (r->library_said.number != r->second_said.number) {
         return differs(r, "the numbers differ");

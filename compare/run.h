@@ -12,7 +12,7 @@
 
 typedef struct {
     uint32_t number;
-    uint32_t length;       /* of a read; the count of a cue sheet */
+    uint32_t length;       /* of a read; the count of a cue sheet; the blocks of a card write */
     uint32_t served[3];    /* of a take */
     uint32_t counts[4];    /* of a card load */
     uint32_t line;         /* of a cue sheet */
@@ -38,6 +38,7 @@ typedef struct {
     int stale[2][TABLES]; /* the guarded copy of a table is not what is lent */
     tables loaded;        /* by the second program's last card load */
     uint32_t starts[STARTS_ROOM]; /* by its last cue sheet */
+    card written;                 /* by its last card write; its length is that of the blocks, 0 where it was refused */
     int library_faulted, second_faulted;
     uint32_t position_before; /* the player's, before the last call */
     int unchanged;            /* the last call was accepted, was no start, and left the meaning of the state as it was */

@@ -14,6 +14,7 @@ enum {
     POKE_CARD,         /* octet `number` of the card is `what` */
     CARD_LENGTH,       /* the card is lent with `number` octets */
     SWAP_BLOCKS,       /* the blocks `who` and `what` change places, and are numbered anew */
+    WRITTEN_CARD,      /* the card is what was written last */
     MEND_BLOCK,        /* block `number` gets the sums that its octets have */
     NEW_SHEET,         /* the cue sheet is empty */
     ADD_TEXT,          /* `octets` come behind it, `number` times */
@@ -33,7 +34,7 @@ typedef struct {
     uint32_t who;                     /* client */
     uint32_t what;                    /* characteristic; of start the Content Control ID, of connect whether encrypted */
     uint32_t number;                  /* mask, group, hundredths, ATT_MTU, offset */
-    uint32_t room[4];                 /* of the output of a read or a take; in entries of a card load's tables, of starts */
+    uint32_t room[4];                 /* of the output of a read or a take; in entries of a card load's tables, of starts; of a card */
     uint32_t length;                  /* of octets */
     uint8_t octets[MCS_STATE_OCTETS]; /* name, value or text */
 } step;

@@ -37,10 +37,11 @@ static const struct {
     {"the room of segments", CARD_LOAD, ROOM + SEGMENTS, 0, MCS_OK},
     {"the room of text", CARD_LOAD, ROOM + TEXT, 0, MCS_OK},
     {"the room of starts", CUE_SHEET, STARTS, 0, MCS_OK},
+    {"the room of a card", CARD_WRITE, WRITTEN, 0, MCS_OK},
 };
 
 static tables sample, loaded;
-static card made;
+static card made, written;
 static uint8_t octets[MCS_STATE_OCTETS], out[MCS_OUTPUT_OCTETS], line_of_0[17];
 static ref_state state;
 static uint32_t word, served[3], counts[4], line, starts[1];
@@ -59,6 +60,8 @@ static call right_call(uint32_t kind, uint32_t what)
     c.room = whole_room(&loaded);
     c.starts = starts;
     c.starts_len = 1;
+    c.card = written.octets;
+    c.card_len = sizeof written.octets;
     if (kind == CARD_LOAD) {
         c.octets = made.octets;
         c.length = made.length;

@@ -3,7 +3,7 @@
 
 const char *const CALL_NAME[CALLS] = {"start",   "set name",   "activate",  "deactivate",  "advance",
                                       "connect", "disconnect", "subscribe", "unsubscribe", "read",
-                                      "write",   "take",       "card load", "cue sheet"};
+                                      "write",   "take",       "card load", "cue sheet",   "card write"};
 
 #define MAKE call_library
 #define PROGRAM(name) mcs_##name

@@ -1,4 +1,4 @@
-/* The fourteen calls, with everything that is lent to them: what any program that has the same calls is asked to do. */
+/* The fifteen calls, with everything that is lent to them: what any program that has the same calls is asked to do. */
 #ifndef CALLS_H
 #define CALLS_H
 
@@ -19,6 +19,7 @@ enum {
     TAKE,
     CARD_LOAD,
     CUE_SHEET,
+    CARD_WRITE,
     CALLS
 };
 
@@ -38,12 +39,15 @@ typedef struct {
     struct mcs_room room; /* of a card load */
     uint32_t *starts;     /* of a cue sheet */
     size_t starts_len;
-    uint32_t *word; /* the length of a read, the count of a cue sheet */
+    uint8_t *card;        /* of a card write */
+    size_t card_len;
+    uint32_t *word; /* the length of a read, the count of a cue sheet, the blocks of a card write */
     uint32_t *served, *counts, *line;
 } call;
 
-/* A card load and a cue sheet are lent neither a state nor a catalogue. */
+/* A card load and a cue sheet are lent neither a state nor a catalogue, a card write no state. */
 static inline int has_state(uint32_t kind) { return kind < CARD_LOAD; }
+static inline int has_catalogue(uint32_t kind) { return has_state(kind) || kind == CARD_WRITE; }
 
 /* Each makes the call and returns its number. */
 uint32_t call_library(const call *c);

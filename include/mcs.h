@@ -1,16 +1,16 @@
-/* The Media Control Service core of a desk player: fourteen calls, proved (crates/mcs), for C and C++ on x86-64 and aarch64.
+/* The Media Control Service core of a desk player: fifteen calls, proved (crates/mcs), for C and C++ on x86-64 and aarch64.
  *
  * Every call takes all octets, numbers, tables and states there are, checks them itself, and ends. It returns 0, or the number of
- * the first refusal that applies, in the order of the list below. A refusal alters nothing: state, tables, output, length,
- * served, counts, starts and count hold what they held. Two refusals carry a line, MCS_BAD_LINE and MCS_NOT_RISING, and these
+ * the first refusal that applies, in the order of the list below. A refusal alters nothing: state, tables, card, output, length,
+ * served, counts, blocks, starts and count hold what they held. Two refusals carry a line, MCS_BAD_LINE and MCS_NOT_RISING, and these
  * two alone write it to the word that is lent for it.
  *
  * What is the caller's to see to, as for any function of C:
  * - a pointer with a length points to that many octets or words (a length of 0: it is not followed, and may be null);
- *   words are aligned as uint32_t is; state points to MCS_STATE_OCTETS octets, length, count and line to 1 word, served to 3,
- *   counts to 4;
- * - what a call writes (state, output, length, served, counts, the tables of a card load, and starts, count and line of a cue
- *   sheet) overlaps nothing else lent to it;
+ *   words are aligned as uint32_t is; state points to MCS_STATE_OCTETS octets, length, blocks, count and line to 1 word, served to
+ *   3, counts to 4;
+ * - what a call writes (state, output, length, served, counts, the tables of a card load, the card and blocks of a card write, and
+ *   starts, count and line of a cue sheet) overlaps nothing else lent to it;
  * - no other thread touches what is lent while the call runs. The library keeps nothing of its own and calls no function
  *   but its own and memcpy, memset, memmove.
  */
@@ -27,7 +27,7 @@ extern "C" {
 /* MCS_VERSION moves when a function of this file is added or changes its arguments or the numbers that it returns;
  * MCS_STATE_LAYOUT when the octets of a state change their number, place or meaning: a host that stores states stores it with
  * them. */
-#define MCS_VERSION 1u
+#define MCS_VERSION 2u
 #define MCS_STATE_LAYOUT 1u
 
 /* ---- Numbers that a call returns ------------------------------------------------------------------------------------------ */
@@ -78,6 +78,8 @@ extern "C" {
 #define MCS_BAD_BLOCK 211u
 /* Card load: a limit, or a lent table's room, is exceeded. */
 #define MCS_NO_ROOM 212u
+/* Card write: the catalogue's card has more blocks than the lent octets hold. */
+#define MCS_NO_CARD_ROOM 213u
 /* Cue sheet: it has over 65,536 octets. */
 #define MCS_LONG_SHEET 225u
 /* Cue sheet: a line is not understood, and the lines before it are neither 226 nor 227. */
@@ -93,6 +95,7 @@ extern "C" {
 #define MCS_OUTPUT_OCTETS 128u  /* the least output that a read or a take may be lent */
 #define MCS_BLOCK_OCTETS 512u   /* a block of a card */
 #define MCS_CARD_OCTETS 65536u  /* the longest card */
+#define MCS_CARD_BLOCKS 89u     /* the most blocks that card write fills, with all four tables full: 45,568 octets */
 #define MCS_SHEET_OCTETS 65536u /* the longest cue sheet */
 
 /* Words of a group, a track and a segment record, and the most of each, in records; of text, in octets. */
@@ -203,7 +206,7 @@ extern "C" {
                                    * everything else, unsubscribing too, leaves them where they were */
 
 /* ---- Calls ------------------------------------------------------------------------------------------------------------------
- * The catalogue is lent to every call but card load and cue sheet: three tables of words and the text, lengths in words and in
+ * The catalogue is lent to every call but card load and cue sheet, a state to every call but those two and card write: three tables of words and the text, lengths in words and in
  * octets.
  */
 #define MCS_CATALOGUE                                                                                                          \
@@ -217,6 +220,11 @@ extern "C" {
 uint32_t mcs_card_load(const uint8_t *card, size_t card_len, uint32_t *groups, size_t groups_len, uint32_t *tracks,
                        size_t tracks_len, uint32_t *segments, size_t segments_len, uint8_t *text, size_t text_len,
                        uint32_t counts[4]);
+
+/* Card write: fills the front of card with the catalogue's card, every block but the last of its kind full, and *blocks with the
+ * number of its blocks, at most MCS_CARD_BLOCKS. The octets behind them stay as they were. Loading what was written gives the tables
+ * back, and writing what was loaded from a card that is filled so gives that card. Refusals: 200, 213. */
+uint32_t mcs_card_write(MCS_CATALOGUE, uint8_t *card, size_t card_len, uint32_t *blocks);
 
 /* Cue sheet: fills the front of starts with the segment starts of one track, in hundredths of a second, and *count with their
  * number. A line `INDEX 01 mm:ss:ff`, with ss up to 59 and ff up to 74, gives a start of (60 mm + ss) 100 plus the whole part

@@ -62,6 +62,7 @@
     ROW(MCS_BAD_CARD_LENGTH, "the card's length is no multiple of 512, or over 65,536")                                        \
     ROW(MCS_BAD_BLOCK, "a block of the card breaks a rule")                                                                    \
     ROW(MCS_NO_ROOM, "the card holds more than a catalogue, or the lent tables, may")                                          \
+    ROW(MCS_NO_CARD_ROOM, "the card has more blocks than there is room for")                                                   \
     ROW(MCS_LONG_SHEET, "the cue sheet has over 65,536 octets")                                                                \
     ROW(MCS_BAD_LINE, "a line of the cue sheet is not understood")                                                             \
     ROW(MCS_NOT_RISING, "the first start is not 0, or a start is not above the one before")                                    \
@@ -227,6 +228,13 @@ static inline uint32_t mcs_catalogue_load(const uint8_t *card, size_t card_len, 
         catalogue->text_len = counts[3];
     }
     return number;
+}
+
+/* Card write. */
+static inline uint32_t mcs_catalogue_write(const struct mcs_catalogue *catalogue, uint8_t *card, size_t card_len,
+                                           uint32_t *blocks)
+{
+    return mcs_card_write(MCS_LENT(*catalogue), card, card_len, blocks);
 }
 
 /* Cue sheet; starts is the table that is filled, and starts_len its room. */
