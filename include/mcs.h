@@ -206,8 +206,8 @@ extern "C" {
                                    * everything else, unsubscribing too, leaves them where they were */
 
 /* ---- Calls ------------------------------------------------------------------------------------------------------------------
- * The catalogue is lent to every call but card load and cue sheet, a state to every call but those two and card write: three tables of words and the text, lengths in words and in
- * octets.
+ * The catalogue is lent to every call but card load and cue sheet: three tables of words and the text, lengths in words and in
+ * octets. A state is lent to every call but these two and card write.
  */
 #define MCS_CATALOGUE                                                                                                          \
     const uint32_t *groups, size_t groups_len, const uint32_t *tracks, size_t tracks_len, const uint32_t *segments,            \
