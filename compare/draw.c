@@ -31,6 +31,23 @@ mood random_mood(dice *d, uint32_t wrong) { return mood_of(MOODS[below(d, sizeof
 
 /* ---- What a write, and a read, is about */
 
+/* Whether the position is 299 or 300 past the start of a segment behind the first: beside the margin of Previous Segment. */
+static int beside_margin(const run *r)
+{
+    const uint32_t *record;
+    if (!has_track(r)) {
+        return 0;
+    }
+    record = r->lent.tracks + MCS_TRACK_WORDS * r->second.track;
+    for (uint32_t k = 1; k < record[SEGMENT_COUNT] && record[FIRST_SEGMENT] + k < SEGMENTS_ROOM; k++) {
+        uint32_t past = r->second.position - r->lent.segments[record[FIRST_SEGMENT] + k];
+        if (past == 299 || past == 300) {
+            return 1;
+        }
+    }
+    return 0;
+}
+
 static void draw_control(dice *d, const run *r, uint32_t wrong, step *s)
 {
     uint8_t opcode = OPCODE[below(d, OPCODES)];
@@ -39,6 +56,9 @@ static void draw_control(dice *d, const run *r, uint32_t wrong, step *s)
     }
     if (r->second.media == REF_SEEKING && one_in(d, 4)) {
         opcode = (uint8_t)ONE_OF(d, 0x03, 0x04); /* so that the end rungs are reached */
+    }
+    if (beside_margin(r) && one_in(d, 2)) {
+        opcode = MCS_OPCODE_PREVIOUS_SEGMENT; /* of the many positions few are there */
     }
     if (one_in(d, 24)) {
         opcode =
