@@ -45,7 +45,7 @@ static double batch(const row *r, uint32_t times, uint32_t which)
 {
     static struct {
         uint8_t out[MCS_OUTPUT_OCTETS];
-        uint32_t word, served[3], counts[4], line, starts[MOST_STARTS];
+        uint32_t word, served[3], counts[4], block, line, starts[MOST_STARTS];
         tables loaded;
         uint8_t card[MCS_CARD_OCTETS];
     } answers;
@@ -66,6 +66,7 @@ static double batch(const row *r, uint32_t times, uint32_t which)
     c.word = &answers.word;
     c.served = answers.served;
     c.counts = answers.counts;
+    c.block = &answers.block;
     c.line = &answers.line;
     began = now();
     for (uint32_t k = 0; k < times; k++) {

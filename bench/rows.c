@@ -17,7 +17,7 @@
 /* What a call hands back beside its number and the state. */
 typedef struct {
     uint8_t out[MCS_OUTPUT_OCTETS];
-    uint32_t word, served[3], counts[4], line;
+    uint32_t word, served[3], counts[4], block, line;
     tables loaded;
     uint32_t starts[MOST_STARTS];
     uint8_t card[MCS_CARD_OCTETS];
@@ -45,6 +45,7 @@ static call lend(call made, void *state, answers *a)
     made.word = &a->word;
     made.served = a->served;
     made.counts = a->counts;
+    made.block = &a->block;
     made.line = &a->line;
     return made;
 }

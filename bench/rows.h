@@ -42,7 +42,7 @@ void add_cue_sheets(table *t);
 
 void add_card_load(table *t, const catalogue *c);
 
-/* Whether all programs give the same to a row: number, state, output, counts, line, starts and loaded tables. */
+/* Whether all programs give the same to a row: number, state, output, counts, block, line, starts and loaded tables. */
 int row_agrees(const row *r);
 
 #endif

@@ -1,20 +1,26 @@
-/* A card, loaded and written again.
+/* A card, loaded and checked, or loaded and written again.
  *
+ *     card check FILE
  *     card copy FROM TO
  *
- * Loads the card file FROM, checks its catalogue, writes the catalogue's card to the file TO, and says what differs: a card of which
- * a block in the middle is not full has the same tables, and other octets. Exit status 0, or 1 where the card or its catalogue is
- * refused, or 2 where a file cannot be read or written or the program is called otherwise.
+ * Check loads the card file FILE, says what it holds, and whether its catalogue is right. Copy loads and checks the card file FROM,
+ * writes the catalogue's card to the file TO, and says what differs: a card of which a block in the middle is not full has the same
+ * tables, and other octets. Of a card that is refused for a block, both say which block it is, and what is wrong with it.
+ * Exit status 0, or 1 where the card or its catalogue is refused, or 2 where a file cannot be read or written or the program is
+ * called otherwise.
  */
 #include <stdio.h>
 #include <string.h>
 
 #include "file.h"
+#include "refused_card.h"
 #include "tables.h"
 
 /* One octet more than the longest card, so that a longer file is refused for its length. */
 static uint8_t from[MCS_CARD_OCTETS + 1u], to[MCS_CARD_BLOCKS * MCS_BLOCK_OCTETS];
+static size_t from_len;
 static tables loaded;
+static struct mcs_catalogue catalogue;
 
 static int write_file(const char *path, const uint8_t *octets, size_t len)
 {
@@ -27,16 +33,36 @@ static int write_file(const char *path, const uint8_t *octets, size_t len)
     return fclose(file) == 0 && whole;
 }
 
-static int refuse(const char *what, uint32_t number)
+/* The card of a file into the catalogue; the exit status. */
+static int load(const char *path)
 {
-    printf("%s is refused, %u: %s.\n", what, number, mcs_refusal_words(number));
+    struct mcs_room room = whole_room(&loaded);
+    uint32_t number, block = 0;
+
+    if (!read_file(path, from, sizeof from, &from_len)) {
+        fprintf(stderr, "card: cannot read %s\n", path);
+        return 2;
+    }
+    number = mcs_catalogue_load(from, from_len, &room, &catalogue, &block);
+    if (number != MCS_OK) {
+        print_refusal(stdout, "The card", number, from, block);
+        return 1;
+    }
+    printf("Loaded: %zu groups, %zu tracks, %zu segments, %zu octets of text.\n", catalogue.groups_len / MCS_GROUP_WORDS,
+           catalogue.tracks_len / MCS_TRACK_WORDS, catalogue.segments_len, catalogue.text_len);
+    return 0;
+}
+
+static int refuse_catalogue(uint32_t number)
+{
+    print_refusal(stdout, "Its catalogue", number, from, 0);
     return 1;
 }
 
 /* The blocks that are not the same, or that only one of the two has. */
-static void print_differences(size_t len, uint32_t blocks)
+static void print_differences(uint32_t blocks)
 {
-    size_t before = len / MCS_BLOCK_OCTETS, both = before < blocks ? before : blocks, k, differing = 0, first = 0;
+    size_t before = from_len / MCS_BLOCK_OCTETS, both = before < blocks ? before : blocks, k, differing = 0, first = 0;
     for (k = 0; k < both; k++) {
         if (memcmp(from + MCS_BLOCK_OCTETS * k, to + MCS_BLOCK_OCTETS * k, MCS_BLOCK_OCTETS) != 0) {
             first = differing == 0 ? k : first;
@@ -53,35 +79,52 @@ static void print_differences(size_t len, uint32_t blocks)
     }
 }
 
-int main(int count, char **words)
+static int check(const char *path)
 {
-    struct mcs_room room = whole_room(&loaded);
-    struct mcs_catalogue catalogue;
-    uint32_t number, blocks = 0;
-    size_t len;
+    int status = load(path);
+    uint32_t number, blocks;
 
-    if (count != 4 || strcmp(words[1], "copy") != 0) {
-        fprintf(stderr, "card copy FROM TO loads a card, checks it, writes it again and says what differs.\n");
-        return 2;
+    if (status != 0) {
+        return status;
     }
-    if (!read_file(words[2], from, sizeof from, &len)) {
-        fprintf(stderr, "card: cannot read %s\n", words[2]);
-        return 2;
+    /* A card write looks at the catalogue first, and without room it writes nothing. */
+    number = mcs_catalogue_write(&catalogue, NULL, 0, &blocks);
+    if (number == MCS_BAD_CATALOGUE) {
+        return refuse_catalogue(number);
     }
-    number = mcs_catalogue_load(from, len, &room, &catalogue);
-    if (number != MCS_OK) {
-        return refuse("The card", number);
+    printf("Its catalogue is right.\n");
+    return 0;
+}
+
+static int copy(const char *from_path, const char *to_path)
+{
+    int status = load(from_path);
+    uint32_t number, blocks = 0;
+
+    if (status != 0) {
+        return status;
     }
-    printf("Loaded: %zu groups, %zu tracks, %zu segments, %zu octets of text.\n", catalogue.groups_len / MCS_GROUP_WORDS,
-           catalogue.tracks_len / MCS_TRACK_WORDS, catalogue.segments_len, catalogue.text_len);
     number = mcs_catalogue_write(&catalogue, to, sizeof to, &blocks);
     if (number != MCS_OK) {
-        return refuse("Its catalogue", number);
+        return refuse_catalogue(number);
     }
-    if (!write_file(words[3], to, MCS_BLOCK_OCTETS * blocks)) {
-        fprintf(stderr, "card: cannot write %s\n", words[3]);
+    if (!write_file(to_path, to, MCS_BLOCK_OCTETS * blocks)) {
+        fprintf(stderr, "card: cannot write %s\n", to_path);
         return 2;
     }
-    print_differences(len, blocks);
+    print_differences(blocks);
     return 0;
+}
+
+int main(int count, char **words)
+{
+    if (count == 3 && strcmp(words[1], "check") == 0) {
+        return check(words[2]);
+    }
+    if (count == 4 && strcmp(words[1], "copy") == 0) {
+        return copy(words[2], words[3]);
+    }
+    fprintf(stderr, "card check FILE loads a card and says what it holds and whether it is right.\n"
+                    "card copy FROM TO loads a card, checks it, writes it again and says what differs.\n");
+    return 2;
 }

@@ -75,6 +75,9 @@ static void alter_card(run *r, const step *s)
     if (s->kind == SWAP_BLOCKS && s->who < MOST_BLOCKS && s->what < MOST_BLOCKS) {
         swap_blocks(c, s->who, s->what);
     }
+    if (s->kind == SPOIL_BLOCK && s->who < MOST_BLOCKS) {
+        spoil_block(c, s->who, s->number, s->what);
+    }
     if (s->kind == WRITTEN_CARD) {
         *c = r->written;
     }

@@ -1,5 +1,6 @@
 #include "blocks.h"
 #include "random.h"
+#include "words.h"
 
 #include <string.h>
 
@@ -45,4 +46,66 @@ void swap_blocks(card *c, uint32_t one, uint32_t other)
     number_block(c, other);
     mend_block(c, one);
     mend_block(c, other);
+}
+
+/* ---- Bad blocks */
+
+static int among(uint32_t reasons, uint32_t reason) { return (reasons >> reason & 1u) != 0; }
+
+/* Another one, in either octet. */
+static void spoil_number(dice *d, uint8_t *at)
+{
+    uint32_t octet = NUMBER_AT + below(d, 2);
+    at[octet] = (uint8_t)(at[octet] + (one_in(d, 2) ? 1u : between(d, 1, 255)));
+}
+
+/* One that falls where it can, half of the time, or where it has to; else one that there is not. */
+static void spoil_kind(dice *d, uint8_t *at, uint32_t before, int has_to_fall)
+{
+    if (before > 1 && (has_to_fall || one_in(d, 2))) {
+        at[KIND_AT] = (uint8_t)between(d, 1, (before <= TABLES ? before : TABLES + 1u) - 1u);
+    } else {
+        at[KIND_AT] = (uint8_t)ONE_OF(d, 0, TABLES + 1u, TABLES + 2u, 128, 255);
+    }
+}
+
+/* 0, or more than the kind has; 0 where the padding is to be wrong as well, since behind more there is none. */
+static uint32_t wrong_count(dice *d, uint32_t most, int has_padding)
+{
+    return has_padding ? 0 : ONE_OF(d, 0, most + 1u, most + 1u, most + 2u, 506, 512, 0xFFFF);
+}
+
+void spoil_block(card *c, uint32_t block, uint32_t reasons, uint32_t how)
+{
+    dice d = dice_of(how, 0);
+    uint8_t *at = c->octets + MCS_BLOCK_OCTETS * block;
+    uint32_t kind = at[KIND_AT], count = half_word_at(at + COUNT_AT), table, most, end;
+    int has_padding = among(reasons, WRONG_PADDING);
+    if (among(reasons, WRONG_NUMBER)) {
+        spoil_number(&d, at);
+    }
+    if (among(reasons, WRONG_KIND)) {
+        spoil_kind(&d, at, kind_before(c, block), has_padding);
+    }
+    /* A kind that there is not has as many records as any has, of one octet. */
+    table = at[KIND_AT] >= 1 && at[KIND_AT] <= TABLES ? at[KIND_AT] - 1u : (uint32_t)TEXT;
+    most = block_room(table);
+    if (among(reasons, WRONG_COUNT)) {
+        count = wrong_count(&d, most, has_padding);
+    } else if (at[KIND_AT] != kind || (has_padding && table == TEXT)) {
+        count = between(&d, 1, most - 1u); /* one that leaves padding */
+    }
+    put_half_word(at + COUNT_AT, count);
+    end = records_end(table, count);
+    if (end < SUM_AT) {
+        memset(at + end, 0, SUM_AT - end);
+    }
+    if (has_padding && end < SUM_AT) {
+        at[one_in(&d, 3) ? end : one_in(&d, 2) ? SUM_AT - 1u : between(&d, end, SUM_AT - 1u)] = (uint8_t)between(&d, 1, 255);
+    }
+    mend_block(c, block);
+    if (among(reasons, WRONG_CHECK)) {
+        uint32_t octet = one_in(&d, 2) ? SUM_AT : SUM_OF_SUMS_AT;
+        at[octet] = (uint8_t)(at[octet] + (one_in(&d, 2) ? 1u : between(&d, 1, 255)));
+    }
 }

@@ -1,4 +1,5 @@
 #include "count.h"
+#include "judge.h"
 #include "octets.h"
 #include "service.h"
 
@@ -10,6 +11,8 @@
 #define LEAST_TRUTHS 500u
 enum { CONNECTED, ENCRYPTED, ENCRYPTED_UNCONNECTED, TRUTHS };
 enum { IN_FIRST, AT_ITS_START, WITHIN_MARGIN, LAST_WITHIN, AT_MARGIN, BEYOND_MARGIN, PREVIOUS_FROM };
+enum { FIRST_BLOCK, MIDDLE_BLOCK, LAST_BLOCK, BLOCK_PLACES };
+enum { BEHIND_LIMIT, BEHIND_ROOM, OVERFULL };
 enum { NO_BLOCKS, EXACT_ROOM, ROOM_BEHIND, ONE_OCTET_SHORT, WRITE_BOUNDS };
 enum { REACHES_END, STAYS_AT_END, SEEKS_AT_END, NEGATIVE_WRITE, RUNNING_CASES };
 enum { NO_STARTS, NO_ROOM_LEFT, LONGEST, ONE_TOO_LONG, BOUNDS };
@@ -21,6 +24,8 @@ static unsigned long taken[CHARACTERISTIC_BOUND], read_whole[CHARACTERISTIC_BOUN
     written[CHARACTERISTIC_BOUND];
 static unsigned long by_truth[TRUTHS][REF_CLIENTS], by_truth_value[NUMBERS], by_mended[CALLS][NUMBERS];
 static unsigned long by_next[3][4], by_bound[BOUNDS], by_previous[PREVIOUS_FROM], by_running[RUNNING_CASES], by_room[WRITE_BOUNDS];
+static unsigned long by_reason[REASONS][BLOCK_PLACES], by_pair[REASONS][REASONS], by_two[REASONS][REASONS],
+    by_overfull[REASONS][OVERFULL], by_length[REASONS];
 
 static uint32_t counted_as(uint32_t number) { return number < NUMBERS ? number : NUMBERS - 1u; }
 
@@ -136,6 +141,55 @@ static void count_sheet(const run *r, const step *s)
     }
 }
 
+/* ---- Bad blocks (document 02, W-205): each reason alone and each two in one block, two bad blocks, and bad blocks where 210 or
+ * 212 applies too */
+
+/* What is wrong with the block that is named, where it is one reason alone or two. */
+static void count_reasons(uint32_t reasons, uint32_t block, uint32_t blocks)
+{
+    uint32_t first = first_reason(reasons), others = reasons & ~(1u << first), second;
+    if (others == 0) {
+        by_reason[first][block == 0 ? FIRST_BLOCK : block + 1u < blocks ? MIDDLE_BLOCK : LAST_BLOCK]++;
+        return;
+    }
+    second = first_reason(others);
+    by_pair[first][second] += others == 1u << second;
+}
+
+/* Whether the blocks before this one hold more than a limit, or than the room, already. */
+static void count_overfull(const run *r, const step *s, uint32_t reason, uint32_t block)
+{
+    static const uint32_t MOST[TABLES] = {MCS_MOST_GROUPS, MCS_MOST_TRACKS, MCS_MOST_SEGMENTS, MCS_MOST_TEXT};
+    uint32_t records[TABLES], over_limit = 0, over_room = 0;
+    records_before(&r->lent_card, block, records);
+    for (uint32_t table = 0; table < TABLES; table++) {
+        over_limit |= records[table] > MOST[table];
+        over_room |= records[table] > s->room[table] / record_entries(table);
+    }
+    by_overfull[reason][BEHIND_LIMIT] += over_limit;
+    by_overfull[reason][BEHIND_ROOM] += over_room && !over_limit;
+}
+
+static void count_blocks(const run *r, const step *s)
+{
+    const card *c = &r->lent_card;
+    uint32_t blocks = c->length / MCS_BLOCK_OCTETS, lowest = next_bad_block(c, 0), next, reason;
+    if (lowest == blocks) {
+        return;
+    }
+    reason = first_reason(reasons_against(c, lowest));
+    if (c->length % MCS_BLOCK_OCTETS != 0 || blocks > MOST_BLOCKS) {
+        by_length[reason]++;
+        return;
+    }
+    count_reasons(reasons_against(c, lowest), lowest, blocks);
+    count_overfull(r, s, reason, lowest);
+    next = next_bad_block(c, lowest + 1u);
+    if (next < blocks) {
+        by_two[reason][first_reason(reasons_against(c, next))]++;
+    }
+}
+
 /* ---- Card writes at a bound of the room */
 
 static void count_written(const run *r, const step *s)
@@ -218,6 +272,9 @@ void count_call(const run *r, const step *s, uint32_t share)
     if (s->kind == CUE_SHEET) {
         count_sheet(r, s);
     }
+    if (s->kind == CARD_LOAD) {
+        count_blocks(r, s);
+    }
     if (s->kind == CARD_WRITE) {
         count_written(r, s);
     }
@@ -265,7 +322,8 @@ static void tell(unsigned long count, unsigned long least, const char *format, .
     }
 }
 
-/* The rows of document 01's table that can apply, of a cue sheet document 02's, in their order; 0, accepted, ends each list. */
+/* The rows of document 01's table that can apply, of cards and cue sheets also document 02's, in their order; 0, accepted, ends
+ * each list. */
 static const uint8_t ROWS[CALLS][12] = {
     [START] = {200, 207, 0},
     [SET_NAME] = {200, 201, 207, 0},
@@ -279,7 +337,7 @@ static const uint8_t ROWS[CALLS][12] = {
     [READ] = {200, 205, 201, 202, 203, 0x01, 0x02, 0x0F, 0x80, 0x07, 0},
     [WRITE] = {200, 201, 202, 203, 0x01, 0x03, 0x0F, 0x0D, 0x13, 0x11, 0},
     [TAKE] = {200, 205, 201, 0},
-    [CARD_LOAD] = {210, 211, 212, 0},
+    [CARD_LOAD] = {210, 211, 215, 216, 217, 218, 212, 0},
     [CUE_SHEET] = {225, 226, 227, 228, 0},
     [CARD_WRITE] = {200, 213, 0},
 };
@@ -324,11 +382,6 @@ static void tell_player(void)
             tell(by_move[order][move][1], order != 1 || move > 1, "%s", MOVE[move]);
             tell(by_move[order][move][4], order % 2u == 1 && move != 2 && move != 3, "%s not made", MOVE[move]);
         }
-    }
-    row("card writes");
-    for (uint32_t k = 0; k < WRITE_BOUNDS; k++) {
-        static const char *const WHAT[WRITE_BOUNDS] = {"no blocks", "exact room", "room behind", "an octet short of a block"};
-        tell(by_room[k], 1, "%s", WHAT[k]);
     }
     row("Previous Segment");
     for (uint32_t k = 0; k < PREVIOUS_FROM; k++) {
@@ -407,6 +460,40 @@ static void tell_dead(void)
     }
 }
 
+static void tell_cards(void)
+{
+    static const char *const PLACE[BLOCK_PLACES] = {"the first", "one in the middle", "the last"};
+    static const char *const WHAT[WRITE_BOUNDS] = {"no blocks", "exact room", "room behind", "an octet short of a block"};
+    for (uint32_t k = 0; k < REASONS; k++) {
+        row("card loads refused for %u alone, by the block", (unsigned)REASON_NUMBER[k]);
+        for (uint32_t place = 0; place < BLOCK_PLACES; place++) {
+            tell(by_reason[k][place], 1, "%s", PLACE[place]);
+        }
+    }
+    row("two reasons in the block that is named");
+    for (uint32_t k = 0; k < REASONS; k++) {
+        for (uint32_t other = k + 1u; other < REASONS; other++) {
+            tell(by_pair[k][other], 1, "%u and %u", (unsigned)REASON_NUMBER[k], (unsigned)REASON_NUMBER[other]);
+        }
+    }
+    for (uint32_t k = 0; k < REASONS; k++) {
+        row("card loads refused for %u, by the next bad block's reason", (unsigned)REASON_NUMBER[k]);
+        for (uint32_t other = 0; other < REASONS; other++) {
+            tell(by_two[k][other], 1, "%u", (unsigned)REASON_NUMBER[other]);
+        }
+    }
+    for (uint32_t k = 0; k < REASONS; k++) {
+        row("bad blocks with %u", (unsigned)REASON_NUMBER[k]);
+        tell(by_overfull[k][BEHIND_LIMIT], 1, "behind more than a limit");
+        tell(by_overfull[k][BEHIND_ROOM], 1, "behind more than the room");
+        tell(by_length[k], 1, "on a card of a wrong length");
+    }
+    row("card writes");
+    for (uint32_t k = 0; k < WRITE_BOUNDS; k++) {
+        tell(by_room[k], 1, "%s", WHAT[k]);
+    }
+}
+
 static void tell_sheets(void)
 {
     static const char *const NAME[BOUNDS] = {"accepted without starts", "accepted with no room left",
@@ -455,6 +542,7 @@ static void tell_all(void)
     tell_characteristics("reads above 0 by characteristic", read_on, MCS_MAY_READ);
     tell_characteristics("writes by characteristic", written, MCS_MAY_WRITE);
     tell_truths();
+    tell_cards();
     tell_sheets();
 }
 

@@ -22,6 +22,7 @@ static const struct {
     {offsetof(call, word), NO_LENGTH, 4, 1, "the length of a read, count of a cue sheet or blocks of a card write"},
     {offsetof(call, served), NO_LENGTH, 4, 3, "what a take served"},
     {offsetof(call, counts), NO_LENGTH, 4, 4, "the counts of a card load"},
+    {offsetof(call, block), NO_LENGTH, 4, 1, "the block of a card load"},
     {offsetof(call, line), NO_LENGTH, 4, 1, "the line of a cue sheet"},
     TABLES_OF(room, "a loaded table"),
     {offsetof(call, starts), offsetof(call, starts_len), 4, STARTS_ROOM, "the starts"},
@@ -80,6 +81,7 @@ static void fill_answer(const step *s, answer *a)
     a->served[0] = a->served[1] = a->served[2] = a->length + 1u;
     a->counts[0] = a->counts[1] = a->counts[2] = a->counts[3] = a->length + 2u;
     a->line = a->length + 3u;
+    a->block = a->length + 4u;
     for (uint32_t k = 0; has_output(s->kind) && k < OUT_ROOM; k++) {
         a->out[k] = filled(s->fill, k);
     }
@@ -90,6 +92,7 @@ static void lend_card(run *r, const step *s, call *c)
     c->octets = r->lent_card.octets;
     c->length = r->lent_card.length;
     c->counts = r->second_said.counts;
+    c->block = &r->second_said.block;
     c->room = whole_room(&r->loaded);
     for (uint32_t table = 0; table < TABLES; table++) {
         lend_entries(c, ROOM + table, s->room[table]);

@@ -5,7 +5,7 @@
 #include "run.h"
 
 /* What calls are lent, inputs and outputs. The tables of a catalogue come first, by their numbers. */
-enum { THE_STATE = TABLES, OCTETS, OUTPUT, WORD, SERVED, COUNTS, LINE, ROOM, STARTS = ROOM + TABLES, WRITTEN, BUFFERS };
+enum { THE_STATE = TABLES, OCTETS, OUTPUT, WORD, SERVED, COUNTS, BLOCK, LINE, ROOM, STARTS = ROOM + TABLES, WRITTEN, BUFFERS };
 
 /* Where a buffer of a call lies, its entries, which are words or octets, and its octets. One of a fixed size has none where the
  * call is not lent it. */

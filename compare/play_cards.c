@@ -1,9 +1,13 @@
-/* Cards: made of a catalogue, damaged, and loaded into tables of any room; and written, into any room. */
+/* Cards: made of a catalogue, damaged or with bad blocks, and loaded into tables of any room; and written, into any room. */
 #include "blocks.h"
 #include "damage.h"
 #include "play.h"
 
 #include <string.h>
+
+/* How often a table is lent too small: one in so many. */
+#define USUAL 16u
+#define OFTEN 6u
 
 static int room_suffices(const run *r, const step *s)
 {
@@ -15,12 +19,13 @@ static int room_suffices(const run *r, const step *s)
     return 1;
 }
 
-static void draw_room(play *p, step *s)
+/* One table in `small` may be too small. */
+static void draw_room(play *p, uint32_t small, step *s)
 {
     for (uint32_t table = 0; table < TABLES; table++) {
         uint32_t length = p->r->lent.length[table], record = record_entries(table);
         s->room[table] = length + below(&p->d, 2u * record + 2u);
-        if (one_in(&p->d, 16)) {
+        if (one_in(&p->d, small)) {
             s->room[table] = ONE_OF(&p->d, 0, length - 1u, length - record, length / 2u, table_room(table));
         }
         if (s->room[table] > table_room(table)) {
@@ -38,18 +43,37 @@ static int gave_the_catalogue(const run *r)
            loaded_what_is_lent(r);
 }
 
-static void load(play *p, int right)
+/* Whether of a card of a right length the lowest bad block is named, and what is wrong with it; and of no other any block. */
+static int named_the_block(const run *r)
+{
+    const card *c = &r->lent_card;
+    const answer *a = &r->second_said;
+    uint32_t lowest;
+    if (c->length % MCS_BLOCK_OCTETS != 0 || c->length > MCS_CARD_OCTETS) {
+        return a->number == MCS_BAD_CARD_LENGTH;
+    }
+    lowest = next_bad_block(c, 0);
+    if (lowest == c->length / MCS_BLOCK_OCTETS) {
+        return a->number == 0 || a->number == MCS_NO_ROOM;
+    }
+    return a->number == REASON_NUMBER[first_reason(reasons_against(c, lowest))] && a->block == lowest;
+}
+
+static void load(play *p, uint32_t small, int right)
 {
     step *s = new_step(p);
     if (!p->going) {
         return;
     }
     blank_step(&p->d, CARD_LOAD, s);
-    draw_room(p, s);
+    draw_room(p, small, s);
     right = right && room_suffices(p->r, s);
     take_step(p);
     if (right && !gave_the_catalogue(p->r)) {
         cannot_be(p, "both load something else from a card that was made right");
+    }
+    if (p->going && !named_the_block(p->r)) {
+        cannot_be(p, "both say something else of the card's blocks than is to be seen in them");
     }
 }
 
@@ -77,6 +101,28 @@ static void sum_of_0(play *p)
     if (one_in(&p->d, 2)) {
         poke_card(p, MCS_BLOCK_OCTETS * block + (of_sums ? SUM_OF_SUMS_AT : SUM_AT), 255);
     }
+}
+
+/* One reason, or two. */
+static uint32_t some_reasons(dice *d)
+{
+    uint32_t reasons = 1u << below(d, REASONS);
+    return one_in(d, 2) ? reasons : reasons | 1u << below(d, REASONS);
+}
+
+/* A bad block: the first, the last, or any. */
+static void spoil(play *p)
+{
+    uint32_t blocks = p->r->lent_card.length / MCS_BLOCK_OCTETS;
+    step *s = new_step(p);
+    if (!p->going || blocks == 0) {
+        return;
+    }
+    blank_step(&p->d, SPOIL_BLOCK, s);
+    s->who = one_in(&p->d, 4) ? 0 : one_in(&p->d, 3) ? blocks - 1u : below(&p->d, blocks);
+    s->number = some_reasons(&p->d);
+    s->what = any_word(&p->d);
+    take_step(p);
 }
 
 /* Records beyond a limit. */
@@ -131,25 +177,32 @@ static void write_right_card(play *p)
         return;
     }
     bare_step(p, WRITTEN_CARD, 0);
-    load(p, 1);
+    load(p, USUAL, 1);
 }
 
 void play_cards(play *p)
 {
     p->share = FROM_CARD;
     for (uint32_t round = 0; round < 12 && goes_on(p); round++) {
-        int beyond = one_in(&p->d, 10), right = !beyond && one_in(&p->d, 4);
+        int beyond = one_in(&p->d, 10), right = !beyond && one_in(&p->d, 4), bad = !right && one_in(&p->d, 2);
         bare_step(p, KEEP, 0);
         if (beyond) {
             too_many(p);
         }
         bare_step(p, MAKE_CARD, one_in(&p->d, 3) ? 0 : any_word(&p->d));
-        if (!right && one_in(&p->d, 8)) {
+        if (bad) {
+            for (uint32_t k = few_times(p); k > 0; k--) {
+                spoil(p);
+            }
+            if (one_in(&p->d, 16)) {
+                bare_step(p, CARD_LENGTH, p->r->lent_card.length + between(&p->d, 1, MCS_BLOCK_OCTETS - 1u));
+            }
+        } else if (!right && one_in(&p->d, 4)) {
             sum_of_0(p);
         } else if (!right && !(beyond && one_in(&p->d, 2))) {
             damage(p, few_times(p), damage_card);
         }
-        load(p, right);
+        load(p, bad ? OFTEN : USUAL, right);
         if (beyond) {
             write_card(p);
         }

@@ -88,9 +88,11 @@ static void print_answer(FILE *out, const char *program, const step *s, const an
     } else if (s->kind == TAKE && a->number == 0) {
         fprintf(out, ", client %u, characteristic %u,", (unsigned)a->served[0], (unsigned)a->served[1]);
         print_octets(out, a->out, a->served[2] < OUT_ROOM ? a->served[2] : OUT_ROOM);
-    } else if (s->kind == CARD_LOAD && a->number == 0) {
-        fprintf(out, ", counts %u %u %u %u", (unsigned)a->counts[0], (unsigned)a->counts[1], (unsigned)a->counts[2],
-                (unsigned)a->counts[3]);
+    } else if (s->kind == CARD_LOAD && a->number != 0) {
+        fprintf(out, ", block %u", (unsigned)a->block);
+    } else if (s->kind == CARD_LOAD) {
+        fprintf(out, ", counts %u %u %u %u, block %u", (unsigned)a->counts[0], (unsigned)a->counts[1], (unsigned)a->counts[2],
+                (unsigned)a->counts[3], (unsigned)a->block);
     }
     fprintf(out, "\n");
 }

@@ -18,7 +18,10 @@ void lend_tables(run *r, const tables *t)
 void begin_run(run *r, const tables *t)
 {
     lend_tables(r, t);
-    r->lent_card.length = r->lent_sheet.length = 0;
+    /* A card that is made longer, or taken from what was written, has nothing of a run before this one. */
+    memset(&r->lent_card, 0, sizeof r->lent_card);
+    memset(&r->written, 0, sizeof r->written);
+    r->lent_sheet.length = 0;
     memset(r->octets, 0, sizeof r->octets);
     state_of_octets(r->octets, &r->second);
     remember(r);
@@ -119,14 +122,29 @@ static int same_twice(run *r, const call made[2], const uint32_t number[2])
     return buffer == NULL || differs_in(r, "over another stack the library left something else", buffer);
 }
 
+/* A block and a line are written by the refusals that carry them, and by nothing else. */
+static int carried_alone(run *r, uint32_t block, uint32_t line)
+{
+    const answer *a = &r->library_said;
+    if (a->block != block && !mcs_names_block(a->number)) {
+        return differs(r, "both wrote the block of a card load that carries none");
+    }
+    if (a->line != line && a->number != MCS_BAD_LINE && a->number != MCS_NOT_RISING) {
+        return differs(r, "both wrote the line of a cue sheet that carries none");
+    }
+    return 1;
+}
+
 static int do_call(run *r, const step *s)
 {
     static call plain, second, made[2];
     static uint8_t octets_before[MCS_STATE_OCTETS];
     static ref_state second_before;
-    uint32_t number[2], makings = s->twice ? 2 : 1;
+    uint32_t number[2], makings = s->twice ? 2 : 1, block, line;
     const char *buffer;
     lend_plainly(r, s, &plain);
+    block = r->second_said.block;
+    line = r->second_said.line;
     for (uint32_t k = 0; k < makings; k++) {
         lend_guarded(r, s, &plain, s->against ^ k, &made[k]);
     }
@@ -164,6 +182,9 @@ static int do_call(run *r, const step *s)
     buffer = differing(&made[0], &plain, 0);
     if (buffer != NULL) {
         return differs_in(r, "the programs differ in", buffer);
+    }
+    if (!carried_alone(r, block, line)) {
+        return 0;
     }
     if (s->twice && !same_twice(r, made, number)) {
         return 0;

@@ -15,6 +15,7 @@ typedef struct {
     uint32_t length;       /* of a read; the count of a cue sheet; the blocks of a card write */
     uint32_t served[3];    /* of a take */
     uint32_t counts[4];    /* of a card load */
+    uint32_t block;        /* of a card load */
     uint32_t line;         /* of a cue sheet */
     uint8_t out[OUT_ROOM]; /* of a read or a take; behind what was lent it stays as it was filled */
 } answer;

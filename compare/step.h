@@ -14,6 +14,7 @@ enum {
     POKE_CARD,         /* octet `number` of the card is `what` */
     CARD_LENGTH,       /* the card is lent with `number` octets */
     SWAP_BLOCKS,       /* the blocks `who` and `what` change places, and are numbered anew */
+    SPOIL_BLOCK,       /* block `who` becomes bad for the reasons of `number`; `what` decides in which way */
     WRITTEN_CARD,      /* the card is what was written last */
     MEND_BLOCK,        /* block `number` gets the sums that its octets have */
     NEW_SHEET,         /* the cue sheet is empty */

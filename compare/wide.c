@@ -44,7 +44,7 @@ static tables sample, loaded;
 static card made, written;
 static uint8_t octets[MCS_STATE_OCTETS], out[MCS_OUTPUT_OCTETS], line_of_0[17];
 static ref_state state;
-static uint32_t word, served[3], counts[4], line, starts[1];
+static uint32_t word, served[3], counts[4], block, line, starts[1];
 
 /* A call on the sample that is accepted: the octet 1 is a name, a speed, an order and Play. */
 static call right_call(uint32_t kind, uint32_t what)
@@ -56,6 +56,7 @@ static call right_call(uint32_t kind, uint32_t what)
     c.word = &word;
     c.served = served;
     c.counts = counts;
+    c.block = &block;
     c.line = &line;
     c.room = whole_room(&loaded);
     c.starts = starts;

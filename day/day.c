@@ -15,6 +15,7 @@
 #include "file.h"
 #include "lines.h"
 #include "office.h"
+#include "refused_card.h"
 #include "tables.h"
 
 #define SAMPLE_CARD "crates/orders/stdin"
@@ -158,12 +159,6 @@ static void evening(void)
     leave(SCREEN);
 }
 
-static int refuse(const char *what, uint32_t number)
-{
-    fprintf(stderr, "day: %s: %u: %s\n", what, number, mcs_refusal_words(number));
-    return 1;
-}
-
 /* The first group with tracks, or the number of groups where there is none. */
 static uint32_t first_group_with_tracks(const struct mcs_catalogue *c, uint32_t groups)
 {
@@ -181,7 +176,7 @@ int main(int count, char **words)
     const char *path = count > 1 ? words[1] : SAMPLE_CARD;
     struct mcs_room room = whole_room(&loaded);
     struct mcs_catalogue c;
-    uint32_t number, groups, group;
+    uint32_t number, block = 0, groups, group;
     size_t len;
 
     if (isatty(STDOUT_FILENO) && getenv("NO_COLOR") == NULL) {
@@ -191,12 +186,14 @@ int main(int count, char **words)
         fprintf(stderr, "day: cannot read %s\n", path);
         return 1;
     }
-    number = mcs_catalogue_load(card, len, &room, &c);
+    number = mcs_catalogue_load(card, len, &room, &c, &block);
     if (number == MCS_OK) {
         number = open_office(&c);
     }
     if (number != MCS_OK) {
-        return refuse(path, number);
+        fprintf(stderr, "day: ");
+        print_refusal(stderr, path, number, card, block);
+        return 1;
     }
     groups = (uint32_t)c.groups_len / MCS_GROUP_WORDS;
     printf("Card: %u groups, %u tracks, %u segments, %u octets of text\n", groups, (uint32_t)c.tracks_len / MCS_TRACK_WORDS,

@@ -42,7 +42,7 @@ typedef struct {
     uint8_t *card;        /* of a card write */
     size_t card_len;
     uint32_t *word; /* the length of a read, the count of a cue sheet, the blocks of a card write */
-    uint32_t *served, *counts, *line;
+    uint32_t *served, *counts, *block, *line;
 } call;
 
 /* A card load and a cue sheet are lent neither a state nor a catalogue, a card write no state. */

@@ -1,4 +1,5 @@
 #include "card.h"
+#include "words.h"
 
 #include <string.h>
 
@@ -10,23 +11,29 @@ uint32_t block_room(uint32_t table)
 
 uint32_t blocks_for(uint32_t table, uint32_t records) { return (records + block_room(table) - 1u) / block_room(table); }
 
+uint32_t records_end(uint32_t table, uint32_t count)
+{
+    return RECORDS_AT + count * record_entries(table) * entry_octets(table);
+}
+
+void check_octets(const uint8_t block[MCS_BLOCK_OCTETS], uint8_t check[2])
+{
+    uint32_t sum = 0, sum_of_sums = 0;
+    for (uint32_t k = 0; k < SUM_AT; k++) {
+        sum = (sum + block[k]) % 255u;
+        sum_of_sums = (sum_of_sums + sum) % 255u;
+    }
+    check[0] = (uint8_t)sum;
+    check[1] = (uint8_t)sum_of_sums;
+}
+
 void mend_block(card *c, uint32_t block)
 {
     uint8_t *at = c->octets + MCS_BLOCK_OCTETS * block;
-    uint32_t sum = 0, sum_of_sums = 0;
-    for (uint32_t k = 0; k < SUM_AT; k++) {
-        sum = (sum + at[k]) % 255u;
-        sum_of_sums = (sum_of_sums + sum) % 255u;
-    }
-    at[SUM_AT] = (uint8_t)sum;
-    at[SUM_OF_SUMS_AT] = (uint8_t)sum_of_sums;
+    check_octets(at, at + SUM_AT);
 }
 
-void number_block(card *c, uint32_t block)
-{
-    c->octets[MCS_BLOCK_OCTETS * block + NUMBER_AT] = (uint8_t)block;
-    c->octets[MCS_BLOCK_OCTETS * block + NUMBER_AT + 1] = (uint8_t)(block >> 8);
-}
+void number_block(card *c, uint32_t block) { put_half_word(c->octets + MCS_BLOCK_OCTETS * block + NUMBER_AT, block); }
 
 void add_block(const tables *t, uint32_t table, uint32_t first, uint32_t count, card *c)
 {
@@ -35,8 +42,7 @@ void add_block(const tables *t, uint32_t table, uint32_t first, uint32_t count, 
     memset(at, 0, MCS_BLOCK_OCTETS);
     number_block(c, block);
     at[KIND_AT] = (uint8_t)(table + 1u);
-    at[COUNT_AT] = (uint8_t)count;
-    at[COUNT_AT + 1] = (uint8_t)(count >> 8);
+    put_half_word(at + COUNT_AT, count);
     for (uint32_t k = first * entries; k < (first + count) * entries; k++) {
         uint32_t entry = table_entry(t, table, k);
         for (uint32_t j = 0; j < entry_octets(table); j++) {

@@ -19,13 +19,19 @@ typedef struct {
 uint32_t block_room(uint32_t table);
 uint32_t blocks_for(uint32_t table, uint32_t records);
 
+/* Where so many records of a table end in a block. */
+uint32_t records_end(uint32_t table, uint32_t count);
+
 /* A right block behind the last, with so many records of a table from one on. */
 void add_block(const tables *t, uint32_t table, uint32_t first, uint32_t count, card *c);
 
 /* A right card of the tables' whole records, every block but the last of its kind full. */
 void make_card(const tables *t, card *c);
 
-/* Gives the block its place as its number; the sums that its octets have. */
+/* The check octets that a block's octets before them ask for: their sum, and the sum of their running sums. */
+void check_octets(const uint8_t block[MCS_BLOCK_OCTETS], uint8_t check[2]);
+
+/* Gives the block its place as its number; the check octets that it asks for. */
 void number_block(card *c, uint32_t block);
 void mend_block(card *c, uint32_t block);
 

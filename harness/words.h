@@ -16,6 +16,15 @@ static inline void put_word(uint8_t *octets, uint32_t word)
     }
 }
 
+/* A number of two octets. */
+static inline uint32_t half_word_at(const uint8_t *octets) { return (uint32_t)octets[0] | (uint32_t)octets[1] << 8; }
+
+static inline void put_half_word(uint8_t *octets, uint32_t number)
+{
+    octets[0] = (uint8_t)(number & 0xFFu);
+    octets[1] = (uint8_t)(number >> 8 & 0xFFu);
+}
+
 /* Two's complement. */
 static inline int64_t signed_word(const uint8_t *octets)
 {

@@ -25,6 +25,9 @@
  * - A number that is not MCS_OK says that nothing was altered. MCS_IS_ATT_ERROR tells which numbers are answers to the client,
  *   to be sent as the error code of an ATT Error Response; all others are faults of the host itself (a wrong catalogue, state,
  *   client number or buffer, a card or a cue sheet that is refused), and must not go on air.
+ * - A card that is refused for one bad block need not be thrown away. Where mcs_names_block says so of the number, the host shows
+ *   number, words and block to whoever brought the card: the octets from MCS_BLOCK_OCTETS times the block on are to be looked at,
+ *   or written again. The blocks before it are right; those behind it may be bad too.
  */
 #ifndef MCS_DESK_H
 #define MCS_DESK_H
@@ -37,6 +40,12 @@
 
 /* Whether a number that a call returned is the error code of an ATT Error Response. */
 #define MCS_IS_ATT_ERROR(number) ((number)-1u < 0x80u)
+
+/* Whether a number that a card load returned came with the block that it is about. */
+static inline int mcs_names_block(uint32_t number)
+{
+    return number == MCS_BAD_CHECK || (number >= MCS_BAD_BLOCK_NUMBER && number <= MCS_BAD_PADDING);
+}
 
 /* ROW(number, words), in the order in which a call looks for them. */
 #define MCS_EACH_REFUSAL(ROW)                                                                                                  \
@@ -60,7 +69,11 @@
     ROW(MCS_BAD_NAME, "the name has over 128 octets or is not UTF-8")                                                          \
     ROW(MCS_BAD_GROUP, "the group is absent or has no tracks")                                                                 \
     ROW(MCS_BAD_CARD_LENGTH, "the card's length is no multiple of 512, or over 65,536")                                        \
-    ROW(MCS_BAD_BLOCK, "a block of the card breaks a rule")                                                                    \
+    ROW(MCS_BAD_CHECK, "the check octets of a block do not fit its contents")                                                  \
+    ROW(MCS_BAD_BLOCK_NUMBER, "the number of a block is not its place on the card")                                            \
+    ROW(MCS_BAD_KIND, "the kind of a block is not 1 to 4, or below that of the block before")                                  \
+    ROW(MCS_BAD_COUNT, "the record count of a block is 0, or more than a block of its kind holds")                             \
+    ROW(MCS_BAD_PADDING, "an octet behind the records of a block is not 0")                                                    \
     ROW(MCS_NO_ROOM, "the card holds more than a catalogue, or the lent tables, may")                                          \
     ROW(MCS_NO_CARD_ROOM, "the card has more blocks than there is room for")                                                   \
     ROW(MCS_LONG_SHEET, "the cue sheet has over 65,536 octets")                                                                \
@@ -211,12 +224,13 @@ struct mcs_cue {
 
 /* ---- Calls: what each does, and its refusals, stands in mcs.h ---------------------------------------------------------------- */
 
-/* Card load; where it is accepted, the catalogue is what was loaded, and lies in the room's tables. */
+/* Card load; where it is accepted, the catalogue is what was loaded, and lies in the room's tables. *block is the bad block where
+ * mcs_names_block says so of the number that is returned, and stays as it was by every other. */
 static inline uint32_t mcs_catalogue_load(const uint8_t *card, size_t card_len, const struct mcs_room *room,
-                                          struct mcs_catalogue *catalogue)
+                                          struct mcs_catalogue *catalogue, uint32_t *block)
 {
     uint32_t counts[4] = {0, 0, 0, 0};
-    uint32_t number = mcs_card_load(card, card_len, MCS_LENT(*room), counts);
+    uint32_t number = mcs_card_load(card, card_len, MCS_LENT(*room), counts, block);
     if (number == MCS_OK) {
         catalogue->groups = room->groups;
         catalogue->groups_len = counts[0] * MCS_GROUP_WORDS;

@@ -1,4 +1,4 @@
-/* The desk player core, written along document 01 and the requests of document 02 that have landed: W-201 to W-204, and W-212 for
+/* The desk player core, written along document 01 and the requests of document 02 that have landed: W-201 to W-205, and W-212 for
  * the cue sheet. A comment in quotation marks is a sentence of document 01; where a request is named, and in the cue sheet's
  * part, it is one of document 02. */
 #include "ref.h"
@@ -17,9 +17,13 @@ enum {
     GROUP_WRONG = 208,
     NO_SLOT = 209,
     CARD_LENGTH = 210,
-    BLOCK_WRONG = 211,
+    CHECK_WRONG = 211,
     NO_ROOM = 212,
     CARD_SMALL = 213,
+    NUMBER_WRONG = 215,
+    KIND_WRONG = 216,
+    COUNT_WRONG = 217,
+    PADDING_WRONG = 218,
     SHEET_LONG = 225,
     LINE_WRONG = 226,
     NOT_RISING = 227,
@@ -275,32 +279,41 @@ static void check_octets(const uint8_t *block, uint8_t check[2])
     check[1] = (uint8_t)(sum_of_sums % 255u);
 }
 
-static int block_stands(const uint8_t *block, uint32_t number, uint32_t kind_before)
+/* W-205: "211 becomes check only, then 215, 216, 217, 218 in that order within a block." The first reason against the block,
+ * or 0. The block before it is good, so that its kind octet is a kind; in front of the first block it is 0. */
+static uint32_t block_reason(const uint8_t *block, uint32_t number, uint32_t kind_before)
 {
     uint32_t kind = block[2], count = octets_16(block + 3), k;
     uint8_t check[2];
 
-    /* "Bytes 0–1 block number from 0; 2 kind (1 group, 2 track, 3 segment, 4 text), never falling" */
-    if (octets_16(block) != number || kind < 1 || kind > 4 || kind < kind_before) {
-        return 0;
+    check_octets(block, check);
+    if (block[CHECK_AT] != check[0] || block[CHECK_AT + 1u] != check[1]) {
+        return CHECK_WRONG;
     }
-    /* "3–4 record count" */
+    /* "Bytes 0–1 block number from 0" */
+    if (octets_16(block) != number) {
+        return NUMBER_WRONG;
+    }
+    /* "2 kind (1 group, 2 track, 3 segment, 4 text), never falling" */
+    if (kind < 1 || kind > 4 || kind < kind_before) {
+        return KIND_WRONG;
+    }
+    /* "3–4 record count, 1 up to 42, 21, 126 or 505 by kind" */
     if (count < 1 || count > MOST_RECORDS[kind]) {
-        return 0;
+        return COUNT_WRONG;
     }
     /* "then the records; zeros up to byte 509" */
     for (k = RECORDS_AT + count * RECORD_OCTETS[kind]; k < CHECK_AT; k++) {
         if (block[k] != 0) {
-            return 0;
+            return PADDING_WRONG;
         }
     }
-    check_octets(block, check);
-    return block[CHECK_AT] == check[0] && block[CHECK_AT + 1u] == check[1];
+    return 0;
 }
 
 uint32_t ref_card_load(const uint8_t *card, size_t card_len, uint32_t *groups, size_t groups_len, uint32_t *tracks,
                        size_t tracks_len, uint32_t *segments, size_t segments_len, uint8_t *text, size_t text_len,
-                       uint32_t counts[4])
+                       uint32_t counts[4], uint32_t *block)
 {
     uint32_t total[5] = {0, 0, 0, 0, 0};
     uint32_t blocks, number, kind_before = 0, k;
@@ -311,13 +324,17 @@ uint32_t ref_card_load(const uint8_t *card, size_t card_len, uint32_t *groups, s
         return CARD_LENGTH;
     }
     blocks = (uint32_t)(card_len / BLOCK);
+    /* W-205: "the lowest bad block's number and one of five reasons". The five stand where 211 stood in the table, before 212,
+     * so that all blocks are judged before the totals are. */
     for (number = 0; number < blocks; number++) {
-        const uint8_t *block = card + BLOCK * number;
-        if (!block_stands(block, number, kind_before)) {
-            return BLOCK_WRONG;
+        const uint8_t *at = card + BLOCK * number;
+        uint32_t reason = block_reason(at, number, kind_before);
+        if (reason != 0) {
+            *block = number;
+            return reason;
         }
-        kind_before = block[2];
-        total[kind_before] += octets_16(block + 3);
+        kind_before = at[2];
+        total[kind_before] += octets_16(at + 3);
     }
     /* "a limit or a lent table's room is exceeded" */
     if (total[1] > 64u || total[2] > 256u || total[3] > 1024u || total[4] > 32768u) {
@@ -331,16 +348,16 @@ uint32_t ref_card_load(const uint8_t *card, size_t card_len, uint32_t *groups, s
     words[2] = tracks;
     words[3] = segments;
     for (number = 0; number < blocks; number++) {
-        const uint8_t *block = card + BLOCK * number;
-        uint32_t kind = block[2];
-        uint32_t octets = octets_16(block + 3) * RECORD_OCTETS[kind];
+        const uint8_t *at = card + BLOCK * number;
+        uint32_t kind = at[2];
+        uint32_t octets = octets_16(at + 3) * RECORD_OCTETS[kind];
         if (kind == 4u) {
             for (k = 0; k < octets; k++) {
-                *text++ = block[RECORDS_AT + k];
+                *text++ = at[RECORDS_AT + k];
             }
         } else {
             for (k = 0; k < octets; k += 4u) {
-                *words[kind]++ = octets_32(block + RECORDS_AT + k);
+                *words[kind]++ = octets_32(at + RECORDS_AT + k);
             }
         }
     }

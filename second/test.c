@@ -554,7 +554,7 @@ static void state_cases(void)
 static uint8_t card[129 * 512];
 static size_t card_len;
 static tables got;
-static uint32_t counts[TABLES];
+static uint32_t counts[TABLES], bad_block;
 
 /* The check octets; both sums are held below 255 as they go. */
 static void seal(uint8_t *block)
@@ -578,7 +578,9 @@ static uint8_t *add_block(uint32_t kind, uint32_t count, uint32_t octets)
     return block;
 }
 
-/* Into tables of that room. A refusal leaves them and the counts, a success what lies behind the records. */
+#define UNTOUCHED 0xA5A5A5A5u /* four of FILL */
+/* Into tables of that room. A refusal leaves them and the counts, a success what lies behind the records. W-205: 211 and 215 to
+ * 218 give a block of the card; nothing else touches that word. */
 static uint32_t loads(size_t groups, size_t tracks, size_t segments, size_t text)
 {
     const size_t room[TABLES] = {4 * groups, 4 * tracks, 4 * segments, text}, record[TABLES] = {12, 24, 4, 1};
@@ -586,9 +588,11 @@ static uint32_t loads(size_t groups, size_t tracks, size_t segments, size_t text
     uint32_t refusal;
     memset(&got, FILL, sizeof got);
     memset(counts, FILL, sizeof counts);
+    memset(&bad_block, FILL, sizeof bad_block);
     EACH(0, TABLES) t[k] = exact(to[k], room[k]);
-    refusal = ref_card_load(from, card_len, t[0], groups, t[1], tracks, t[2], segments, t[3], text, counts);
+    refusal = ref_card_load(from, card_len, t[0], groups, t[1], tracks, t[2], segments, t[3], text, counts, &bad_block);
     CHECK(refusal == 0 || all_are(counts, FILL, sizeof counts));
+    CHECK(refusal == 211 || (refusal >= 215 && refusal <= 218) ? bad_block < card_len / 512 : bad_block == UNTOUCHED);
     EACH(0, TABLES) {
         size_t filled = refusal == 0 ? record[k] * counts[k] : 0;
         CHECK(filled <= room[k] && (room[k] == 0 || all_are((uint8_t *)t[k] + filled, FILL, room[k] - filled)));
@@ -599,8 +603,11 @@ static uint32_t loads(size_t groups, size_t tracks, size_t segments, size_t text
     return refusal;
 }
 #define LOADS() loads(195, 1542, 1025, 32769)
+/* W-205: the refusal and the lowest bad block. */
+#define BAD(refusal, at) do { EQUAL(LOADS(), refusal); EQUAL(bad_block, at); } while (0)
 /* A card of one block of one track, changed in one place and sealed again. */
-#define ONE(edit, refusal) do { card_len = 0; b = add_block(2, 1, 24); edit; seal(b); EQUAL(LOADS(), refusal); } while (0)
+#define ONE(edit, refusal)                                                                                                 \
+    do { card_len = 0; b = add_block(2, 1, 24); edit; seal(b); BAD(refusal, (refusal) == 0 ? UNTOUCHED : 0); } while (0)
 
 static void card_cases(void)
 {
@@ -612,27 +619,32 @@ static void card_cases(void)
     EACH(0, 6) EQUAL(got.words[TRACKS][k], 0x04030201u + 0x04040404u * k);
     EACH(0, 3) EQUAL(got.words[GROUPS][k], 0x04030201u + 0x04040404u * k);
     EQUAL(got.words[SEGMENTS][0], 0x04030201u); EQUAL(got.text[0], 1);
-    /* "a lent table's room is exceeded", in whole records; 211 comes before it, for every octet. */
+    /* "a lent table's room is exceeded", in whole records; 211 comes before it, for every octet of every block. */
     EQUAL(loads(12, 18, 2, 1), 0); EQUAL(loads(14, 23, 2, 1), 0); EQUAL(loads(11, 18, 2, 1), 212); EQUAL(loads(12, 17, 2, 1), 212);
     EQUAL(loads(12, 18, 1, 1), 212); EQUAL(loads(12, 18, 2, 0), 212);
-    EACH(0, 2048) { card[k] ^= 0x10; EQUAL(loads(0, 0, 0, 0), 211); card[k] ^= 0x10; }
+    EACH(0, 2048) { card[k] ^= 0x10; EQUAL(loads(0, 0, 0, 0), 211); EQUAL(bad_block, k / 512); card[k] ^= 0x10; }
     /* "card length no multiple of 512, or over 65,536" */
     card_len = 2047; EQUAL(LOADS(), 210); card_len = 65536 + 512; EQUAL(LOADS(), 210); card_len = 0; EQUAL(loads(0, 0, 0, 0), 0);
     /* The octets 4, 1, 250 at 2, 3, 5 have the sum 255, that is 0, and 508 · 4 + 507 · 1 + 505 · 250 = 128,789, that is 14; 255 in
      * place of 0 breaks the block. */
-    b = add_block(4, 1, 1); b[5] = 250; b[510] = 0; b[511] = 14; EQUAL(LOADS(), 0); b[510] = 255; EQUAL(LOADS(), 211);
+    b = add_block(4, 1, 1); b[5] = 250; b[510] = 0; b[511] = 14; EQUAL(LOADS(), 0); b[510] = 255; BAD(211, 0);
     /* W-203: "Same check, same answers". 4, 2, 47, 1 at 2, 3, 5, 6: 54, and 2,032 + 1,014 + 23,735 + 504 = 107 · 255, that is 0. */
-    card_len = 0; b = add_block(4, 2, 2); b[5] = 47; b[6] = 1; b[510] = 54; b[511] = 0; EQUAL(LOADS(), 0); b[511] = 255; EQUAL(LOADS(), 211);
+    card_len = 0; b = add_block(4, 2, 2); b[5] = 47; b[6] = 1; b[510] = 54; b[511] = 0; EQUAL(LOADS(), 0); b[511] = 255; BAD(211, 0);
     /* The greatest sums, of 505 octets of 255 behind 4, 249, 1 at 2, 3, 4: 505 · 255 + 254, and a multiple of 255 more than
      * 2,032 + 126,243 + 506 = 505 · 255 + 6. */
-    card_len = 0; b = add_block(4, 505, 0); memset(b + 5, 255, 505); b[510] = 254; b[511] = 6; EQUAL(LOADS(), 0); b[511] = 7; EQUAL(LOADS(), 211);
+    card_len = 0; b = add_block(4, 505, 0); memset(b + 5, 255, 505); b[510] = 254; b[511] = 6; EQUAL(LOADS(), 0); b[511] = 7; BAD(211, 0);
     /* "Bytes 0–1 block number from 0; 2 kind"; "3–4 record count, 1 up to 42, 21, 126 or 505 by kind"; "zeros up to byte 509" */
-    ONE((void)0, 0); ONE(b[0] = 1, 211); ONE(b[1] = 1, 211); ONE(b[2] = 0, 211); ONE(b[2] = 5, 211); ONE(b[3] = 0, 211);
-    ONE(b[3] = 21, 0); ONE(b[3] = 22, 211); ONE(b[2] = 1; b[3] = 42, 0); ONE(b[2] = 1; b[3] = 43, 211); ONE(b[2] = 3; b[3] = 126, 0);
-    ONE(b[2] = 3; b[3] = 127, 211); ONE(b[2] = 4; b[3] = 0xF9; b[4] = 1, 0); ONE(b[2] = 4; b[3] = 0xFA; b[4] = 1, 211);
-    ONE(b[28] = 9, 0); ONE(b[29] = 9, 211); ONE(b[509] = 9, 211); ONE(b[3] = 21; b[508] = 9, 0); ONE(b[3] = 21; b[509] = 9, 211);
+    ONE((void)0, 0); ONE(b[0] = 1, 215); ONE(b[1] = 1, 215); ONE(b[2] = 0, 216); ONE(b[2] = 5, 216); ONE(b[2] = 255, 216);
+    ONE(b[3] = 0, 217); ONE(b[3] = 21, 0); ONE(b[3] = 22, 217); ONE(b[4] = 255, 217); ONE(b[2] = 1; b[3] = 42, 0);
+    ONE(b[2] = 1; b[3] = 43, 217); ONE(b[2] = 3; b[3] = 126, 0); ONE(b[2] = 3; b[3] = 127, 217); ONE(b[2] = 4; b[3] = 0xF9; b[4] = 1, 0);
+    ONE(b[2] = 4; b[3] = 0xFA; b[4] = 1, 217); ONE(b[28] = 9, 0); ONE(b[29] = 9, 218); ONE(b[509] = 9, 218);
+    ONE(b[3] = 21; b[508] = 9, 0); ONE(b[3] = 21; b[509] = 9, 218);
+    /* The 24 octets are also two groups, six segments or 24 octets of text. */
+    ONE(b[2] = 1, 218); ONE(b[2] = 1; b[3] = 2, 0); ONE(b[2] = 1; b[3] = 2; b[29] = 9, 218); ONE(b[2] = 3; b[3] = 5, 218);
+    ONE(b[2] = 3; b[3] = 6, 0); ONE(b[2] = 4; b[3] = 23, 218); ONE(b[2] = 4; b[3] = 24, 0);
     /* "never falling"; kinds may be left out, and stay. */
-    card_len = 0; (void)add_block(2, 1, 0); (void)add_block(1, 1, 0); EQUAL(LOADS(), 211);
+    card_len = 0; (void)add_block(2, 1, 0); (void)add_block(1, 1, 0); BAD(216, 1);
+    card_len = 0; (void)add_block(4, 1, 0); (void)add_block(3, 1, 0); (void)add_block(4, 1, 0); BAD(216, 1);
     card_len = 0; (void)add_block(1, 1, 0); (void)add_block(4, 1, 0); (void)add_block(4, 1, 0); EQUAL(LOADS(), 0); EQUAL(counts[3], 2);
     /* "a limit": 64 groups, 256 tracks, 1,024 segments, 32,768 text octets, in so many blocks of so many; and one more. */
     for (uint32_t j = 0; j < 4; j++) {
@@ -640,6 +652,61 @@ static void card_cases(void)
         EQUAL(LOADS(), 0); EQUAL(counts[j], LIMITS[j][0] * LIMITS[j][1]);
         card_len = 0; (void)add_block(j + 1, LIMITS[j][1] + 1, 0); card_len = 512 * LIMITS[j][0]; EQUAL(LOADS(), 212);
     }
+}
+
+/* W-205: the five reasons in their order, as bits: check, block number, kind, count, padding. */
+static const uint32_t REASON[5] = {211, 215, 216, 217, 218};
+/* Gives the block at that place those reasons. Its kind octet becomes one less than that of the block before, so that it falls or
+ * is none; its count becomes 0. All but the check is sealed again. */
+static void spoil(uint32_t place, uint32_t reasons)
+{
+    uint8_t *b = card + 512 * place;
+    if ((reasons & 2) != 0) b[1] = 1;
+    if ((reasons & 4) != 0) b[2] = (uint8_t)(place == 0 ? 0 : b[2 - 512] - 1);
+    if ((reasons & 8) != 0) b[3] = b[4] = 0;
+    if ((reasons & 16) != 0) b[509] = 9;
+    seal(b);
+    if ((reasons & 1) != 0) b[511] ^= 1;
+}
+static void three_of_tracks(void) { card_len = 0; EACH(0, 3) (void)add_block(2, 21, 0); }
+
+static void reason_cases(void)
+{
+    static const uint32_t PLACES[3][2] = {{0, 1}, {0, 2}, {1, 2}};
+    three_of_tracks(); BAD(0, UNTOUCHED);
+    for (uint32_t i = 0; i < 5; i++) {
+        /* W-205: "211 becomes check only, then 215, 216, 217, 218 in that order within a block": each alone, with each that comes
+         * after it, and with all that do; in each block. */
+        for (uint32_t place = 0; place < 3; place++) {
+            EACH(i, 5) { three_of_tracks(); spoil(place, 1u << i | 1u << k); BAD(REASON[i], place); }
+            three_of_tracks(); spoil(place, 31u << i & 31u); BAD(REASON[i], place);
+        }
+        /* W-205: "the lowest bad block's number": the reason is that block's, also where a higher one has one that is earlier in the
+         * order. */
+        for (uint32_t j = 0; j < 3; j++) {
+            EACH(0, 5) { three_of_tracks(); spoil(PLACES[j][0], 1u << i); spoil(PLACES[j][1], 1u << k); BAD(REASON[i], PLACES[j][0]); }
+        }
+        /* All blocks come before 212: behind 65 groups, and where there is no room. */
+        card_len = 0; (void)add_block(1, 42, 0); (void)add_block(1, 23, 0); (void)add_block(4, 1, 0); BAD(212, UNTOUCHED);
+        spoil(2, 1u << i); BAD(REASON[i], 2);
+        three_of_tracks(); EQUAL(loads(3, 377, 1, 1), 212); EQUAL(bad_block, UNTOUCHED); EQUAL(loads(0, 378, 0, 0), 0);
+        spoil(2, 1u << i); EQUAL(loads(3, 377, 1, 1), REASON[i]); EQUAL(bad_block, 2); EQUAL(loads(0, 0, 0, 0), REASON[i]); EQUAL(bad_block, 2);
+        /* The highest place, behind 127 · 505 = 64,135 text octets; its block of 504 leaves an octet of padding. 210 comes before
+         * all of them. */
+        card_len = 0; EACH(0, 128) (void)add_block(4, k == 127 ? 504 : 505, 0);
+        BAD(212, UNTOUCHED); spoil(127, 1u << i); BAD(REASON[i], 127); (void)add_block(4, 1, 0); BAD(210, UNTOUCHED);
+        three_of_tracks(); spoil(0, 1u << i); card_len = 1535; BAD(210, UNTOUCHED); card_len = 511; BAD(210, UNTOUCHED);
+    }
+    /* A kind that is none allows no count and has no records: 216 comes before both. */
+    EACH(0, 256) {
+        card_len = 0; (void)add_block(k, 0, 255); BAD(k >= 1 && k <= 4 ? 217 : 216, 0);
+        card_len = 0; (void)add_block(k, 65535, 255); BAD(k >= 1 && k <= 4 ? 217 : 216, 0);
+    }
+    /* The block is the place on the card, not the number that stands in it: 0, 2, 1, and 0, 1, 1. */
+    three_of_tracks(); card[512] = 2; card[1024] = 1; seal(card + 512); seal(card + 1024); BAD(215, 1);
+    three_of_tracks(); card[1024] = 1; seal(card + 1024); BAD(215, 2);
+    /* An empty card has no block. */
+    card_len = 0; BAD(0, UNTOUCHED);
 }
 
 /* W-204: the lent catalogue into that room, and into `card` where it is written. A refusal leaves room and blocks as they were,
@@ -860,7 +927,7 @@ int main(int argc, char **argv)
     seed += (argc > 2 ? strtoul(argv[2], NULL, 10) : 0) * 0x9E3779B97F4A7C15u;
     move_cases(); previous_segment_cases(); running_cases(); media_cases(); owed_cases(); take_cases();
     catalogue_cases(); name_cases(); order_cases(); state_cases();
-    card_cases(); writer_cases(); sheet_cases();
+    card_cases(); reason_cases(); writer_cases(); sheet_cases();
     for (unsigned long k = 0; k < histories; k++) history();
     EACH(0, CALLS) { CHECK(histories < 40 || (accepted[k] > 0 && refused[k] > 0)); made += accepted[k] + refused[k]; }
     printf("checks: %lu, failures: %lu; random histories: %lu, calls: %lu\n", checks, failures, histories, made);

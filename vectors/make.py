@@ -8,11 +8,13 @@
     crates/vectors/stdout   the answer of each
     crates/inspect/stdin    the card of the sample catalogue
 
-Each vector has its answer beside it, worked out by hand from document 01, and that of a sheet or a written card from W-212
-or W-204 of document 02. Only three things are computed: the check numbers of the tables, from the tables that the vector was
-made of; those of written cards, from cards made by document 01's words on blocks; and the starts of the two sheets that have
-1,024 and 3,640 of them, by the request's formula. Many sheets are variants that a loop makes, with
-one answer set by hand for all of them. A comment in quotation marks is a sentence of document 01, and of document 02 where it stands over sheets or written cards.
+Each vector has its answer beside it, worked out by hand from document 01 and from these requests of document 02: W-205 for a
+card with a bad block, W-202 for a running recording, W-212 for a sheet, W-204 for a written card. Only three things are
+computed: the check numbers of the tables, from the tables that the vector was made of; those of written cards, from cards made
+by document 01's words on blocks; and the starts of the two sheets that have 1,024 and 3,640 of them, by the request's formula.
+Many sheets and some cards are variants that a loop makes, with one answer set by hand for all of them or, of a card, with the
+number that REASONS sets for each reason. A comment in quotation marks is a sentence of document 01, and of document 02 where a
+request is named with it or it stands over sheets or written cards.
 """
 import struct
 import sys
@@ -149,7 +151,9 @@ def lent_words(room):
 
 
 def card(name, answer, octets, tables=None, room=AT_LIMITS):
-    """A card vector: `tables` are what a granted load fills in; a refusal "alters nothing"."""
+    """A card vector: `tables` are what a granted load fills in; a refusal "alters nothing". The answer is the four counts, or
+    the refusal and, where it is a block's, the block by its place on the card, from 0.
+    """
     tables = tables or Tables()
     lent = [lent_words(n) for n in room[:3]] + [[0xA5] * room[3]]
     left = [after(*pair) for pair in zip((tables.groups, tables.tracks, tables.segments, tables.text), lent)]
@@ -167,6 +171,36 @@ def resealed(octets, place, octet):
     """A block of these 510 octets with another octet at a place, and with the check octets of that."""
     octets[place] = octet
     return seal(octets)
+
+
+# "five reasons: check, block number, kind, count, padding"; "211 becomes check only, then 215, 216, 217, 218" (W-205)
+REASONS = (('211', 'check'), ('215', 'number'), ('216', 'kind'), ('217', 'count'), ('218', 'padding'))
+
+
+def flawed(octets, place, *reasons):
+    """A card whose block at this place is made bad for these of the five reasons.
+
+    number: the block number is one too high.
+    kind: the kind is 0, so that the kind of the block behind does not fall.
+    count: the count is 65,535, above that of every kind. The records would go on beyond byte 509: there is no padding.
+    padding: byte 509 is 1. No block that is given here has a record so far behind.
+    count and padding: the count is 0. There are no records, and the padding begins at byte 5.
+    check: byte 511 is not what it is in a block of these 510 octets. Without this reason both check octets fit.
+    """
+    assert reasons and set(reasons) <= {reason for _, reason in REASONS}
+    made = bytearray(octets[512 * place:512 * place + 510])
+    if 'number' in reasons:
+        made[0] += 1
+    if 'kind' in reasons:
+        made[2] = 0
+    if 'count' in reasons:
+        made[3:5] = b'\0\0' if 'padding' in reasons else b'\xFF\xFF'
+    if 'padding' in reasons:
+        made[509] = 1
+    made = seal(made)
+    if 'check' in reasons:
+        made = spoiled(made, 511, made[511] ^ 1)
+    return octets[:512 * place] + made + octets[512 * place + 512:]
 
 
 def group_block(number=0):
@@ -192,7 +226,8 @@ card('card-length-513', '210', SAMPLE_CARD[:512] + b'\0')
 card('card-length-2047', '210', SAMPLE_CARD[:2047])
 card('card-129-blocks', '210', card_of(text=b'x' * 129, most=ONE_EACH))
 
-# "Text is octets", and card load gives 210, 211, 212 only: no word and no octet is looked at.
+# "Text is octets", and none of the "five reasons: check, block number, kind, count, padding" (W-205) is in a record: no word
+# and no octet of a record is looked at.
 ANY_GROUP = (WORD, 0x01020304, 0x80000000)
 ANY_TRACK = (0xFFFFFFFE, 0x04030201, 0xFF, 0xFF00, 0xFF0000, 0xFF000000)
 ANY = Tables([ANY_GROUP], [ANY_TRACK], [WORD, 0, 0x7FFFFFFF], b'\xFF\x00\x80\xC0')
@@ -224,70 +259,153 @@ card('room-text-short', '212', SAMPLE_CARD, room=(12, 24, 3, 21))
 card('room-text-over', '4 4 3 22', SAMPLE_CARD, SAMPLE, (12, 24, 3, 23))
 card('room-all-short', '212', SAMPLE_CARD, room=NO_ROOM)
 
-# 211: "Bytes 0–1 block number from 0"
-card('block-number-first-1', '211', block(1, TEXT_KIND, 2, b'ab'))
-card('block-number-again', '211', block(0, TEXT_KIND, 2, b'ab') + block(0, TEXT_KIND, 2, b'cd'))
-card('block-number-skipped', '211', block(0, TEXT_KIND, 2, b'ab') + block(2, TEXT_KIND, 2, b'cd'))
-card('block-number-high-octet', '211', block(256, TEXT_KIND, 2, b'ab'))
+# 215: "Bytes 0–1 block number from 0". The refusal has the place of the block, not the number that stands in it.
+card('block-number-first-1', '215 0', block(1, TEXT_KIND, 2, b'ab'))
+card('block-number-again', '215 1', block(0, TEXT_KIND, 2, b'ab') + block(0, TEXT_KIND, 2, b'cd'))
+card('block-number-skipped', '215 1', block(0, TEXT_KIND, 2, b'ab') + block(2, TEXT_KIND, 2, b'cd'))
+card('block-number-high-octet', '215 0', block(256, TEXT_KIND, 2, b'ab'))
+card('block-number-high-octet-second', '215 1', seal(group_block()) + seal(text_block(257)))
+card('block-numbers-swapped', '215 0', seal(group_block(1)) + seal(text_block(0)))
+# The blocks of tracks and of segments in each other's place. Block 2 is bad too: its number is 1, and its kind falls.
+card('blocks-swapped', '215 1', SAMPLE_CARD[:512] + SAMPLE_CARD[1024:1536] + SAMPLE_CARD[512:1024] + SAMPLE_CARD[1536:])
 
-# 211: "2 kind (1 group, 2 track, 3 segment, 4 text), never falling"
-card('block-kind-0', '211', block(0, 0, 1, b''))
-card('block-kind-5', '211', block(0, 5, 1, b'a'))
-card('block-kind-5-last', '211', block(0, TEXT_KIND, 2, b'ab') + block(1, 5, 1, b'a'))
-card('block-kind-255', '211', block(0, 255, 1, b'a'))
-card('block-kind-falls-2-1', '211', block(0, TRACK_KIND, 1, words(PLAIN)) + block(1, GROUP_KIND, 1, words((0, 0, 0))))
-card('block-kind-falls-4-3', '211', block(0, TEXT_KIND, 2, b'ab') + block(1, SEGMENT_KIND, 1, words((0,))))
-card('block-kind-falls-later', '211', block(0, GROUP_KIND, 1, words((0, 0, 0))) + block(1, SEGMENT_KIND, 1, words((0,)))
+# 216: "2 kind (1 group, 2 track, 3 segment, 4 text), never falling"
+card('block-kind-0', '216 0', block(0, 0, 1, b''))
+card('block-kind-5', '216 0', block(0, 5, 1, b'a'))
+card('block-kind-5-last', '216 1', block(0, TEXT_KIND, 2, b'ab') + block(1, 5, 1, b'a'))
+card('block-kind-255', '216 0', block(0, 255, 1, b'a'))
+card('block-kind-falls-2-1', '216 1', block(0, TRACK_KIND, 1, words(PLAIN)) + block(1, GROUP_KIND, 1, words((0, 0, 0))))
+card('block-kind-falls-4-3', '216 1', block(0, TEXT_KIND, 2, b'ab') + block(1, SEGMENT_KIND, 1, words((0,))))
+card('block-kind-falls-later', '216 2', block(0, GROUP_KIND, 1, words((0, 0, 0))) + block(1, SEGMENT_KIND, 1, words((0,)))
      + block(2, TRACK_KIND, 1, words(PLAIN)))
+# The block that falls is the bad one, and a kind may rise again behind it; where a second one falls, only the first is said.
+card('block-kind-falls-and-rises', '216 1', block(0, TRACK_KIND, 1, words(PLAIN)) + seal(group_block(1)) + seal(text_block(2)))
+card('block-kind-falls-twice', '216 1', seal(text_block()) + block(1, TRACK_KIND, 1, words(PLAIN)) + seal(group_block(2)))
+card('block-kind-falls-to-0', '216 1', seal(group_block()) + block(1, 0, 1, b'a'))
+# A kind out of range, and behind it one that is lower: only the first is said.
+card('block-kind-5-then-4', '216 0', block(0, 5, 1, b'a') + seal(text_block(1)))
+card('block-kind-5-then-0', '216 0', block(0, 5, 1, b'a') + block(1, 0, 1, b'a'))
+card('block-kind-255-then-4', '216 1', seal(group_block()) + block(1, 255, 1, b'a') + seal(text_block(2)))
+card('block-kind-0-then-1', '216 0', block(0, 0, 1, b'a') + seal(group_block(1)))
 
-# 211: "3–4 record count, 1 up to 42, 21, 126 or 505 by kind"
-card('block-groups-0', '211', block(0, GROUP_KIND, 0, b''))
-card('block-tracks-0', '211', block(0, TRACK_KIND, 0, b''))
-card('block-segments-0', '211', block(0, SEGMENT_KIND, 0, b''))
-card('block-text-0', '211', block(0, TEXT_KIND, 0, b''))
+# 217: "3–4 record count, 1 up to 42, 21, 126 or 505 by kind"
+card('block-groups-0', '217 0', block(0, GROUP_KIND, 0, b''))
+card('block-tracks-0', '217 0', block(0, TRACK_KIND, 0, b''))
+card('block-segments-0', '217 0', block(0, SEGMENT_KIND, 0, b''))
+card('block-text-0', '217 0', block(0, TEXT_KIND, 0, b''))
 card('block-groups-42', '42 0 0 0', block(0, GROUP_KIND, 42, words((1, 2, 3)) * 42), Tables(groups=[(1, 2, 3)] * 42))
-card('block-groups-43', '211', block(0, GROUP_KIND, 43, words((1, 2, 3)) * 42))
+card('block-groups-43', '217 0', block(0, GROUP_KIND, 43, words((1, 2, 3)) * 42))
 card('block-tracks-21', '0 21 0 0', block(0, TRACK_KIND, 21, words(PLAIN) * 21), Tables(tracks=[PLAIN] * 21))
-card('block-tracks-22', '211', block(0, TRACK_KIND, 22, words(PLAIN) * 21))
+card('block-tracks-22', '217 0', block(0, TRACK_KIND, 22, words(PLAIN) * 21))
 card('block-segments-126', '0 0 126 0', block(0, SEGMENT_KIND, 126, words((9,)) * 126), Tables(segments=[9] * 126))
-card('block-segments-127', '211', block(0, SEGMENT_KIND, 127, words((9,)) * 126))
+card('block-segments-127', '217 0', block(0, SEGMENT_KIND, 127, words((9,)) * 126))
 card('block-text-505', '0 0 0 505', block(0, TEXT_KIND, 505, b'z' * 505), Tables(text=b'z' * 505))
-card('block-text-506', '211', block(0, TEXT_KIND, 506, b'z' * 505))
+card('block-text-506', '217 0', block(0, TEXT_KIND, 506, b'z' * 505))
 card('block-text-1', '0 0 0 1', block(0, TEXT_KIND, 1, b'z'), Tables(text=b'z'))
-card('block-count-high-octet', '211', block(0, GROUP_KIND, 257, words((0, 0, 0))))
-card('block-count-65535', '211', block(0, TEXT_KIND, 65535, b'z' * 505))
+card('block-count-high-octet', '217 0', block(0, GROUP_KIND, 257, words((0, 0, 0))))
+card('block-count-65535', '217 0', block(0, TEXT_KIND, 65535, b'z' * 505))
 
-# 211: "zeros up to byte 509". One group ends before byte 17, two octets of text before byte 7, 42 groups before byte 509.
+# 218: "zeros up to byte 509". One group ends before byte 17, two octets of text before byte 7, 42 groups before byte 509.
 card('block-padding-group', '1 0 0 0', seal(group_block()), Tables(groups=[(0, 0, 0)]))
-card('block-padding-group-first', '211', resealed(group_block(), 17, 1))
-card('block-padding-group-last', '211', resealed(group_block(), 509, 1))
-card('block-padding-text-first', '211', resealed(text_block(), 7, 1))
-card('block-padding-text-middle', '211', resealed(text_block(), 300, 255))
-card('block-padding-text-last', '211', resealed(text_block(), 509, 255))
-card('block-padding-42-groups', '211', resealed(open_block(0, GROUP_KIND, 42, words((1, 2, 3)) * 42), 509, 1))
-card('block-padding-21-tracks', '211', resealed(open_block(0, TRACK_KIND, 21, words(PLAIN) * 21), 509, 1))
-card('block-padding-126-segments', '211', resealed(open_block(0, SEGMENT_KIND, 126, words((9,)) * 126), 509, 1))
+card('block-padding-group-first', '218 0', resealed(group_block(), 17, 1))
+card('block-padding-group-last', '218 0', resealed(group_block(), 509, 1))
+card('block-padding-text-first', '218 0', resealed(text_block(), 7, 1))
+card('block-padding-text-middle', '218 0', resealed(text_block(), 300, 255))
+card('block-padding-text-last', '218 0', resealed(text_block(), 509, 255))
+card('block-padding-42-groups', '218 0', resealed(open_block(0, GROUP_KIND, 42, words((1, 2, 3)) * 42), 509, 1))
+card('block-padding-21-tracks', '218 0', resealed(open_block(0, TRACK_KIND, 21, words(PLAIN) * 21), 509, 1))
+card('block-padding-126-segments', '218 0', resealed(open_block(0, SEGMENT_KIND, 126, words((9,)) * 126), 509, 1))
 
 # 211: "Byte 510 is the sum of bytes 0 to 509 modulo 255; byte 511 is the sum of the 510 running sums modulo 255."
 AB = block(0, TEXT_KIND, 2, b'ab')
 card('check-right', '0 0 0 2', AB, Tables(text=b'ab'))
-card('check-plain-flipped', '211', spoiled(AB, 510, AB[510] ^ 1))
-card('check-running-flipped', '211', spoiled(AB, 511, AB[511] ^ 1))
-card('check-plain-zero', '211', spoiled(AB, 510, 0))
-card('check-running-zero', '211', spoiled(AB, 511, 0))
-card('check-octet-changed', '211', spoiled(AB, 5, 0x62))
-card('check-octets-swapped', '211', AB[:5] + b'ba' + AB[7:])
-card('check-last-block', '211', spoiled(SAMPLE_CARD, 2047, SAMPLE_CARD[2047] ^ 1))
-card('check-first-block', '211', spoiled(SAMPLE_CARD, 510, SAMPLE_CARD[510] ^ 1))
+card('check-plain-flipped', '211 0', spoiled(AB, 510, AB[510] ^ 1))
+card('check-running-flipped', '211 0', spoiled(AB, 511, AB[511] ^ 1))
+card('check-plain-zero', '211 0', spoiled(AB, 510, 0))
+card('check-running-zero', '211 0', spoiled(AB, 511, 0))
+card('check-octet-changed', '211 0', spoiled(AB, 5, 0x62))
+card('check-octets-swapped', '211 0', AB[:5] + b'ba' + AB[7:])
+card('check-last-block', '211 3', spoiled(SAMPLE_CARD, 2047, SAMPLE_CARD[2047] ^ 1))
+card('check-first-block', '211 0', spoiled(SAMPLE_CARD, 510, SAMPLE_CARD[510] ^ 1))
 # "modulo 255" gives 0 to 254. With the octet 250 the plain sum is 4 + 1 + 250 = 255, with 47 and 1 the sum of the
 # running sums is 4 * 508 + 2 * 507 + 47 * 505 + 1 * 504 = 107 * 255.
 PLAIN_ZERO = block(0, TEXT_KIND, 1, b'\xFA')
 RUNNING_ZERO = block(0, TEXT_KIND, 2, b'\x2F\x01')
 assert PLAIN_ZERO[510] == 0 and RUNNING_ZERO[511] == 0
 card('check-plain-is-0', '0 0 0 1', PLAIN_ZERO, Tables(text=b'\xFA'))
-card('check-plain-255-for-0', '211', spoiled(PLAIN_ZERO, 510, 255))
+card('check-plain-255-for-0', '211 0', spoiled(PLAIN_ZERO, 510, 255))
 card('check-running-is-0', '0 0 0 2', RUNNING_ZERO, Tables(text=b'\x2F\x01'))
-card('check-running-255-for-0', '211', spoiled(RUNNING_ZERO, 511, 255))
+card('check-running-255-for-0', '211 0', spoiled(RUNNING_ZERO, 511, 255))
+# One octet of block 1 that becomes another, and the check octets as they were: the check is said, whatever the octet was for.
+card('check-number-changed', '211 1', spoiled(SAMPLE_CARD, 512, 2))
+card('check-kind-changed', '211 1', spoiled(SAMPLE_CARD, 514, 5))
+card('check-count-changed', '211 1', spoiled(SAMPLE_CARD, 515, 22))
+card('check-padding-changed', '211 1', spoiled(SAMPLE_CARD, 1021, 1))
+# An octet that was 0 and becomes 255 leaves both sums modulo 255 as they were: the check octets fit.
+card('check-number-0-to-255', '215 1', spoiled(SAMPLE_CARD, 513, 255))
+card('check-count-0-to-255', '217 1', spoiled(SAMPLE_CARD, 516, 255))
+card('check-padding-0-to-255', '218 1', spoiled(SAMPLE_CARD, 1021, 255))
+# 510 zeros have the check octets 0 and 0; 510 octets of 255 have them too, and not 255 and 255.
+card('block-all-0', '216 0', bytes(512))
+card('block-all-0-second', '215 1', SAMPLE_CARD[:512] + bytes(512))
+card('block-all-255', '211 0', b'\xFF' * 512)
+
+# "the lowest bad block's number and one of five reasons" (W-205). The sample has the blocks 0 to 3, the longest card 0 to 127.
+LONGEST_CARD = card_of(segments=[7] * 16128)
+assert len(LONGEST_CARD) == 65536
+for number, reason in REASONS:
+    card('reason-%s-first' % reason, number + ' 0', flawed(SAMPLE_CARD, 0, reason))
+    card('reason-%s-middle' % reason, number + ' 2', flawed(SAMPLE_CARD, 2, reason))
+    card('reason-%s-last' % reason, number + ' 3', flawed(SAMPLE_CARD, 3, reason))
+card('reason-check-block-127', '211 127', flawed(LONGEST_CARD, 127, 'check'))
+card('reason-number-block-126', '215 126', flawed(LONGEST_CARD, 126, 'number'))
+card('reason-padding-block-127', '218 127', flawed(LONGEST_CARD, 127, 'padding'))
+
+# "211 becomes check only, then 215, 216, 217, 218 in that order within a block" (W-205)
+
+
+def several(answer, *reasons):
+    """The sample with a block of segments that is bad for all of these reasons."""
+    card('reasons-' + '-'.join(reasons), answer, flawed(SAMPLE_CARD, 2, *reasons))
+
+
+several('211 2', 'check', 'number')
+several('211 2', 'check', 'kind')
+several('211 2', 'check', 'count')
+several('211 2', 'check', 'padding')
+several('215 2', 'number', 'kind')
+several('215 2', 'number', 'count')
+several('215 2', 'number', 'padding')
+several('216 2', 'kind', 'count')
+several('216 2', 'kind', 'padding')
+# The count is 0: no record stands before the padding, which begins at byte 5 and is not zeros. 217 comes before 218.
+several('217 2', 'count', 'padding')
+several('216 2', 'kind', 'count', 'padding')
+several('215 2', 'number', 'kind', 'count', 'padding')
+several('211 2', 'check', 'number', 'kind', 'count', 'padding')
+# Records and no count: those octets are padding. A count one above the most: 127 segments would end before byte 513, so that
+# byte 509 is a record's and there is no padding.
+card('reasons-count-0-records', '217 0', block(0, SEGMENT_KIND, 0, words((7,)) * 126))
+card('reasons-count-127-byte-509', '217 0', block(0, SEGMENT_KIND, 127, words((7,)) * 126 + b'\x07'))
+# A kind that falls, from 2 to 1: it is one of the four, so it says how many records there may be and how long they are.
+FALLING = block(0, TRACK_KIND, 1, words(PLAIN)) + block(1, GROUP_KIND, 1, words((0, 0, 0)))
+card('reasons-check-falling', '211 1', flawed(FALLING, 1, 'check'))
+card('reasons-number-falling', '215 1', flawed(FALLING, 1, 'number'))
+card('reasons-falling-count', '216 1', flawed(FALLING, 1, 'count'))
+card('reasons-falling-padding', '216 1', flawed(FALLING, 1, 'padding'))
+card('reasons-falling-count-padding', '216 1', flawed(FALLING, 1, 'count', 'padding'))
+
+# "the lowest bad block" (W-205): its reason is said, also where a block behind it has an earlier one.
+for lower, reason in REASONS:
+    for higher, reason_behind in REASONS:
+        card('lowest-%s-1-then-%s-2' % (lower, higher), lower + ' 1', flawed(flawed(SAMPLE_CARD, 1, reason), 2, reason_behind))
+card('lowest-218-0-then-211-3', '218 0', flawed(flawed(SAMPLE_CARD, 0, 'padding'), 3, 'check'))
+card('lowest-211-0-then-218-3', '211 0', flawed(flawed(SAMPLE_CARD, 0, 'check'), 3, 'padding'))
+card('lowest-211-0-then-216-falling-1', '211 0', flawed(FALLING, 0, 'check'))
+card('lowest-217-0-then-216-falling-1', '217 0', flawed(FALLING, 0, 'count'))
+card('lowest-216-falling-1-then-211-2', '216 1', flawed(FALLING + seal(text_block(2)), 2, 'check'))
+card('lowest-of-four', '218 0',
+     flawed(flawed(flawed(flawed(SAMPLE_CARD, 0, 'padding'), 1, 'count'), 2, 'number'), 3, 'check'))
 
 # Kinds never fall, and may be left out or be spread over several blocks.
 card('kinds-groups-only', '4 0 0 0', card_of(groups=SAMPLE_GROUPS), Tables(groups=SAMPLE_GROUPS))
@@ -302,12 +420,21 @@ card('kinds-short-blocks', '4 4 3 22', card_of(SAMPLE_GROUPS, SAMPLE_TRACKS, SAM
 card('kinds-short-then-full', '0 0 0 507', block(0, TEXT_KIND, 2, b'ab') + block(1, TEXT_KIND, 505, b'z' * 505),
      Tables(text=b'ab' + b'z' * 505))
 
-# "Several at once: the first in the table."
-BAD_LAST = spoiled(SAMPLE_CARD, 2046, SAMPLE_CARD[2046] ^ 1)
-card('first-211-no-room', '211', BAD_LAST, room=NO_ROOM)
-card('first-211-over-limit', '211', card_of(groups=[(0, 0, 0)] * 65) + block(2, 5, 1, b'a'), room=ABOVE_LIMITS)
-card('first-210-bad-block', '210', BAD_LAST + b'\0')
+# "Several at once: the first in the table." A bad block comes before 212, also where it stands behind the records that are too
+# many. The 65 groups take the blocks 0 and 1, and the text is block 2.
+OVER_LIMIT = card_of(groups=[(0, 0, 0)] * 65, text=SAMPLE_TEXT)
+for number, reason in REASONS:
+    card('first-%s-no-room' % number, number + ' 3', flawed(SAMPLE_CARD, 3, reason), room=NO_ROOM)
+    card('first-%s-no-room-for-groups' % number, number + ' 1', flawed(SAMPLE_CARD, 1, reason), room=(0, 24, 3, 22))
+    card('first-%s-before-no-room' % number, number + ' 0', flawed(SAMPLE_CARD, 0, reason), room=NO_ROOM)
+    card('first-%s-over-limit' % number, number + ' 2', flawed(OVER_LIMIT, 2, reason), room=ABOVE_LIMITS)
+    card('first-%s-in-table-over-limit' % number, number + ' 1', flawed(OVER_LIMIT, 1, reason), room=ABOVE_LIMITS)
+    card('first-210-%s' % number, '210', flawed(SAMPLE_CARD, 0, reason) + b'\0')
+card('first-212-over-limit', '212', OVER_LIMIT, room=ABOVE_LIMITS)
+card('first-216-falling-no-room', '216 2', card_of(tracks=[PLAIN] * 22) + seal(group_block(2)), room=(192, 0, 0, 0))
+card('first-210-bad-block', '210', flawed(SAMPLE_CARD, 3, 'check') + b'\0')
 card('first-210-no-room', '210', SAMPLE_CARD + b'\0', room=NO_ROOM)
+card('first-210-129-blocks-first-bad', '210', flawed(LONGEST_CARD, 0, 'padding') + block(128, SEGMENT_KIND, 1, words((7,))))
 card('first-210-129-bad-blocks', '210', b'\xFF' * 66048, room=NO_ROOM)
 
 

@@ -1,14 +1,17 @@
 -- A block of 512 octets and its rules, in the order of document 01, "Card and catalogue".
 -- Assumes nothing.
-use mathlib.Core.Bool.{Bool, true, _&&_}
+use mathlib.Core.Bool.{Bool, true, _&&_, not}
 use mathlib.Core.List.{List, [], _∷_}
 use Prim.Native.Nat.{ℕ, _+_, _*_}
 use lib.Dec.{eqb, leb}
 use lib.ListN.{getD, take}
 use Rattle.ground.specs.Cases.{pick}
 use Rattle.ground.specs.Lists.{part}
+use Rattle.ground.specs.Refusals.{Said, granted, refusalOf, Row, rowWith, accepted}
 use Rattle.ground.specs.Words.{halfAt}
 use Rattle.card_block.specs.Sums.{sumsOf}
+use Rattle.card_block.specs.declared.Judged.{Judged}
+use Rattle.card_block.specs.declared.Judged.the-variants.{Fine, Refused}
 
 -- "blocks of 512 bytes": a head of 5 bytes, then records and zeros "up to byte 509", then two check octets
 abbrev pub blockSize : ℕ
@@ -72,6 +75,22 @@ countRule b = leb 1 (countOf b) && leb (countOf b) (mostRecords (kindOf b))
 unfoldable pub paddingRule : List ℕ → Bool
 paddingRule b = allZero (part b (recordsEnd b) summed)
 
+-- "the lowest bad block's number and one of five reasons: check, block number, kind, count, padding" (document 02, W-205): the rules in that order, each with
+-- its number and the block's place on the card; the first that is broken is the reason
+abbrev pub blockRows : ℕ → ℕ → List ℕ → List Row
+blockRows number least b =
+    rowWith 211 (number ∷ []) (not (checkRule b))
+    ∷ rowWith 215 (number ∷ []) (not (numberRule number b))
+    ∷ rowWith 216 (number ∷ []) (not (kindRule least b))
+    ∷ rowWith 217 (number ∷ []) (not (countRule b))
+    ∷ rowWith 218 (number ∷ []) (not (paddingRule b))
+    ∷ []
+
+-- a block that breaks none of them
 unfoldable pub blockRule : ℕ → ℕ → List ℕ → Bool
-blockRule number least b =
-    checkRule b && numberRule number b && kindRule least b && countRule b && paddingRule b
+blockRule number least b = accepted (blockRows number least b)
+
+-- the number of each answer, and the block that it carries
+abbrev pub saidOf : Judged → Said
+saidOf Fine = granted []
+saidOf (Refused r) = refusalOf r

@@ -1,9 +1,11 @@
 // A block of a card: its head, its check octets, its rules.
 ghost use mathlib.Core.Path.{_≡_};
+ghost use mathlib.Core.List.{_∷_, []};
 ghost use Prim.Native.Nat.{_+_, _*_, _<_, _≤_};
 ghost use lib.ListN.{length};
+ghost use Rattle.ground.specs.Refusals.{refusedWith, saidBy};
 ghost use Rattle.card_block.specs.Sums.{sumOf, runningSums, sumsOf};
-ghost use Rattle.card_block.specs.Block.{blockSize, headSize, summed, kindOf, countOf, recordSize, mostRecords, recordsEnd, allZero, checkRule, numberRule, kindRule, countRule, paddingRule, blockRule};
+ghost use Rattle.card_block.specs.Block.{blockSize, headSize, summed, kindOf, countOf, recordSize, mostRecords, recordsEnd, allZero, checkRule, numberRule, kindRule, countRule, paddingRule, blockRows, saidOf};
 
 // The octets in a block, in its head, and in head and records; behind those stand the two check octets.
 pub const BLOCK: usize = 512;
@@ -15,6 +17,12 @@ const SUMMED: usize = 510;
 const RUNNING_SUM: usize = 511;
 
 const LAST_KIND: u8 = 4;
+
+// What is said of blocks: that they keep their rules, or the refusal that names a block and the rule that it breaks.
+pub enum Judged {
+    Fine,
+    Refused(ground::Refusal),
+}
 
 pub struct CheckSums {
     pub plain: u32,
@@ -162,22 +170,33 @@ fn padding_right(b: &[u8]) -> bool
     all_zero(&b[end..SUMMED])
 }
 
-// Whether all rules of a block hold.
-pub fn block_right(b: &[u8], number: usize, least: u8) -> bool
+fn refused(number: u32, block: usize) -> Judged
+    ensures { λ r. ⌜ saidOf r ≡ refusedWith number (block ∷ []) ⌝ }
+{
+    let r = ground::refuse_at(number, block);
+    Judged::Refused(r)
+}
+
+// What is said of a block by its rules, the first that it breaks first. `number` is its place on the card, `least` the kind of the block before it, 1 for the
+// first.
+pub fn judge(b: &[u8], number: usize, least: u8) -> Judged
     requires { ⌜ length (now b) ≡ blockSize ⌝ }
-    ensures { λ r. ⌜ r ≡ blockRule number least (now (b .entry)) ⌝ }
+    ensures { λ r. ⌜ saidOf r ≡ saidBy (blockRows number least (now (b .entry))) ⌝ }
 {
     if !check_right(b) {
-        return false;
+        return refused(ground::BAD_CHECK, number);
     }
     if !number_right(b, number) {
-        return false;
+        return refused(ground::BAD_BLOCK_NUMBER, number);
     }
     if !kind_right(b, least) {
-        return false;
+        return refused(ground::BAD_KIND, number);
     }
     if !count_right(b) {
-        return false;
+        return refused(ground::BAD_COUNT, number);
     }
-    padding_right(b)
+    if !padding_right(b) {
+        return refused(ground::BAD_PADDING, number);
+    }
+    Judged::Fine
 }

@@ -1,6 +1,6 @@
 -- A block that is right by the reader's rules is the block of its own number, kind, count and records: no other block has them. Assumes nothing.
 use mathlib.Core.Path.{_≡_, refl, sym, ap, _∙_}
-use mathlib.Core.Bool.{true, _&&_}
+use mathlib.Core.Bool.{true}
 use mathlib.Core.List.{List, [], _∷_, _++_}
 use Prim.Native.Nat.{ℕ, _+_, _*_, _-_, _/_, _%_, _≤_, _<_}
 use native.Mathlib.Nat.{add-sub-cancel-left}
@@ -12,8 +12,8 @@ use lib.Seq.{drop-cons, drop-drop, take-add, length-take-le}
 use Rattle.ground.specs.Lists.{part}
 use Rattle.ground.proofs.Cases.{and-left, and-right}
 use Rattle.card_block.specs.Sums.{sumsOf}
-use Rattle.card_block.specs.Block.{recordSize, recordsOf, allZero, checkRule, numberRule, kindRule, countRule, paddingRule, blockRule}
-use Rattle.card_block.proofs.Records.{block-count, records-room}
+use Rattle.card_block.specs.Block.{recordSize, recordsOf, allZero, checkRule, numberRule, paddingRule, blockRule}
+use Rattle.card_block.proofs.Records.{keeps-of, block-count, records-room}
 use Rattle.card_fill.specs.Filled.{zeros, frontOf, checksOf, blockOf}
 
 all-zeros : (s : List ℕ) → allZero s ≡ true → s ≡ zeros (length s)
@@ -29,18 +29,13 @@ module _ (number least a0 a1 a2 a3 a4 : ℕ) (r : List ℕ) (long : length r ≡
   b = a0 ∷ a1 ∷ a2 ∷ a3 ∷ a4 ∷ r
 
   number-is : a0 + a1 * 256 ≡ number
-  unfolding blockRule numberRule
-  number-is =
-      let r1 = checkRule b && numberRule number b in
-      let q1 = and-left (r1 && kindRule least b) (countRule b) (and-left (r1 && kindRule least b && countRule b) (paddingRule b) h) in
-      eqb-true _ _ (and-right (checkRule b) (numberRule number b) (and-left r1 (kindRule least b) q1))
+  unfolding numberRule
+  number-is = eqb-true _ _ (keeps-of number least b h .place)
 
   checks-are : (getD r 505 0 ≡ sumsOf (take 510 b) .plain) × (getD r 506 0 ≡ sumsOf (take 510 b) .running)
-  unfolding blockRule checkRule
+  unfolding checkRule
   checks-are =
-      let r1 = checkRule b && numberRule number b in
-      let q1 = and-left (r1 && kindRule least b) (countRule b) (and-left (r1 && kindRule least b && countRule b) (paddingRule b) h) in
-      let c = and-left (checkRule b) (numberRule number b) (and-left r1 (kindRule least b) q1) in
+      let c = keeps-of number least b h .check in
       (eqb-true _ _ (and-left (eqb (getD r 505 0) (sumsOf (take 510 b) .plain)) _ c), eqb-true _ _ (and-right (eqb (getD r 505 0) (sumsOf (take 510 b) .plain)) _ c))
 
   room : (a3 + a4 * 256) * recordSize a2 ≤ 505
@@ -50,11 +45,11 @@ module _ (number least a0 a1 a2 a3 a4 : ℕ) (r : List ℕ) (long : length r ≡
   records-are = ap (λ (k : ℕ). take k r) (add-sub-cancel-left 5 ((a3 + a4 * 256) * recordSize a2))
 
   padding-is : take (505 - (a3 + a4 * 256) * recordSize a2) (drop ((a3 + a4 * 256) * recordSize a2) r) ≡ zeros (505 - (a3 + a4 * 256) * recordSize a2)
-  unfolding blockRule paddingRule
+  unfolding paddingRule
   padding-is =
       let m = (a3 + a4 * 256) * recordSize a2 in
       let k = room in
-      let z = and-right (checkRule b && numberRule number b && kindRule least b && countRule b) (paddingRule b) h in
+      let z = keeps-of number least b h .padding in
       let q : 510 - (5 + m) ≡ 505 - m = omega arith in
       let e : part b (5 + m) 510 ≡ take (505 - m) (drop m r) = λ i. take (q i) (sym (drop-drop m 5 b) i) in
       let n : length (take (505 - m) (drop m r)) ≡ 505 - m = simp (length-take, length-drop) (omega arith) in

@@ -13,7 +13,7 @@ use Rattle.ground.specs.Words.{halfOf}
 use Rattle.ground.proofs.Cases.{and-both}
 use Rattle.card_block.specs.Sums.{sumsOf}
 use Rattle.card_block.specs.Block.{kindOf, countOf, recordSize, mostRecords, recordsEnd, recordsOf, allZero, checkRule, numberRule, kindRule, countRule, paddingRule, blockRule}
-use Rattle.card_block.proofs.Records.{records-room}
+use Rattle.card_block.proofs.Records.{of-keeps, records-room}
 use Rattle.card_fill.specs.Filled.{zeros, frontOf, checksOf, blockOf}
 use Rattle.card_fill.proofs.Making.{front-length, written-length}
 
@@ -98,6 +98,6 @@ module _ (number kind count : ℕ) (records : List ℕ) (most : count ≤ mostRe
 
   -- THE theorem of the block: it passes all rules of the reader, at its number and behind any kind that is not above its own
   pub block-right : (least : ℕ) → least ≤ kind → kind ≤ 4 → 1 ≤ count → blockRule number least (blockOf number kind count records) ≡ true
-  unfolding blockRule
   block-right least lo hi one =
-      and-both (and-both (and-both (and-both check-right number-right) (kind-right least lo hi)) (count-right one)) padding-right
+      of-keeps number least _
+      record { check = check-right; place = number-right; kind = kind-right least lo hi; count = count-right one; padding = padding-right }

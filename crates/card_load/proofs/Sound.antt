@@ -13,8 +13,8 @@ use Rattle.ground.specs.Words.{words}
 use Rattle.ground.proofs.Cases.{and-left, and-right}
 use Rattle.card_block.specs.Block.{recordSize}
 use Rattle.card_block.proofs.Records.{records-words, records-octets}
-use Rattle.card_load.specs.Card.{blocksOf, blocksRule, recordCount, gather, octets, CountsFit}
-use Rattle.ground.proofs.Rows.{kept}
+use Rattle.card_load.specs.Card.{blocksOf, blocksRows, blocksRule, recordCount, gather, octets, CountsFit}
+use Rattle.ground.proofs.Rows.{kept, parted, of-none}
 use Rattle.card_load.specs.Load.{fits, roomRule, loadRows, loadSaid}
 use Rattle.card_load.proofs.Lengths.{counts-fit, gather-length}
 
@@ -36,8 +36,9 @@ unfolding loadSaid roomRule recordSize
 sound card groups tracks segments text values e =
     let bs = blocksOf card in
     let p = kept (loadRows card groups tracks segments text) _ (λ k. sym e k .isGranted) in
-    let b : blocksRule 0 1 bs ≡ true = not-false _ (p .1 .0) in
-    let d : roomRule bs groups tracks segments text ≡ true = not-false _ (p .1 .1 .0) in
+    let q = parted (blocksRows 0 1 bs) _ (p .1) in
+    let b : blocksRule 0 1 bs ≡ true = of-none (blocksRows 0 1 bs) (q .0) in
+    let d : roomRule bs groups tracks segments text ≡ true = not-false _ (q .1 .0) in
     let n = length card / 512 in
     let l : n * 512 ≤ length card = omega arith in
     let f : CountsFit n card = counts-fit n card b in

@@ -1,13 +1,14 @@
 -- A card as a list of blocks (document 01, "Card and catalogue").
 -- Assumes nothing.
-use mathlib.Core.Bool.{Bool, true, _&&_}
+use mathlib.Core.Bool.{Bool, _&&_}
 use mathlib.Core.List.{List, [], _∷_, _++_}
 use Prim.Native.Nat.{ℕ, zero, suc, _+_, _*_, _/_, _%_, _<_, _≤_}
 use lib.Dec.{eqb, leb}
 use lib.ListN.{length, take, drop}
 use Rattle.ground.specs.Cases.{pick}
 use Rattle.ground.specs.Lists.{part}
-use Rattle.card_block.specs.Block.{blockSize, kindOf, countOf, mostRecords, recordsOf, blockRule}
+use Rattle.ground.specs.Refusals.{Row, accepted}
+use Rattle.card_block.specs.Block.{blockSize, kindOf, countOf, mostRecords, recordsOf, blockRows}
 
 -- "A card is 0 to 128 blocks of 512 bytes."
 abbrev pub mostBlocks : ℕ
@@ -24,10 +25,15 @@ blocks (suc n) card = take blockSize card ∷ blocks n (drop blockSize card)
 abbrev pub blocksOf : List ℕ → List (List ℕ)
 blocksOf card = blocks (length card / blockSize) card
 
--- all rules of all blocks: the numbers count on from `number`, and the kind never falls below `least`
-unfoldable pub blocksRule : ℕ → ℕ → List (List ℕ) → Bool
-blocksRule number least [] = true
-blocksRule number least (b ∷ bs) = blockRule number least b && blocksRule (number + 1) (kindOf b) bs
+-- the rules of all blocks, block by block, so that the first that is broken is one of the lowest bad block: the places count on from `number`, and the kind
+-- never falls below `least`
+unfoldable pub blocksRows : ℕ → ℕ → List (List ℕ) → List Row
+blocksRows number least [] = []
+blocksRows number least (b ∷ bs) = blockRows number least b ++ blocksRows (number + 1) (kindOf b) bs
+
+-- blocks that break none of them
+abbrev pub blocksRule : ℕ → ℕ → List (List ℕ) → Bool
+blocksRule number least bs = accepted (blocksRows number least bs)
 
 -- how many records of a kind there are
 unfoldable pub recordCount : ℕ → List (List ℕ) → ℕ

@@ -1,15 +1,16 @@
 // The card reader: a card into four lent tables.
 ghost use mathlib.Core.Path.{_≡_};
-ghost use mathlib.Core.List.{[]};
+ghost use mathlib.Core.List.{_∷_, []};
 ghost use Prim.Native.Nat.{_+_, _*_, _≤_};
 ghost use lib.ListN.{length, drop};
 ghost use lib.Seq.{paste};
-ghost use Rattle.ground.specs.Refusals.{refusedWith};
+ghost use Rattle.ground.specs.Refusals.{refusedWith, saidThrough, saidBy};
 ghost use Rattle.ground.specs.Lists.{filled, tableAfter};
 ghost use Rattle.ground.specs.Words.{words};
-ghost use Rattle.card_block.specs.Block.{blockSize};
-ghost use Rattle.card_load.specs.Card.{mostBlocks, blocks, blocksOf, blocksRule, recordCount, gather, octets, CountsFit};
-ghost use Rattle.card_load.specs.Load.{fits, saidOf, loadSaid};
+ghost use Rattle.card_block.specs.Block.{blockSize, saidOf as judgedSaidOf};
+ghost use Rattle.card_load.specs.Card.{mostBlocks, blocks, blocksOf, blocksRows, recordCount, gather, octets, CountsFit};
+ghost use Rattle.card_load.specs.Load.{fits, roomRow, counted, saidOf, loadSaid};
+use card_block::Judged;
 
 // The octets in the longest card.
 const MOST_CARD: usize = 65536;
@@ -34,10 +35,10 @@ fn refused(number: u32) -> Loaded
     Loaded::Refused(r)
 }
 
-// Whether all rules of the first n blocks hold.
-fn blocks_right(card: &[u8], n: usize) -> bool
+// What is said of the first n blocks: the rules are asked block by block, so that the lowest bad block is the one that is named.
+fn judge_blocks(card: &[u8], n: usize) -> Judged
     requires { ⌜ n * blockSize ≤ length (now card) ⌝ }
-    ensures { λ r. ⌜ r ≡ blocksRule 0 1 (blocks n (now (card .entry))) ⌝ }
+    ensures { λ r. ⌜ judgedSaidOf r ≡ saidBy (blocksRows 0 1 (blocks n (now (card .entry)))) ⌝ }
 {
     let mut i: usize = 0;
     let mut least: u8 = 1;
@@ -45,13 +46,15 @@ fn blocks_right(card: &[u8], n: usize) -> bool
         let a = i * card_block::BLOCK;
         let e = a + card_block::BLOCK;
         let b = &card[a..e];
-        if !card_block::block_right(b, i, least) {
-            return false;
+        let j = card_block::judge(b, i, least);
+        match j {
+            Judged::Refused(r) => return Judged::Refused(r),
+            Judged::Fine => {}
         }
         least = b[2];
         i += 1;
     }
-    true
+    Judged::Fine
 }
 
 // How many records of a kind the first n blocks have.
@@ -151,21 +154,19 @@ fn within(count: usize, limit: usize, room: usize) -> bool
     (count <= limit) & (count <= room)
 }
 
-// What loading a card into tables of these lengths answers. It writes nothing.
-fn survey(card: &[u8], groups: usize, tracks: usize, segments: usize, text: usize) -> Loaded
-    ensures { λ r. ⌜ saidOf r ≡ loadSaid (now (card .entry)) groups tracks segments text ⌝ }
+// What is said of right blocks: 212, or the counts.
+fn count(
+    card: &[u8],
+    n: usize,
+    groups: usize,
+    tracks: usize,
+    segments: usize,
+    text: usize,
+) -> Loaded
+    requires { ⌜ n * blockSize ≤ length (now card) ⌝ }
+    requires { ⌜ n ≤ mostBlocks ⌝ }
+    ensures { λ r. ⌜ saidOf r ≡ saidThrough (roomRow (blocks n (now (card .entry))) groups tracks segments text ∷ []) (counted (blocks n (now (card .entry)))) ⌝ }
 {
-    let len = card.len();
-    if len % card_block::BLOCK != 0 {
-        return refused(ground::BAD_CARD_LENGTH);
-    }
-    if MOST_CARD < len {
-        return refused(ground::BAD_CARD_LENGTH);
-    }
-    let n = len / card_block::BLOCK;
-    if !blocks_right(card, n) {
-        return refused(ground::BAD_BLOCK);
-    }
     let g = record_count(card, n, 1);
     let t = record_count(card, n, 2);
     let s = record_count(card, n, 3);
@@ -184,6 +185,25 @@ fn survey(card: &[u8], groups: usize, tracks: usize, segments: usize, text: usiz
         return Loaded::Done(counts);
     }
     refused(ground::NO_ROOM)
+}
+
+// What loading a card into tables of these lengths answers. It writes nothing.
+fn survey(card: &[u8], groups: usize, tracks: usize, segments: usize, text: usize) -> Loaded
+    ensures { λ r. ⌜ saidOf r ≡ loadSaid (now (card .entry)) groups tracks segments text ⌝ }
+{
+    let len = card.len();
+    if len % card_block::BLOCK != 0 {
+        return refused(ground::BAD_CARD_LENGTH);
+    }
+    if MOST_CARD < len {
+        return refused(ground::BAD_CARD_LENGTH);
+    }
+    let n = len / card_block::BLOCK;
+    let j = judge_blocks(card, n);
+    match j {
+        Judged::Refused(r) => Loaded::Refused(r),
+        Judged::Fine => count(card, n, groups, tracks, segments, text),
+    }
 }
 
 // Card load: fills the front of each lent table and answers the counts, or refuses and leaves the tables as they were.

@@ -10,8 +10,9 @@ use lib.Dec.{eqb, leb}
 use lib.ListN.{length, take, drop, length-drop, take-append-drop}
 use Rattle.ground.specs.Words.{words, octetsOf}
 use Rattle.ground.proofs.Cases.{and-left}
-use Rattle.card_block.specs.Block.{recordSize, kindOf, blockRule}
+use Rattle.card_block.specs.Block.{recordSize}
 use Rattle.card_load.specs.Card.{blocks, lengthRule, blocksOf, blocksRule, gather, octets}
+use Rattle.card_load.proofs.Lengths.{blocks-first}
 use Rattle.ground.proofs.Words.{octets-length}
 use Rattle.catalogue_tables.specs.Tables.{Tables, tables}
 use Rattle.card_write.specs.Card.{kindBlocks, wordsTake, octetsTake, wordBlocks, textBlocks, joined, catalogueBlocks, cardOf, FullButLast}
@@ -52,10 +53,9 @@ run-text P text t from n =
     (λ i. kindBlocks octets 4 1 505 (m i) (n i) (t i)) ∙ sym (P .run-is)
 
 none-five : (number : ℕ) (bs : List (List ℕ)) → blocksRule number 5 bs ≡ true → bs ≡ []
-unfolding blocksRule
 none-five number [] h = refl
 none-five number (b ∷ bs) h =
-    let low = kind-low number 5 b (and-left (blockRule number 5 b) (blocksRule (number + 1) (kindOf b) bs) h) in
+    let low = kind-low number 5 b (blocks-first number 5 b bs h .0) in
     absurd (let z : ⊥ = omega (arith, low .0, low .1) in z)
 
 joined-blocks : (n : ℕ) (card : List ℕ) → length card ≡ n * 512 → joined (blocks n card) ≡ card

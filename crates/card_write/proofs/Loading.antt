@@ -11,7 +11,7 @@ use Rattle.ground.specs.Refusals.{granted}
 use Rattle.ground.specs.Words.{words, octetsOf}
 use Rattle.ground.proofs.Cases.{and-both}
 use Rattle.card_block.specs.Block.{recordSize, mostRecords}
-use Rattle.card_load.specs.Card.{lengthRule, blocksOf, blocksRule, recordCount, gather, octets}
+use Rattle.card_load.specs.Card.{lengthRule, blocksOf, blocksRows, blocksRule, recordCount, gather, octets}
 use Rattle.card_load.specs.Load.{roomRule, loadSaid}
 use Rattle.card_load.proofs.Answers.{says-done}
 use Rattle.ground.proofs.Words.{octets-length, words-octets}
@@ -51,7 +51,7 @@ module _ (n1 n2 n3 n4 g t s x : ℕ) (groups tracks segments text : List ℕ) (B
     (G : Reads words 1 g n1 0 groups B1) (T : Reads words 2 t n2 n1 tracks B2)
     (S : Reads words 3 s n3 (n1 + n2) segments B3) (X : Reads octets 4 x n4 (n1 + n2 + n3) text B4) where
   runs-right : blocksRule 0 1 (B1 ++ (B2 ++ (B3 ++ B4))) ≡ true
-  unfolding blocksRule
+  unfolding blocksRows
   runs-right =
       G .right 1 (omega arith) (B2 ++ (B3 ++ B4))
       (λ low1 h1. rw (zero-add n1) (T .right low1 (omega arith) (B3 ++ B4)

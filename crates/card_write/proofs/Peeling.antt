@@ -1,6 +1,6 @@
 -- The way back: the blocks of one kind at the front of a right and well filled card are the blocks of what they hold. Assumes nothing.
 use mathlib.Core.Path.{_≡_, refl, sym, ap, _∙_}
-use mathlib.Core.Bool.{true, _&&_}
+use mathlib.Core.Bool.{true}
 use mathlib.Core.List.{List, [], _∷_, _++_, append-nil}
 use mathlib.Core.Logic.{⊎-elim}
 use Prim.Native.Nat.{ℕ, zero, suc, _+_, _*_, _-_, _/_, _≤_, _<_}
@@ -14,9 +14,10 @@ use lib.Seq.{take-all, take-at, drop-at, length-take-le}
 use Rattle.ground.proofs.Cases.{true-or, le-or, and-left, and-right, and-both}
 use Rattle.ground.proofs.Octets.{Octs, octs-take, octs-drop}
 use Rattle.ground.proofs.Octets.Octs.{no-octets, octet}
-use Rattle.card_block.specs.Block.{kindOf, countOf, recordSize, mostRecords, recordsEnd, recordsOf, checkRule, numberRule, kindRule, countRule, paddingRule, blockRule}
-use Rattle.card_block.proofs.Records.{block-count, records-room}
-use Rattle.card_load.specs.Card.{blocks, blocksRule, gather}
+use Rattle.card_block.specs.Block.{kindOf, countOf, recordSize, mostRecords, recordsEnd, recordsOf, kindRule, countRule, blockRule}
+use Rattle.card_block.proofs.Records.{keeps-of, of-keeps, block-count, records-room}
+use Rattle.card_load.specs.Card.{blocks, blocksRows, blocksRule, gather}
+use Rattle.card_load.proofs.Lengths.{blocks-first, blocks-onto}
 use Rattle.card_fill.specs.Filled.{blockOf}
 use Rattle.card_fill.proofs.Only.{block-is}
 use Rattle.card_write.specs.Card.{kindBlocks, nextKind, FullButLast}
@@ -34,39 +35,35 @@ right-is (octet {x = a0} h0 (octet {x = a1} h1 (octet {x = a2} h2 (octet {x = a3
 
 -- the rule of a block's kind, out and in again at another kind before it
 pub kind-low : (number least : ℕ) (b : List ℕ) → blockRule number least b ≡ true → (least ≤ kindOf b) × (kindOf b ≤ 4) × (1 ≤ countOf b)
-unfolding blockRule kindRule countRule
+unfolding kindRule countRule
 kind-low number least b h =
-    let r1 = checkRule b && numberRule number b in
-    let q = and-left (r1 && kindRule least b && countRule b) (paddingRule b) h in
-    let k = and-right r1 (kindRule least b) (and-left (r1 && kindRule least b) (countRule b) q) in
-    let c = and-right (r1 && kindRule least b) (countRule b) q in (
-      leb-true _ _ (and-left (leb least (kindOf b)) (leb (kindOf b) 4) k),
-      leb-true _ _ (and-right (leb least (kindOf b)) (leb (kindOf b) 4) k),
-      leb-true _ _ (and-left (leb 1 (countOf b)) _ c),
+    let r = keeps-of number least b h in (
+      leb-true _ _ (and-left (leb least (kindOf b)) (leb (kindOf b) 4) (r .kind)),
+      leb-true _ _ (and-right (leb least (kindOf b)) (leb (kindOf b) 4) (r .kind)),
+      leb-true _ _ (and-left (leb 1 (countOf b)) _ (r .count)),
     )
 
 raise : (number least low : ℕ) (b : List ℕ) → blockRule number least b ≡ true → low ≤ kindOf b → blockRule number low b ≡ true
-unfolding blockRule kindRule
+unfolding kindRule
 raise number least low b h m =
-    let r1 = checkRule b && numberRule number b in
-    let q = and-left (r1 && kindRule least b && countRule b) (paddingRule b) h in
-    let p = and-left (r1 && kindRule least b) (countRule b) q in
-    let k = and-right r1 (kindRule least b) p in
-    and-both
-    (and-both
-    (and-both (and-left r1 (kindRule least b) p) (and-both (le-leb _ _ m) (and-right (leb least (kindOf b)) (leb (kindOf b) 4) k)))
-    (and-right (r1 && kindRule least b) (countRule b) q))
-    (and-right (r1 && kindRule least b && countRule b) (paddingRule b) h)
+    let r = keeps-of number least b h in
+    of-keeps number low b
+    record {
+      check = r .check;
+      place = r .place;
+      kind = and-both (le-leb _ _ m) (and-right (leb least (kindOf b)) (leb (kindOf b) 4) (r .kind));
+      count = r .count;
+      padding = r .padding;
+    }
 
 -- no block of a kind behind one of a higher kind
 none-above : (f : List ℕ → List ℕ) (kind number least : ℕ) (bs : List (List ℕ)) → kind < least → blocksRule number least bs ≡ true → gather f kind bs ≡ []
-unfolding blocksRule gather
+unfolding gather
 none-above f kind number least [] k h = refl
 none-above f kind number least (b ∷ bs) k h =
-    let r = and-left (blockRule number least b) (blocksRule (number + 1) (kindOf b) bs) h in
-    let s = and-right (blockRule number least b) (blocksRule (number + 1) (kindOf b) bs) h in
-    let low = kind-low number least b r in
-    rw (ne-eqb (kindOf b) kind (λ e. omega arith)) (none-above f kind (number + 1) (kindOf b) bs (omega (arith, low .0)) s)
+    let h2 = blocks-first number least b bs h in
+    let low = kind-low number least b (h2 .0) in
+    rw (ne-eqb (kindOf b) kind (λ e. omega arith)) (none-above f kind (number + 1) (kindOf b) bs (omega (arith, low .0)) (h2 .1))
 
 -- blocks of 512 octets; one that is not the last of its kind is full
 pub data Fine : List (List ℕ) → Type 0 where
@@ -191,7 +188,7 @@ module _ {enc dec : List ℕ → List ℕ} {kind unit per : ℕ} (W : Way enc de
         }
 
   pub peel : (number : ℕ) {bs : List (List ℕ)} → Fine bs → blocksRule number kind bs ≡ true → Peeled enc dec kind unit per number bs
-  unfolding blocksRule gather kindBlocks
+  unfolding blocksRows gather kindBlocks
   peel number no-blocks h =
       record {
         run = [];
@@ -206,8 +203,8 @@ module _ {enc dec : List ℕ → List ℕ} {kind unit per : ℕ} (W : Way enc de
         other = λ f k e. refl;
       }
   peel number (fine {b} {bs} l o full F) h =
-      let r = and-left (blockRule number kind b) (blocksRule (number + 1) (kindOf b) bs) h in
-      let s = and-right (blockRule number kind b) (blocksRule (number + 1) (kindOf b) bs) h in
+      let r = blocks-first number kind b bs h .0 in
+      let s = blocks-first number kind b bs h .1 in
       let low = kind-low number kind b r in
       ⊎-elim
       (λ t.
@@ -215,7 +212,7 @@ module _ {enc dec : List ℕ → List ℕ} {kind unit per : ℕ} (W : Way enc de
       more-peeled number b bs l o full e r (peel (suc number) F (rw (add-one number, e) at s)))
       (λ t.
       let k : kind < kindOf b = above (kindOf b) (low .0) (eqb-false _ _ t) in
-      let none : gather dec kind (b ∷ bs) ≡ [] = none-above dec kind number (suc kind) (b ∷ bs) (omega arith) (and-both (raise number kind (suc kind) b r k) s) in
+      let none : gather dec kind (b ∷ bs) ≡ [] = none-above dec kind number (suc kind) (b ∷ bs) (omega arith) (blocks-onto number (suc kind) b bs (raise number kind (suc kind) b r k) s) in
       let len : length (gather dec kind (b ∷ bs)) ≡ 0 = ap length none in
       record {
         run = [];
@@ -225,7 +222,7 @@ module _ {enc dec : List ℕ → List ℕ} {kind unit per : ℕ} (W : Way enc de
         enough = omega (arith, zero-mul per);
         needed = omega (arith, zero-mul per, per-some);
         head = λ j. absurd (let z : ⊥ = omega arith in z);
-        left = rw (add-zero number) (and-both (raise number kind (suc kind) b r k) s);
+        left = rw (add-zero number) (blocks-onto number (suc kind) b bs (raise number kind (suc kind) b r k) s);
         left-fine = fine l o full F;
         other = λ f j e. refl;
       })

@@ -16,12 +16,12 @@ use Rattle.ground.specs.Refusals.{Said, granted, Row, saidThrough}
 use Rattle.ground.specs.Lists.{filled, tableAfter}
 use Rattle.ground.specs.Words.{words}
 use Rattle.ground.proofs.Octets.{octs-of}
-use Rattle.ground.proofs.Rows.{NoneApplies, kept, through}
+use Rattle.ground.proofs.Rows.{NoneApplies, kept, parted, of-none, through}
 use Rattle.card_block.specs.Block.{recordSize}
 use Rattle.card_block.proofs.Records.{records-words, records-octets}
 use Rattle.card_load.specs.declared.Counts.{Counts}
 use Rattle.card_load.specs.declared.Loaded.the-variants.{Done as LoadDone}
-use Rattle.card_load.specs.Card.{lengthRule, blocksOf, blocksRule, recordCount, gather, octets, CountsFit}
+use Rattle.card_load.specs.Card.{lengthRule, blocksOf, blocksRows, blocksRule, recordCount, gather, octets, CountsFit}
 use Rattle.card_load.specs.Load.{saidOf as loadSaidOf, loadRows, loadSaid}
 use Rattle.card_load.proofs.Lengths.{counts-fit, gather-length}
 use Rattle.catalogue_tables.specs.Tables.{Tables, tables, groupCount, trackCount}
@@ -127,7 +127,7 @@ module _ (ls : Lfts 5) (lent gs ts ss xs : RefT (List ℕ)) (p : load.Outcome) (
   whole = not-false _ (loaded .0 .0)
 
   ruled : blocksRule 0 1 bs ≡ true
-  ruled = not-false _ (loaded .0 .1 .0)
+  ruled = of-none (blocksRows 0 1 bs) (parted (blocksRows 0 1 bs) _ (loaded .0 .1) .0)
 
   fit : CountsFit (length (lent .now) / 512) (lent .now)
   fit = counts-fit (length (lent .now) / 512) (lent .now) ruled

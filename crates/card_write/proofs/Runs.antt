@@ -10,9 +10,10 @@ use native.Mathlib.Omega.{arith}
 use borrow.Author.Tests.{eq-eqb, ne-eqb}
 use lib.ListN.{length, take, drop, length-drop, take-append-drop}
 use lib.Seq.{take-all, length-take-le}
-use Rattle.ground.proofs.Cases.{le-or, and-both}
+use Rattle.ground.proofs.Cases.{le-or}
 use Rattle.card_block.specs.Block.{kindOf, countOf, recordSize, mostRecords, recordsOf, blockRule}
 use Rattle.card_load.specs.Card.{blocksRule, recordCount, gather}
+use Rattle.card_load.proofs.Lengths.{blocks-onto}
 use Rattle.card_fill.specs.Filled.{blockOf}
 use Rattle.card_fill.proofs.Right.{block-length, block-kind, block-count, block-records, block-right}
 use Rattle.card_write.specs.Card.{kindBlocks}
@@ -92,12 +93,12 @@ module _ (dec : List ℕ → List ℕ) (kind c n number : ℕ) (table left : Lis
     (k : kindOf b ≡ kind) (x : countOf b ≡ q) (y : dec (recordsOf b) ≡ part) (z : length b ≡ 512)
     (r : (least : ℕ) → least ≤ kind → blockRule number least b ≡ true) (j : part ++ left ≡ table) where
   one-more : Reads dec kind (q + c) (suc n) number table (b ∷ bs)
-  unfolding blocksRule gather recordCount
+  unfolding gather recordCount
   one-more =
       record {
         right = λ least lo rest h.
             let e : number + suc n ≡ suc number + n = omega arith in
-            and-both (r least lo)
+            blocks-onto number least b (bs ++ rest) (r least lo)
             (rw (add-one number, k) (R .right kind (omega arith) rest (λ low lo. rw e at (h low lo))));
         own = λ rest. rw (eq-eqb _ _ k, y, R .own rest) (sym (append-assoc part left (gather dec kind rest)) ∙ ap (λ (l : List ℕ). l ++ gather dec kind rest) j);
         own-count = λ rest. rw (eq-eqb _ _ k, x, R .own-count rest) (sym (add-assoc q c (recordCount kind rest)));

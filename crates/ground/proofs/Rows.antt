@@ -2,9 +2,10 @@
 use mathlib.Core.Path.{_≡_, refl, sym, ap, _∙_}
 use mathlib.Core.Bool.{Bool, true, false, _&&_, not}
 use mathlib.Core.List.{List, [], _∷_, _++_}
+use Prim.Native.Nat.{ℕ}
 use Rattle.ground.specs.Cases.{pick}
 use Rattle.ground.specs.Refusals.{Said, granted, refusedWith, Row, answered, accepted, saidThrough, saidBy, Left, keeping}
-use Rattle.ground.proofs.Cases.{past, clash}
+use Rattle.ground.proofs.Cases.{past, clash, and-both}
 
 -- no row applies
 abbrev pub NoneApplies : List Row → Type 0
@@ -30,6 +31,20 @@ accepted-said (r ∷ rows) = at (r .applies) (accepted-said rows)
     at : (t : Bool) → saidBy rows .isGranted ≡ accepted rows → pick t (refusedWith (r .number) (r .values)) (saidBy rows) .isGranted ≡ (not t && accepted rows)
     at true ih = refl
     at false ih = ih
+
+-- rows one behind the other are asked one behind the other
+pub in-turn : {A : Type 0} (refuse : Said → A) (rows behind : List Row) (work : A)
+    → answered refuse (rows ++ behind) work ≡ answered refuse rows (answered refuse behind work)
+in-turn refuse [] behind work = refl
+in-turn refuse (r ∷ rows) behind work = ap (pick (r .applies) (refuse (refusedWith (r .number) (r .values)))) (in-turn refuse rows behind work)
+
+pub both-accept : (rows behind : List Row) → accepted (rows ++ behind) ≡ (accepted rows && accepted behind)
+both-accept [] behind = refl
+both-accept (r ∷ rows) behind = at (not (r .applies)) (both-accept rows behind)
+  where
+    at : (t : Bool) → accepted (rows ++ behind) ≡ (accepted rows && accepted behind) → (t && accepted (rows ++ behind)) ≡ ((t && accepted rows) && accepted behind)
+    at true ih = ih
+    at false ih = refl
 
 -- a row applies: its refusal is the answer, whatever stands behind
 pub shut : {A : Type 0} (refuse : Said → A) (rows : List Row) (rest : A) → saidBy rows .isGranted ≡ false → refuse (saidBy rows) ≡ answered refuse rows rest
@@ -67,6 +82,20 @@ more (r ∷ rows) behind e = at (r .applies) e (more rows behind)
     at true h ih = refl
     at false h ih = ih h
 
+-- rows that all carry the same: so does what they say
+abbrev AllCarry : List ℕ → List Row → Type 0
+AllCarry values [] = Unit
+AllCarry values (r ∷ rows) = (r .values ≡ values) × AllCarry values rows
+
+pub all-carry : (values : List ℕ) (rows : List Row) → AllCarry values rows → saidBy rows .isGranted ≡ false → saidBy rows .values ≡ values
+all-carry values [] same e = clash (sym e)
+all-carry values (r ∷ rows) same e = at (r .applies) e (all-carry values rows (same .1))
+  where
+    at : (t : Bool) → pick t (refusedWith (r .number) (r .values)) (saidBy rows) .isGranted ≡ false → (saidBy rows .isGranted ≡ false → saidBy rows .values ≡ values)
+        → pick t (refusedWith (r .number) (r .values)) (saidBy rows) .values ≡ values
+    at true h ih = same .0
+    at false h ih = ih h
+
 -- what the rows behind say, where none of the first applies
 pub beyond : (rows behind : List Row) {said : Said} → NoneApplies rows → said ≡ saidBy behind → said ≡ saidBy (rows ++ behind)
 beyond [] behind none e = e
@@ -81,9 +110,17 @@ pub both : (rows behind : List Row) → NoneApplies rows → NoneApplies behind 
 both [] behind p q = q
 both (r ∷ rows) behind p q = (p .0, both rows behind (p .1) q)
 
+pub parted : (rows behind : List Row) → NoneApplies (rows ++ behind) → NoneApplies rows × NoneApplies behind
+parted [] behind n = (tt, n)
+parted (r ∷ rows) behind n = let p = parted rows behind (n .1) in ((n .0, p .0), p .1)
+
 -- rows that accept are rows none of which applies
 pub none-of : (rows : List Row) → accepted rows ≡ true → NoneApplies rows
 none-of rows e = kept rows (granted []) (accepted-said rows ∙ e)
+
+pub of-none : (rows : List Row) → NoneApplies rows → accepted rows ≡ true
+of-none [] n = refl
+of-none (r ∷ rows) n = and-both (ap not (n .0)) (of-none rows (n .1))
 
 -- the state that a call leaves, and what it says, by whether its rows accept
 pub state-of : {S : Type 0} (s : S) (rows : List Row) (work : Left S) → answered (keeping s) rows work .state ≡ pick (accepted rows) (work .state) s

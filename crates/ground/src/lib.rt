@@ -21,7 +21,7 @@ pub const MOST_TITLE: usize = 128;
 
 pub const LEAST_OUTPUT: usize = 128;
 
-// The numbers of document 01's table, in its order, and of document 02's card write and cue sheets.
+// The numbers of document 01's table, in its order, with document 02's reasons of a bad block; and of its card write and cue sheets.
 pub const BAD_CATALOGUE: u32 = 200;
 
 pub const SMALL_OUTPUT: u32 = 205;
@@ -62,7 +62,15 @@ pub const BAD_GROUP: u32 = 208;
 
 pub const BAD_CARD_LENGTH: u32 = 210;
 
-pub const BAD_BLOCK: u32 = 211;
+pub const BAD_CHECK: u32 = 211;
+
+pub const BAD_BLOCK_NUMBER: u32 = 215;
+
+pub const BAD_KIND: u32 = 216;
+
+pub const BAD_COUNT: u32 = 217;
+
+pub const BAD_PADDING: u32 = 218;
 
 pub const NO_ROOM: u32 = 212;
 

@@ -1,5 +1,6 @@
 // Reads a card from standard input, loads it into tables at the limits, and checks the catalogue that it holds.
-// Writes the counts and "catalogue fine", or the refusal number alone.
+// Writes the counts and "catalogue fine"; of a card with a bad block the refusal number, the block and what is wrong with it, in words; or the refusal number
+// alone.
 ghost use Prim.Native.Nat.{_≤_};
 use card_load::Counts;
 use card_load::Loaded;
@@ -9,8 +10,44 @@ fn write_number(n: usize) {
     io::print_decimal(1, n as u64);
 }
 
-fn refuse(number: usize) {
-    write_number(number);
+// What is wrong with a block that is refused by this number.
+fn write_reason(number: u32) {
+    if number == ground::BAD_CHECK {
+        io::write_all(1, b"its check octets do not fit its contents");
+    }
+    if number == ground::BAD_BLOCK_NUMBER {
+        io::write_all(1, b"its number is not its place on the card");
+    }
+    if number == ground::BAD_KIND {
+        io::write_all(
+            1,
+            b"its kind is not 1 to 4, or below that of the block before",
+        );
+    }
+    if number == ground::BAD_COUNT {
+        io::write_all(
+            1,
+            b"its record count is 0, or more than a block of its kind holds",
+        );
+    }
+    if number == ground::BAD_PADDING {
+        io::write_all(1, b"an octet behind its records is not 0");
+    }
+}
+
+fn refuse(r: ground::Refusal) {
+    let number = r.number;
+    let carried = r.carried;
+    write_number(ground::wide_word(number));
+    match carried {
+        ground::Carried::Nothing => {}
+        ground::Carried::One(block) => {
+            io::write_all(1, b": block ");
+            write_number(block);
+            io::write_all(1, b", ");
+            write_reason(number);
+        }
+    }
     io::write_all(1, b"\n");
 }
 
@@ -30,7 +67,7 @@ fn check(counts: Counts, groups: &[u32], tracks: &[u32], segments: &[u32], text:
     let answer = catalogue_check::check(groups, tracks, segments, text);
     match answer {
         Catalogue::Refused(r) => {
-            refuse(ground::wide_word(r.number));
+            refuse(r);
         }
         Catalogue::Fine => {
             write_counts(counts);
@@ -57,7 +94,7 @@ fn inspect(card: &[u8]) {
     let answer = card_load::load(card, &mut groups, &mut tracks, &mut segments, &mut text);
     match answer {
         Loaded::Refused(r) => {
-            refuse(ground::wide_word(r.number));
+            refuse(r);
         }
         Loaded::Done(counts) => {
             let g = within(counts.groups, ground::MOST_GROUPS) * 3;

@@ -76,23 +76,25 @@ module _ (groups tracks segments text state : RefT (List ℕ)) where
         → ((n₁ ≡ n₂) × (new₁ ≡ new₂)) × (out₁ ≡ out₂) × (told₁ ≡ told₂)
     take-settled p q = (leaves-settled (p .0) (q .0), p .1 .0 ∙ sym (q .1 .0), p .1 .1 ∙ sym (q .1 .1))
 
--- a card load's four tables and its counts
-module _ (κs : Lfts 6) (card groups tracks segments text counts : RefT (List ℕ)) where
+-- a card load's four tables, its counts and its block
+module _ (κs : Lfts 7) (card groups tracks segments text counts block : RefT (List ℕ)) where
   -- what is lent, with other contents
-  abbrev loaded : List ℕ → List ℕ → List ℕ → List ℕ → List ℕ → RefT (List ℕ) × (RefT (List ℕ) × (RefT (List ℕ) × (RefT (List ℕ) × (RefT (List ℕ) × (RefT (List ℕ) × Unit {0})))))
-  loaded g t s x c = (card, (at-last groups g, (at-last tracks t, (at-last segments s, (at-last text x, (at-last counts c, tt))))))
+  abbrev loaded : List ℕ → List ℕ → List ℕ → List ℕ → List ℕ → List ℕ
+      → RefT (List ℕ) × (RefT (List ℕ) × (RefT (List ℕ) × (RefT (List ℕ) × (RefT (List ℕ) × (RefT (List ℕ) × (RefT (List ℕ) × Unit {0}))))))
+  loaded g t s x c b = (card, (at-last groups g, (at-last tracks t, (at-last segments s, (at-last text x, (at-last counts c, (at-last block b, tt)))))))
 
-  pub card-load-settled : (n₁ n₂ : ℕ) (g₁ g₂ t₁ t₂ s₁ s₂ x₁ x₂ c₁ c₂ : List ℕ)
-      → card-load.Post κs (card, (groups, (tracks, (segments, (text, (counts, tt)))))) n₁ (loaded g₁ t₁ s₁ x₁ c₁)
-      → card-load.Post κs (card, (groups, (tracks, (segments, (text, (counts, tt)))))) n₂ (loaded g₂ t₂ s₂ x₂ c₂)
-      → (n₁ ≡ n₂) × (g₁ ≡ g₂) × (t₁ ≡ t₂) × (s₁ ≡ s₂) × (x₁ ≡ x₂) × (c₁ ≡ c₂)
-  card-load-settled n₁ n₂ g₁ g₂ t₁ t₂ s₁ s₂ x₁ x₂ c₁ c₂ p q = (
+  pub card-load-settled : (n₁ n₂ : ℕ) (g₁ g₂ t₁ t₂ s₁ s₂ x₁ x₂ c₁ c₂ b₁ b₂ : List ℕ)
+      → card-load.Post κs (card, (groups, (tracks, (segments, (text, (counts, (block, tt))))))) n₁ (loaded g₁ t₁ s₁ x₁ c₁ b₁)
+      → card-load.Post κs (card, (groups, (tracks, (segments, (text, (counts, (block, tt))))))) n₂ (loaded g₂ t₂ s₂ x₂ c₂ b₂)
+      → (n₁ ≡ n₂) × (g₁ ≡ g₂) × (t₁ ≡ t₂) × (s₁ ≡ s₂) × (x₁ ≡ x₂) × (c₁ ≡ c₂) × (b₁ ≡ b₂)
+  card-load-settled n₁ n₂ g₁ g₂ t₁ t₂ s₁ s₂ x₁ x₂ c₁ c₂ b₁ b₂ p q = (
     p .0 ∙ sym (q .0),
     p .1 .0 ∙ sym (q .1 .0),
     p .1 .1 .0 ∙ sym (q .1 .1 .0),
     p .1 .1 .1 .0 ∙ sym (q .1 .1 .1 .0),
     p .1 .1 .1 .1 .0 ∙ sym (q .1 .1 .1 .1 .0),
-    p .1 .1 .1 .1 .1 ∙ sym (q .1 .1 .1 .1 .1),
+    p .1 .1 .1 .1 .1 .0 ∙ sym (q .1 .1 .1 .1 .1 .0),
+    p .1 .1 .1 .1 .1 .1 ∙ sym (q .1 .1 .1 .1 .1 .1),
   )
 
 -- a card write's card and its number of blocks

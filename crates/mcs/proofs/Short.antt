@@ -1,19 +1,21 @@
 -- What a call says fits words of 32 bits, so C is told the numbers themselves. Assumes nothing.
 use mathlib.Core.Path.{_≡_, refl, sym, subst, _∙_}
-use mathlib.Core.Bool.{Bool, true, false, _&&_}
+use mathlib.Core.Bool.{Bool, true, false, _&&_, not}
 use mathlib.Core.List.{List, [], _∷_, _++_}
-use Prim.Native.Nat.{ℕ, zero, suc, _-_, _/_, _≤_, _<_}
+use Prim.Native.Nat.{ℕ, zero, suc, _+_, _-_, _/_, _%_, _≤_, _<_}
 use native.Mathlib.Omega.{arith}
 use borrow.Author.Tests.{not-false, leb-true, leb-false}
 use lib.Dec.{eqb, leb, ltb, lit≤}
 use lib.ListN.{length, take, drop, getD, length-take, length-drop}
 use Rattle.ground.specs.Cases.{pick}
-use Rattle.ground.specs.Refusals.{Said, granted, refusedWith, Row, answered, Left, leaves, keeping}
+use Rattle.ground.specs.Refusals.{Said, granted, refusedWith, Row, row, answered, saidThrough, Left, leaves, keeping}
 use Rattle.ground.specs.Limits.{mostGroups, mostTracks, mostSegments, mostText, groupWords, trackWords, leastOutput}
 use Rattle.ground.proofs.Cases.{and-left, and-right}
 use Rattle.catalogue_tables.specs.Tables.{Tables}
-use Rattle.card_load.specs.Card.{blocksOf, recordCount}
-use Rattle.card_load.specs.Load.{fits, roomRule, loadRows, loadSaid}
+use Rattle.card_block.specs.Block.{kindOf}
+use Rattle.card_load.specs.Card.{lengthRule, blocksOf, blocksRows, recordCount}
+use Rattle.card_load.specs.Load.{fits, roomRule, roomRow, counted, loadSaid}
+use Rattle.card_load.proofs.Blocks.{blocks-length}
 use Rattle.catalogue_check.proofs.Laws.{is-right}
 use Rattle.card_write.specs.Write.{writeRows, writeSaid}
 use Rattle.card_write.proofs.Answers.{most-blocks}
@@ -22,7 +24,7 @@ use Rattle.catalogue_cue.proofs.Small.{cue-small}
 use Rattle.desk_slots.specs.Slots.{clientCount, slotTable, characteristicOf}
 use Rattle.player_values.specs.Values.{sourceOf, valueOf}
 use Rattle.player_values.proofs.Fits.{value-fits}
-use Rattle.ground.proofs.Rows.{NoneApplies}
+use Rattle.ground.proofs.Rows.{NoneApplies, parted}
 use Rattle.desk_client.specs.declared.Client.{Client}
 use Rattle.desk_client.specs.Client.{controlSlot, blankEntry}
 use Rattle.desk_state.specs.declared.Desk.{Desk}
@@ -31,7 +33,7 @@ use Rattle.desk_replies.proofs.Gates.{right, player}
 use Rattle.desk_exchange.specs.Read.{valueNow, readerRows, readOctets, readCall}
 use Rattle.desk_take.specs.Serving.{nextSlot, resultOctets, handedOctets, handedValues, afterServing}
 use Rattle.desk_take.specs.Take.{nextClient, withServed, takeCall}
-use Rattle.mcs.specs.Calls.{lowWord, toldOf, toldAfter, saidWords, wordsAfter}
+use Rattle.mcs.specs.Calls.{lowWord, carries, toldOf, toldAfter, saidWords, wordsAfter, carriedAfter}
 
 -- each of them is below 2^32
 abbrev pub AllWords : List ℕ → Type 0
@@ -53,6 +55,9 @@ told-by-places on said old h =
     let v : List ℕ = said .values in
     λ k. toldAfter on (low (getD v 0 0) (h 0) k ∷ low (getD v 1 0) (h 1) k ∷ low (getD v 2 0) (h 2) k ∷ low (getD v 3 0) (h 3) k ∷ []) old
 
+pub carried-as-said : (said : Said) (old : List ℕ) → AllWords (said .values) → toldAfter (toldOf said .carries) (toldOf said .values) old ≡ carriedAfter said old
+carried-as-said said old h = told-by-places (carries said) said old (λ i. at-word (said .values) i h)
+
 pub told-as-said : (said : Said) (old : List ℕ) → AllWords (said .values) → toldAfter (toldOf said .granted) (toldOf said .values) old ≡ wordsAfter said old
 told-as-said said old h = told-by-places (said .isGranted) said old (λ i. at-word (said .values) i h)
 
@@ -60,27 +65,45 @@ told-as-said said old h = told-by-places (said .isGranted) said old (λ i. at-wo
 pub cue-words : (sheet : List ℕ) (room i : ℕ) → getD (cueSaid sheet room .values) i 0 < 4294967296
 cue-words sheet room i = omega (arith, cue-small sheet room i)
 
--- the rows' numbers carry nothing, so only the work is asked
-bare : List Row → Type 0
-bare [] = Unit
-bare (r ∷ rows) = (r .values ≡ []) × bare rows
+-- what rows carry is below 2^32
+SmallRows : List Row → Type 0
+SmallRows [] = Unit
+SmallRows (r ∷ rows) = AllWords (r .values) × SmallRows rows
 
+-- where that is so, only the work is asked
 behind-rows : {A : Type 0} (said : A → Said) (refuse : Said → A) → ((s : Said) → said (refuse s) .values ≡ s .values)
-    → (rows : List Row) → bare rows → (work : A) → (NoneApplies rows → AllWords (said work .values)) → AllWords (said (answered refuse rows work) .values)
-unfolding bare
+    → (rows : List Row) → SmallRows rows → (work : A) → (NoneApplies rows → AllWords (said work .values)) → AllWords (said (answered refuse rows work) .values)
+unfolding SmallRows
 behind-rows said refuse e [] n work h = h tt
 behind-rows {A} said refuse e (r ∷ rows) n work h = at (r .applies) (λ q. behind-rows said refuse e rows (n .1) work (λ m. h (q, m)))
   where
     at : (t : Bool) → (t ≡ false → AllWords (said (answered refuse rows work) .values)) → AllWords (said (pick t (refuse (refusedWith (r .number) (r .values))) (answered refuse rows work)) .values)
-    at true k = subst AllWords (sym (e (refusedWith (r .number) (r .values)) ∙ n .0)) tt
+    at true k = subst AllWords (sym (e (refusedWith (r .number) (r .values)))) (n .0)
     at false k = k refl
 
--- a card's counts keep within the limits
+-- the rows of blocks carry their places
+small-blocks : (number least : ℕ) (bs : List (List ℕ)) (behind : List Row) → number + length bs < 4294967296 → SmallRows behind → SmallRows (blocksRows number least bs ++ behind)
+unfolding SmallRows blocksRows
+small-blocks number least [] behind h n = n
+small-blocks number least (b ∷ bs) behind h n =
+    let w : number < 4294967296 = omega arith in
+    ((w, tt), ((w, tt), ((w, tt), ((w, tt), ((w, tt), small-blocks (number + 1) (kindOf b) bs behind (omega arith) n)))))
+
+-- a card has few blocks, and its counts keep within the limits
 pub load-words : (card : List ℕ) (groups tracks segments text : ℕ) → AllWords (loadSaid card groups tracks segments text .values)
-unfolding loadSaid roomRule bare
+unfolding loadSaid lengthRule roomRule SmallRows
 load-words card groups tracks segments text =
-    behind-rows (λ said. said) (λ said. said) (λ said. refl) (loadRows card groups tracks segments text) (refl, (refl, (refl, tt))) _ (λ n. counts (not-false _ (n .1 .1 .0)))
+    let blocks = blocksRows 0 1 (blocksOf card) in
+    let room = roomRow (blocksOf card) groups tracks segments text ∷ [] in
+    behind-rows (λ said. said) (λ said. said) (λ said. refl) (row 210 (not (lengthRule card)) ∷ []) (tt, tt) (saidThrough (blocks ++ room) (counted (blocksOf card))) (λ n.
+    behind-rows (λ said. said) (λ said. said) (λ said. refl) (blocks ++ room) (small-blocks 0 1 (blocksOf card) room (short (not-false _ (n .0))) (tt, tt)) (counted (blocksOf card)) (λ m.
+    counts (not-false _ (parted blocks room m .1 .0))))
   where
+    short : lengthRule card ≡ true → 0 + length (blocksOf card) < 4294967296
+    short h =
+        let l : length card ≤ 65536 = leb-true _ _ (and-right (eqb (length card % 512) 0) (leb (length card) 65536) h) in
+        rw (blocks-length (length card / 512) card) (omega arith)
+
     few : {n most : ℕ} → n ≤ most → most < 4294967296 → n < 4294967296
     few h k = omega (arith, h, k)
 
@@ -108,19 +131,19 @@ load-words card groups tracks segments text =
 
 -- a card has at most 89 blocks
 pub write-words : (k : Tables) (room : ℕ) → AllWords (writeSaid k room .values)
-unfolding writeSaid bare
+unfolding writeSaid SmallRows
 write-words k room =
-    behind-rows (λ said. said) (λ said. said) (λ said. refl) (writeRows k room) (refl, (refl, tt)) _
+    behind-rows (λ said. said) (λ said. said) (λ said. refl) (writeRows k room) (tt, (tt, tt)) _
     (λ n. (omega (arith, most-blocks k (is-right k (not-false _ (n .0)))), tt))
 
 module _ (k : Tables) (d : Desk) where
   -- a read's length is at most its value's, which is at most 128
   pub read-words : (who characteristic offset room : ℕ) → AllWords (readCall k d who characteristic offset room .said .values)
-  unfolding readCall readOctets bare
+  unfolding readCall readOctets SmallRows
   read-words who characteristic offset room =
       let rows = readerRows d who characteristic offset (length (valueNow k d characteristic)) in
       let small = ltb room leastOutput in
-      behind-rows (λ (l : Left Desk). l .said) (keeping d) (λ said. refl) (fronted k small d ++ rows) (refl, (refl, (refl, (refl, (refl, (refl, (refl, (refl, (refl, (refl, tt)))))))))) _ (λ n.
+      behind-rows (λ (l : Left Desk). l .said) (keeping d) (λ said. refl) (fronted k small d ++ rows) (tt, (tt, (tt, (tt, (tt, (tt, (tt, (tt, (tt, (tt, tt)))))))))) _ (λ n.
       let short : length (valueNow k d characteristic) ≤ 128 = value-fits k (right k small d rows n) (d .player) (player k small d rows n) characteristic in
       (part-short (caller d who .link .mtu - 1) offset (valueNow k d characteristic) short, tt))
     where
@@ -141,10 +164,10 @@ module _ (k : Tables) (d : Desk) where
 
   -- so is a take's; clients and characteristics are few
   pub take-words : (room : ℕ) → AllWords (takeCall k d room .said .values)
-  unfolding takeCall bare
+  unfolding takeCall SmallRows
   take-words room =
       let small = ltb room leastOutput in
-      behind-rows (λ (l : Left Desk). l .said) (keeping d) (λ said. refl) (fronted k small d ++ []) (refl, (refl, (refl, tt))) _ (λ n.
+      behind-rows (λ (l : Left Desk). l .said) (keeping d) (λ said. refl) (fronted k small d ++ []) (tt, (tt, (tt, tt))) _ (λ n.
       served (leb clientCount (nextClient d)) refl (value-fits k (right k small d [] n) (d .player) (player k small d [] n)))
     where
       own : Client

@@ -1,5 +1,6 @@
 // What C calls (include/mcs.h). The state is 338 octets that the caller keeps (`mcs_state`); each call reads it out of them, makes its call, and writes it back
-// where that is accepted. A call returns 0, or the number of the refusal: then nothing that was lent is altered.
+// where that is accepted. A call returns 0, or the number of the refusal: then nothing that was lent is altered, but for the word that is lent for what a
+// refusal carries.
 ghost use mathlib.Core.Path.{_≡_};
 ghost use mathlib.Core.List.{[], _∷_};
 ghost use Prim.Native.Nat.{_≤_};
@@ -157,6 +158,7 @@ pub extern "C" fn mcs_card_load(
     segments: &mut [u32],
     text: &mut [u8],
     counts: &mut [u32; 4],
+    block: &mut [u32; 1],
 ) -> u32
     ensures { λ r. ⌜ r ≡ (loadSaid (now (card .entry)) (len (now (groups .entry))) (len (now (tracks .entry))) (len (now (segments .entry))) (len (now (text .entry)))) .number ⌝ }
     ensures { λ r. ⌜ now (groups .exit) ≡ tableAfter (loadSaid (now (card .entry)) (len (now (groups .entry))) (len (now (tracks .entry))) (len (now (segments .entry))) (len (now (text .entry)))) (gather words 1 (blocksOf (now (card .entry)))) (now (groups .entry)) ⌝ }
@@ -164,11 +166,13 @@ pub extern "C" fn mcs_card_load(
     ensures { λ r. ⌜ now (segments .exit) ≡ tableAfter (loadSaid (now (card .entry)) (len (now (groups .entry))) (len (now (tracks .entry))) (len (now (segments .entry))) (len (now (text .entry)))) (gather words 3 (blocksOf (now (card .entry)))) (now (segments .entry)) ⌝ }
     ensures { λ r. ⌜ now (text .exit) ≡ tableAfter (loadSaid (now (card .entry)) (len (now (groups .entry))) (len (now (tracks .entry))) (len (now (segments .entry))) (len (now (text .entry)))) (gather octets 4 (blocksOf (now (card .entry)))) (now (text .entry)) ⌝ }
     ensures { λ r. ⌜ now (counts .exit) ≡ wordsAfter (loadSaid (now (card .entry)) (len (now (groups .entry))) (len (now (tracks .entry))) (len (now (segments .entry))) (len (now (text .entry)))) (now (counts .entry)) ⌝ }
+    ensures { λ r. ⌜ now (block .exit) ≡ carriedAfter (loadSaid (now (card .entry)) (len (now (groups .entry))) (len (now (tracks .entry))) (len (now (segments .entry))) (len (now (text .entry)))) (now (block .entry)) ⌝ }
 {
     let l = card_load::load(card, groups, tracks, segments, text);
     let t = told_of_load(l);
     let values = t.values;
     tell(t.granted, values, counts);
+    tell(t.carries, values, block);
     t.number
 }
 

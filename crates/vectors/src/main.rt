@@ -96,10 +96,22 @@ fn prefill(s: &mut [u32]) {
     }
 }
 
+// A refusal: its number, and what it carries.
+fn write_refusal(r: ground::Refusal) {
+    write_number(ground::wide_word(r.number));
+    let carried = r.carried;
+    match carried {
+        ground::Carried::Nothing => {}
+        ground::Carried::One(place) => {
+            write_number(place);
+        }
+    }
+}
+
 fn write_answer(answer: Loaded) {
     match answer {
         Loaded::Refused(r) => {
-            write_number(ground::wide_word(r.number));
+            write_refusal(r);
         }
         Loaded::Done(counts) => {
             write_number(counts.groups);
@@ -193,7 +205,7 @@ fn check_catalogue(groups: &[u32], tracks: &[u32], segments: &[u32], text: &[u8]
             io::write_all(1, b" fine");
         }
         Catalogue::Refused(r) => {
-            write_number(ground::wide_word(r.number));
+            write_refusal(r);
         }
     }
 }
@@ -300,18 +312,6 @@ fn text_case(s: &[u8]) -> &[u8]
         }
     }
     rest(octets, len)
-}
-
-// A refusal: its number, and what it carries.
-fn write_refusal(r: ground::Refusal) {
-    write_number(ground::wide_word(r.number));
-    let carried = r.carried;
-    match carried {
-        ground::Carried::Nothing => {}
-        ground::Carried::One(place) => {
-            write_number(place);
-        }
-    }
 }
 
 fn write_cued(answer: Cued) {
