@@ -4,10 +4,10 @@
  *     card copy FROM TO
  *
  * Check loads the card file FILE, says what it holds, and whether its catalogue is right. Copy loads and checks the card file FROM,
- * writes the catalogue's card to the file TO, and says what differs: a card of which a block in the middle is not full has the same
- * tables, and other octets. Of a card that is refused for a block, both say which block it is, and what is wrong with it.
- * Exit status 0, or 1 where the card or its catalogue is refused, or 2 where a file cannot be read or written or the program is
- * called otherwise.
+ * and writes the catalogue's card to the file TO. That is always the card as it was (document 02, W-206); copy compares the two all
+ * the same. Of a card that is refused for a block, both say which block it is, and what is wrong with it.
+ * Exit status 0, or 1 where the card or its catalogue is refused or its copy would differ, or 2 where a file cannot be read or
+ * written or the program is called otherwise.
  */
 #include <stdio.h>
 #include <string.h>
@@ -59,26 +59,6 @@ static int refuse_catalogue(uint32_t number)
     return 1;
 }
 
-/* The blocks that are not the same, or that only one of the two has. */
-static void print_differences(uint32_t blocks)
-{
-    size_t before = from_len / MCS_BLOCK_OCTETS, both = before < blocks ? before : blocks, k, differing = 0, first = 0;
-    for (k = 0; k < both; k++) {
-        if (memcmp(from + MCS_BLOCK_OCTETS * k, to + MCS_BLOCK_OCTETS * k, MCS_BLOCK_OCTETS) != 0) {
-            first = differing == 0 ? k : first;
-            differing += 1u;
-        }
-    }
-    if (differing == 0 && before == blocks) {
-        printf("The card was written as it was: %u blocks.\n", blocks);
-        return;
-    }
-    printf("The tables are the same, and the card differs: it had %zu blocks, and has %u now.\n", before, blocks);
-    if (differing > 0) {
-        printf("Of the %zu that both have %zu differ%s, from block %zu on.\n", both, differing, differing == 1u ? "s" : "", first);
-    }
-}
-
 static int check(const char *path)
 {
     int status = load(path);
@@ -108,11 +88,15 @@ static int copy(const char *from_path, const char *to_path)
     if (number != MCS_OK) {
         return refuse_catalogue(number);
     }
-    if (!write_file(to_path, to, MCS_BLOCK_OCTETS * blocks)) {
+    if (MCS_BLOCK_OCTETS * blocks != from_len || memcmp(from, to, from_len) != 0) {
+        printf("The copy would differ from the card, and is not written.\n");
+        return 1;
+    }
+    if (!write_file(to_path, to, from_len)) {
         fprintf(stderr, "card: cannot write %s\n", to_path);
         return 2;
     }
-    print_differences(blocks);
+    printf("The card was written as it was: %u blocks.\n", blocks);
     return 0;
 }
 
@@ -125,6 +109,6 @@ int main(int count, char **words)
         return copy(words[2], words[3]);
     }
     fprintf(stderr, "card check FILE loads a card and says what it holds and whether it is right.\n"
-                    "card copy FROM TO loads a card, checks it, writes it again and says what differs.\n");
+                    "card copy FROM TO loads a card, checks it and writes it again as it was.\n");
     return 2;
 }

@@ -1,5 +1,5 @@
 #!/usr/bin/env python3
-"""Writes to standard output the sample's card with its groups in two blocks, of which the first is not full."""
+"""Writes to standard output the sample's card with its groups in two blocks, of which the first is not full, which 214 refuses."""
 import os
 import sys
 

@@ -60,6 +60,15 @@ static void alter_tables(run *r, const step *s)
     }
 }
 
+static void swap_tables(run *r)
+{
+    static tables put_aside;
+    put_aside = r->lent;
+    lend_tables(r, &r->loaded);
+    r->loaded = put_aside;
+    r->swapped = !r->swapped;
+}
+
 static void alter_card(run *r, const step *s)
 {
     card *c = &r->lent_card;
@@ -113,6 +122,9 @@ void alter(run *r, const step *s)
     case POKE_TABLE:
     case TABLE_LENGTH:
         alter_tables(r, s);
+        break;
+    case SWAP_TABLES:
+        swap_tables(r);
         break;
     case NEW_SHEET:
     case ADD_TEXT:

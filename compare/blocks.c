@@ -4,24 +4,26 @@
 
 #include <string.h>
 
+/* Fewer records, by one or by any number that leaves some. */
+static uint32_t fewer(dice *d, uint32_t count) { return one_in(d, 2) ? count - 1u : between(d, 1, count - 1u); }
+
 void fill_card(const tables *t, uint32_t how, card *c)
 {
     dice d = dice_of(how, 0);
-    uint32_t needed = 0; /* blocks that the rest needs at least */
+    uint32_t blocks = 0, shortened; /* the tables have room for 90 blocks, so that there may be one more */
     for (uint32_t table = 0; table < TABLES; table++) {
-        needed += blocks_for(table, t->length[table] / record_entries(table));
+        blocks += blocks_for(table, t->length[table] / record_entries(table));
     }
+    shortened = how == 0 ? blocks : below(&d, blocks);
     memset(c->octets, 0xE7, sizeof c->octets);
     c->length = 0;
     for (uint32_t table = 0; table < TABLES; table++) {
         uint32_t records = t->length[table] / record_entries(table), first = 0;
         while (first < records) {
             uint32_t left = records - first, count = left < block_room(table) ? left : block_room(table);
-            /* A block that is not full may cost one more. */
-            if (how != 0 && c->length / MCS_BLOCK_OCTETS + needed < MOST_BLOCKS && one_in(&d, 2)) {
-                count = 1u + below(&d, count);
+            if (count > 1 && c->length == MCS_BLOCK_OCTETS * shortened) {
+                count = fewer(&d, count);
             }
-            needed -= blocks_for(table, left) - blocks_for(table, left - count);
             add_block(t, table, first, count, c);
             first += count;
         }
@@ -69,10 +71,20 @@ static void spoil_kind(dice *d, uint8_t *at, uint32_t before, int has_to_fall)
     }
 }
 
-/* 0, or more than the kind has; 0 where the padding is to be wrong as well, since behind more there is none. */
-static uint32_t wrong_count(dice *d, uint32_t most, int has_padding)
+/* 0, or more than the kind has; 0 where the block is to be short or its padding to be wrong as well, since more is neither. */
+static uint32_t wrong_count(dice *d, uint32_t most, int has_to_be_0)
 {
-    return has_padding ? 0 : ONE_OF(d, 0, most + 1u, most + 1u, most + 2u, 506, 512, 0xFFFF);
+    return has_to_be_0 ? 0 : ONE_OF(d, 0, most + 1u, most + 1u, most + 2u, 506, 512, 0xFFFF);
+}
+
+/* A short block is the last of its kind, or is not, by the kind octet of the block behind. */
+static void settle_behind(dice *d, card *c, uint32_t block, int last)
+{
+    uint8_t *at = c->octets + MCS_BLOCK_OCTETS * block, *behind = at + MCS_BLOCK_OCTETS;
+    if (block + 1u < c->length / MCS_BLOCK_OCTETS && is_short(c, block) && is_last_of_kind(c, block) != last) {
+        behind[KIND_AT] = (uint8_t)(at[KIND_AT] + (last ? between(d, 1, 255) : 0u));
+        mend_block(c, block + 1u);
+    }
 }
 
 void spoil_block(card *c, uint32_t block, uint32_t reasons, uint32_t how)
@@ -80,20 +92,20 @@ void spoil_block(card *c, uint32_t block, uint32_t reasons, uint32_t how)
     dice d = dice_of(how, 0);
     uint8_t *at = c->octets + MCS_BLOCK_OCTETS * block;
     uint32_t kind = at[KIND_AT], count = half_word_at(at + COUNT_AT), table, most, end;
-    int has_padding = among(reasons, WRONG_PADDING);
+    int has_padding = among(reasons, WRONG_PADDING), not_full = among(reasons, NOT_FULL);
     if (among(reasons, WRONG_NUMBER)) {
         spoil_number(&d, at);
     }
     if (among(reasons, WRONG_KIND)) {
-        spoil_kind(&d, at, kind_before(c, block), has_padding);
+        spoil_kind(&d, at, kind_before(c, block), has_padding || not_full);
     }
     /* A kind that there is not has as many records as any has, of one octet. */
     table = at[KIND_AT] >= 1 && at[KIND_AT] <= TABLES ? at[KIND_AT] - 1u : (uint32_t)TEXT;
     most = block_room(table);
     if (among(reasons, WRONG_COUNT)) {
-        count = wrong_count(&d, most, has_padding);
-    } else if (at[KIND_AT] != kind || (has_padding && table == TEXT)) {
-        count = between(&d, 1, most - 1u); /* one that leaves padding */
+        count = wrong_count(&d, most, has_padding || not_full);
+    } else if (not_full || at[KIND_AT] != kind || (has_padding && table == TEXT)) {
+        count = fewer(&d, most); /* which leaves padding */
     }
     put_half_word(at + COUNT_AT, count);
     end = records_end(table, count);
@@ -103,6 +115,7 @@ void spoil_block(card *c, uint32_t block, uint32_t reasons, uint32_t how)
     if (has_padding && end < SUM_AT) {
         at[one_in(&d, 3) ? end : one_in(&d, 2) ? SUM_AT - 1u : between(&d, end, SUM_AT - 1u)] = (uint8_t)between(&d, 1, 255);
     }
+    settle_behind(&d, c, block, !not_full);
     mend_block(c, block);
     if (among(reasons, WRONG_CHECK)) {
         uint32_t octet = one_in(&d, 2) ? SUM_AT : SUM_OF_SUMS_AT;

@@ -2,6 +2,7 @@
 #include "judge.h"
 #include "octets.h"
 #include "service.h"
+#include "words.h"
 
 #include <stdarg.h>
 #include <string.h>
@@ -13,6 +14,9 @@ enum { CONNECTED, ENCRYPTED, ENCRYPTED_UNCONNECTED, TRUTHS };
 enum { IN_FIRST, AT_ITS_START, WITHIN_MARGIN, LAST_WITHIN, AT_MARGIN, BEYOND_MARGIN, PREVIOUS_FROM };
 enum { FIRST_BLOCK, MIDDLE_BLOCK, LAST_BLOCK, BLOCK_PLACES };
 enum { BEHIND_LIMIT, BEHIND_ROOM, OVERFULL };
+enum { IS_GOOD = REASONS, IS_NONE, BLOCKS_BEHIND }; /* beside the reason of a bad one */
+enum { FIRST_OF_KIND, WITHIN_KIND, SHORT_BY_ONE, SHORT_BLOCKS };
+enum { GIVEN_BACK, MORE_OF_A_KIND, NO_CATALOGUE, WRITTEN_AGAIN };
 enum { NO_BLOCKS, EXACT_ROOM, ROOM_BEHIND, ONE_OCTET_SHORT, WRITE_BOUNDS };
 enum { REACHES_END, STAYS_AT_END, SEEKS_AT_END, NEGATIVE_WRITE, RUNNING_CASES };
 enum { NO_STARTS, NO_ROOM_LEFT, LONGEST, ONE_TOO_LONG, BOUNDS };
@@ -26,6 +30,8 @@ static unsigned long by_truth[TRUTHS][REF_CLIENTS], by_truth_value[NUMBERS], by_
 static unsigned long by_next[3][4], by_bound[BOUNDS], by_previous[PREVIOUS_FROM], by_running[RUNNING_CASES], by_room[WRITE_BOUNDS];
 static unsigned long by_reason[REASONS][BLOCK_PLACES], by_pair[REASONS][REASONS], by_two[REASONS][REASONS],
     by_overfull[REASONS][OVERFULL], by_length[REASONS];
+static unsigned long by_short[TABLES][SHORT_BLOCKS], refused_before[BLOCKS_BEHIND], right_before[BLOCKS_BEHIND],
+    by_again[WRITTEN_AGAIN];
 
 static uint32_t counted_as(uint32_t number) { return number < NUMBERS ? number : NUMBERS - 1u; }
 
@@ -141,8 +147,8 @@ static void count_sheet(const run *r, const step *s)
     }
 }
 
-/* ---- Bad blocks (document 02, W-205): each reason alone and each two in one block, two bad blocks, and bad blocks where 210 or
- * 212 applies too */
+/* ---- Bad blocks (document 02, W-205 and W-206): each reason alone and each two in one block, two bad blocks, bad blocks where 210
+ * or 212 applies too, and short blocks by the block behind, since that one decides whether they are bad */
 
 /* What is wrong with the block that is named, where it is one reason alone or two. */
 static void count_reasons(uint32_t reasons, uint32_t block, uint32_t blocks)
@@ -170,31 +176,83 @@ static void count_overfull(const run *r, const step *s, uint32_t reason, uint32_
     by_overfull[reason][BEHIND_ROOM] += over_room && !over_limit;
 }
 
+/* What is behind a block. */
+static uint32_t block_behind(const card *c, uint32_t block)
+{
+    uint32_t reasons;
+    if (block + 1u == c->length / MCS_BLOCK_OCTETS) {
+        return IS_NONE;
+    }
+    reasons = reasons_against(c, block + 1u);
+    return reasons == 0 ? IS_GOOD : first_reason(reasons);
+}
+
+static void count_not_full(const card *c, uint32_t block)
+{
+    const uint8_t *at = c->octets + MCS_BLOCK_OCTETS * block;
+    uint32_t table = at[KIND_AT] - 1u;
+    by_short[table][kind_before(c, block) == at[KIND_AT] ? WITHIN_KIND : FIRST_OF_KIND]++;
+    by_short[table][SHORT_BY_ONE] += half_word_at(at + COUNT_AT) + 1u == block_room(table);
+    refused_before[block_behind(c, block)]++;
+}
+
 static void count_blocks(const run *r, const step *s)
 {
     const card *c = &r->lent_card;
     uint32_t blocks = c->length / MCS_BLOCK_OCTETS, lowest = next_bad_block(c, 0), next, reason;
+    int right_length = c->length % MCS_BLOCK_OCTETS == 0 && blocks <= MOST_BLOCKS;
+    for (uint32_t block = 0; right_length && block < lowest; block++) {
+        if (is_short(c, block)) {
+            right_before[block_behind(c, block)]++;
+        }
+    }
     if (lowest == blocks) {
         return;
     }
     reason = first_reason(reasons_against(c, lowest));
-    if (c->length % MCS_BLOCK_OCTETS != 0 || blocks > MOST_BLOCKS) {
+    if (!right_length) {
         by_length[reason]++;
         return;
     }
     count_reasons(reasons_against(c, lowest), lowest, blocks);
     count_overfull(r, s, reason, lowest);
+    if (reason == NOT_FULL) {
+        count_not_full(c, lowest);
+    }
     next = next_bad_block(c, lowest + 1u);
     if (next < blocks) {
         by_two[reason][first_reason(reasons_against(c, next))]++;
     }
 }
 
-/* ---- Card writes at a bound of the room */
+/* ---- Card writes at a bound of the room, and of what was loaded */
+
+/* Whether a block of a right card has another of its kind behind it. */
+static int has_more_of_a_kind(const card *c)
+{
+    for (uint32_t block = 0; block < c->length / MCS_BLOCK_OCTETS; block++) {
+        if (!is_last_of_kind(c, block)) {
+            return 1;
+        }
+    }
+    return 0;
+}
+
+static void count_again(const run *r)
+{
+    if (r->second_said.number == 0 && same_card(&r->written, &r->lent_card)) {
+        by_again[GIVEN_BACK]++;
+        by_again[MORE_OF_A_KIND] += has_more_of_a_kind(&r->lent_card) != 0;
+    }
+    by_again[NO_CATALOGUE] += r->second_said.number == MCS_BAD_CATALOGUE;
+}
 
 static void count_written(const run *r, const step *s)
 {
     uint32_t room = s->room[0], octets = r->written.length;
+    if (r->swapped) {
+        count_again(r);
+    }
     if (r->second_said.number == 0) {
         by_room[NO_BLOCKS] += octets == 0;
         by_room[EXACT_ROOM] += octets > 0 && room == octets;
@@ -337,7 +395,7 @@ static const uint8_t ROWS[CALLS][12] = {
     [READ] = {200, 205, 201, 202, 203, 0x01, 0x02, 0x0F, 0x80, 0x07, 0},
     [WRITE] = {200, 201, 202, 203, 0x01, 0x03, 0x0F, 0x0D, 0x13, 0x11, 0},
     [TAKE] = {200, 205, 201, 0},
-    [CARD_LOAD] = {210, 211, 215, 216, 217, 218, 212, 0},
+    [CARD_LOAD] = {210, 211, 215, 216, 217, 214, 218, 212, 0},
     [CUE_SHEET] = {225, 226, 227, 228, 0},
     [CARD_WRITE] = {200, 213, 0},
 };
@@ -460,14 +518,37 @@ static void tell_dead(void)
     }
 }
 
+/* What is refused for 214 has a block behind it, and this one has the same kind, which is therefore right. */
+static void tell_short(void)
+{
+    static const char *const KIND[TABLES] = {"groups", "tracks", "segments", "text"};
+    static const char *const WHAT[SHORT_BLOCKS] = {"the first of the kind", "one within", "short by one record"};
+    for (uint32_t table = 0; table < TABLES; table++) {
+        row("blocks of %s refused for 214", KIND[table]);
+        for (uint32_t k = 0; k < SHORT_BLOCKS; k++) {
+            tell(by_short[table][k], 1, "%s", WHAT[k]);
+        }
+    }
+    for (uint32_t refused = 0; refused < 2; refused++) {
+        const unsigned long *counts = refused ? refused_before : right_before;
+        row("short blocks that are %s, by the block behind", refused ? "refused for 214" : "right");
+        for (uint32_t k = 0; k < REASONS; k++) {
+            tell(counts[k], !refused || k != WRONG_KIND, "%u", (unsigned)REASON_NUMBER[k]);
+        }
+        tell(counts[IS_GOOD], 1, "good");
+        tell(counts[IS_NONE], !refused, "none");
+    }
+}
+
 static void tell_cards(void)
 {
     static const char *const PLACE[BLOCK_PLACES] = {"the first", "one in the middle", "the last"};
     static const char *const WHAT[WRITE_BOUNDS] = {"no blocks", "exact room", "room behind", "an octet short of a block"};
+    static const char *const AGAIN[WRITTEN_AGAIN] = {"the card given back", "with two blocks of a kind", "200"};
     for (uint32_t k = 0; k < REASONS; k++) {
         row("card loads refused for %u alone, by the block", (unsigned)REASON_NUMBER[k]);
         for (uint32_t place = 0; place < BLOCK_PLACES; place++) {
-            tell(by_reason[k][place], 1, "%s", PLACE[place]);
+            tell(by_reason[k][place], k != NOT_FULL || place != LAST_BLOCK, "%s", PLACE[place]);
         }
     }
     row("two reasons in the block that is named");
@@ -488,9 +569,14 @@ static void tell_cards(void)
         tell(by_overfull[k][BEHIND_ROOM], 1, "behind more than the room");
         tell(by_length[k], 1, "on a card of a wrong length");
     }
+    tell_short();
     row("card writes");
     for (uint32_t k = 0; k < WRITE_BOUNDS; k++) {
         tell(by_room[k], 1, "%s", WHAT[k]);
+    }
+    row("card writes of what was loaded");
+    for (uint32_t k = 0; k < WRITTEN_AGAIN; k++) {
+        tell(by_again[k], 1, "%s", AGAIN[k]);
     }
 }
 

@@ -3,7 +3,10 @@
 
 #include <string.h>
 
-const uint32_t REASON_NUMBER[REASONS] = {MCS_BAD_CHECK, MCS_BAD_BLOCK_NUMBER, MCS_BAD_KIND, MCS_BAD_COUNT, MCS_BAD_PADDING};
+const uint32_t REASON_NUMBER[REASONS] = {MCS_BAD_CHECK, MCS_BAD_BLOCK_NUMBER, MCS_BAD_KIND,
+                                         MCS_BAD_COUNT, MCS_NOT_FULL,         MCS_BAD_PADDING};
+
+static int is_kind(uint32_t kind) { return kind >= 1 && kind <= TABLES; }
 
 /* "then the records; zeros up to byte 509" (document 01) */
 static uint32_t padding_is_wrong(const uint8_t *at, uint32_t table, uint32_t count)
@@ -21,18 +24,31 @@ uint32_t kind_before(const card *c, uint32_t block)
     return block == 0 ? 0 : c->octets[MCS_BLOCK_OCTETS * (block - 1u) + KIND_AT];
 }
 
+int is_short(const card *c, uint32_t block)
+{
+    const uint8_t *at = c->octets + MCS_BLOCK_OCTETS * block;
+    return is_kind(at[KIND_AT]) && half_word_at(at + COUNT_AT) < block_room(at[KIND_AT] - 1u);
+}
+
+int is_last_of_kind(const card *c, uint32_t block)
+{
+    const uint8_t *at = c->octets + MCS_BLOCK_OCTETS * block;
+    return block + 1u >= c->length / MCS_BLOCK_OCTETS || at[MCS_BLOCK_OCTETS + KIND_AT] != at[KIND_AT];
+}
+
 uint32_t reasons_against(const card *c, uint32_t block)
 {
     const uint8_t *at = c->octets + MCS_BLOCK_OCTETS * block;
-    uint32_t kind = at[KIND_AT], is_kind = kind >= 1 && kind <= TABLES, count = half_word_at(at + COUNT_AT);
-    uint32_t most = block_room(is_kind ? kind - 1u : (uint32_t)TEXT), reasons;
+    uint32_t kind = at[KIND_AT], count = half_word_at(at + COUNT_AT);
+    uint32_t most = block_room(is_kind(kind) ? kind - 1u : (uint32_t)TEXT), reasons;
     uint8_t check[2];
     check_octets(at, check);
     reasons = (uint32_t)(memcmp(check, at + SUM_AT, 2) != 0) << WRONG_CHECK;
     reasons |= (uint32_t)(half_word_at(at + NUMBER_AT) != block) << WRONG_NUMBER;
-    reasons |= (uint32_t)(!is_kind || kind < kind_before(c, block)) << WRONG_KIND;
+    reasons |= (uint32_t)(!is_kind(kind) || kind < kind_before(c, block)) << WRONG_KIND;
     reasons |= (uint32_t)(count == 0 || count > most) << WRONG_COUNT;
-    reasons |= (is_kind ? padding_is_wrong(at, kind - 1u, count) : 0) << WRONG_PADDING;
+    reasons |= (uint32_t)(is_short(c, block) && !is_last_of_kind(c, block)) << NOT_FULL;
+    reasons |= (is_kind(kind) ? padding_is_wrong(at, kind - 1u, count) : 0) << WRONG_PADDING;
     return reasons;
 }
 

@@ -1,4 +1,5 @@
-/* Cards: made of a catalogue, damaged or with bad blocks, and loaded into tables of any room; and written, into any room. */
+/* Cards: made of a catalogue, damaged or with bad blocks, loaded into tables of any room, and written again; and written, into any
+ * room. */
 #include "blocks.h"
 #include "damage.h"
 #include "play.h"
@@ -59,6 +60,27 @@ static int named_the_block(const run *r)
     return a->number == REASON_NUMBER[first_reason(reasons_against(c, lowest))] && a->block == lowest;
 }
 
+/* "the second half of W-204's round trip holds for every card accepted whose tables pass 200" (document 02, W-206): what both
+ * write of the tables that they have loaded is the card. */
+static void write_again(play *p)
+{
+    uint32_t number, octets = p->r->lent_card.length;
+    step *s;
+    bare_step(p, SWAP_TABLES, 0);
+    s = new_step(p);
+    if (!p->going) {
+        return;
+    }
+    blank_step(&p->d, CARD_WRITE, s);
+    s->room[0] = one_in(&p->d, 2) ? octets : between(&p->d, octets, CARD_ROOM);
+    take_step(p);
+    number = p->r->second_said.number;
+    if (p->going && number != MCS_BAD_CATALOGUE && (number != 0 || !same_card(&p->r->written, &p->r->lent_card))) {
+        cannot_be(p, "both write another card than the one that they have loaded");
+    }
+    bare_step(p, SWAP_TABLES, 0);
+}
+
 static void load(play *p, uint32_t small, int right)
 {
     step *s = new_step(p);
@@ -74,6 +96,9 @@ static void load(play *p, uint32_t small, int right)
     }
     if (p->going && !named_the_block(p->r)) {
         cannot_be(p, "both say something else of the card's blocks than is to be seen in them");
+    }
+    if (p->going && p->r->second_said.number == 0) {
+        write_again(p);
     }
 }
 
@@ -172,7 +197,7 @@ static void write_right_card(play *p)
         return;
     }
     make_card(&p->r->lent, &made);
-    if (p->r->written.length != made.length || memcmp(p->r->written.octets, made.octets, made.length) != 0) {
+    if (!same_card(&p->r->written, &made)) {
         cannot_be(p, "both write another card than the catalogue's");
         return;
     }
@@ -189,7 +214,7 @@ void play_cards(play *p)
         if (beyond) {
             too_many(p);
         }
-        bare_step(p, MAKE_CARD, one_in(&p->d, 3) ? 0 : any_word(&p->d));
+        bare_step(p, MAKE_CARD, right || !one_in(&p->d, 4) ? 0 : any_word(&p->d));
         if (bad) {
             for (uint32_t k = few_times(p); k > 0; k--) {
                 spoil(p);

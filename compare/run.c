@@ -18,9 +18,11 @@ void lend_tables(run *r, const tables *t)
 void begin_run(run *r, const tables *t)
 {
     lend_tables(r, t);
-    /* A card that is made longer, or taken from what was written, has nothing of a run before this one. */
+    /* A card that is made longer, or taken from what was written, and what was loaded have nothing of a run before this one. */
     memset(&r->lent_card, 0, sizeof r->lent_card);
     memset(&r->written, 0, sizeof r->written);
+    memset(&r->loaded, 0, sizeof r->loaded);
+    r->swapped = 0;
     r->lent_sheet.length = 0;
     memset(r->octets, 0, sizeof r->octets);
     state_of_octets(r->octets, &r->second);
@@ -174,6 +176,9 @@ static int do_call(run *r, const step *s)
     collect(r, &plain, &made[0]);
     if (s->kind == CARD_WRITE) {
         r->written.length = number[0] == 0 ? MCS_BLOCK_OCTETS * r->second_said.length : 0;
+    }
+    for (uint32_t k = 0; s->kind == CARD_LOAD && k < TABLES; k++) {
+        r->loaded.length[k] = number[0] == 0 ? record_entries(k) * r->second_said.counts[k] : 0;
     }
 
     if (r->library_said.number != r->second_said.number) {

@@ -37,7 +37,8 @@ typedef struct {
     undo undone[UNDO_ROOM];
     uint32_t undos;
     int stale[2][TABLES]; /* the guarded copy of a table is not what is lent */
-    tables loaded;        /* by the second program's last card load */
+    tables loaded;        /* by the second program's last card load; its lengths are 0 where it was refused */
+    int swapped;          /* it is lent, and the catalogue is put aside in its place */
     uint32_t starts[STARTS_ROOM]; /* by its last cue sheet */
     card written;                 /* by its last card write; its length is that of the blocks, 0 where it was refused */
     int library_faulted, second_faulted;

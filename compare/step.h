@@ -10,7 +10,8 @@ enum {
     POKE_STATE,        /* its octets from `number` on are `octets` */
     POKE_TABLE,        /* entry `number` of table `who` is `what` */
     TABLE_LENGTH,      /* table `who` is lent with `number` entries */
-    MAKE_CARD,         /* the card is one of the catalogue; `number` decides how full its blocks are */
+    SWAP_TABLES,       /* the catalogue and what was loaded last change places */
+    MAKE_CARD,         /* the card is one of the catalogue, right where `number` is 0; any other decides which block is short */
     POKE_CARD,         /* octet `number` of the card is `what` */
     CARD_LENGTH,       /* the card is lent with `number` octets */
     SWAP_BLOCKS,       /* the blocks `who` and `what` change places, and are numbered anew */

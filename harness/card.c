@@ -53,6 +53,11 @@ void add_block(const tables *t, uint32_t table, uint32_t first, uint32_t count, 
     c->length += MCS_BLOCK_OCTETS;
 }
 
+int same_card(const card *one, const card *other)
+{
+    return one->length == other->length && memcmp(one->octets, other->octets, one->length) == 0;
+}
+
 void make_card(const tables *t, card *c)
 {
     c->length = 0;

@@ -28,6 +28,9 @@ void add_block(const tables *t, uint32_t table, uint32_t first, uint32_t count, 
 /* A right card of the tables' whole records, every block but the last of its kind full. */
 void make_card(const tables *t, card *c);
 
+/* Whether both have the same octets. */
+int same_card(const card *one, const card *other);
+
 /* The check octets that a block's octets before them ask for: their sum, and the sum of their running sums. */
 void check_octets(const uint8_t block[MCS_BLOCK_OCTETS], uint8_t check[2]);
 

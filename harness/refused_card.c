@@ -29,6 +29,10 @@ static void print_block(FILE *to, uint32_t number, const uint8_t *card, uint32_t
         fprintf(to, "its record count is %u, and a block of %s has 1 to %u", (unsigned)count, RECORDS[table],
                 (unsigned)block_room(table));
         break;
+    case MCS_NOT_FULL:
+        fprintf(to, "its record count is %u, and a block of %s that is not the last of its kind has %u", (unsigned)count,
+                RECORDS[table], (unsigned)block_room(table));
+        break;
     default:
         at = records_end(table, count);
         while (at < SUM_AT - 1u && block[at] == 0) {

@@ -2,8 +2,9 @@
  *
  * Every call takes all octets, numbers, tables and states there are, checks them itself, and ends. It returns 0, or the number of
  * the first refusal that applies, in the order of the list below. A refusal alters nothing: state, tables, card, output, length,
- * served, counts, blocks, starts and count hold what they held. MCS_BAD_CHECK to MCS_BAD_PADDING carry a block of the card,
- * MCS_BAD_LINE and MCS_NOT_RISING a line of the cue sheet, and these alone write it to the word that is lent for it.
+ * served, counts, blocks, starts and count hold what they held. The six of the list from MCS_BAD_CHECK to MCS_BAD_PADDING carry a
+ * block of the card, MCS_BAD_LINE and MCS_NOT_RISING a line of the cue sheet, and these alone write it to the word that is lent for
+ * it.
  *
  * What is the caller's to see to, as for any function of C:
  * - a pointer with a length points to that many octets or words (a length of 0: it is not followed, and may be null);
@@ -24,11 +25,11 @@
 extern "C" {
 #endif
 
-/* MCS_VERSION moves when a function of this file is added or changes its arguments or the numbers that it returns: it is 3 since
- * mcs_card_load is lent a word for the block, and tells 215 to 218 apart from 211, which was all five.
+/* MCS_VERSION moves when a function of this file is added or changes its arguments or the numbers that it returns: it is 4 since
+ * mcs_card_load refuses with 214 what it accepted before, a card with a block that is neither full nor the last of its kind.
  * MCS_STATE_LAYOUT moves when the octets of a state change their number, place or meaning: a host that stores states stores it
  * with them. */
-#define MCS_VERSION 3u
+#define MCS_VERSION 4u
 #define MCS_STATE_LAYOUT 1u
 
 /* ---- Numbers that a call returns ------------------------------------------------------------------------------------------ */
@@ -75,7 +76,7 @@ extern "C" {
 #define MCS_BAD_GROUP 208u
 /* Card load: the card's length is no multiple of 512, or over 65,536. */
 #define MCS_BAD_CARD_LENGTH 210u
-/* Card load: what is wrong with the lowest bad block, the first of these five that applies to it. Its check octets do not fit its
+/* Card load: what is wrong with the lowest bad block, the first of these six that applies to it. Its check octets do not fit its
  * contents. */
 #define MCS_BAD_CHECK 211u
 /* Its block number is not its place on the card, counted from 0. */
@@ -84,6 +85,9 @@ extern "C" {
 #define MCS_BAD_KIND 216u
 /* Its record count is 0, or more than a block of its kind holds. */
 #define MCS_BAD_COUNT 217u
+/* It is not full, and not the last of its kind: the block behind it has the same kind octet, whatever else is wrong with that
+ * one. */
+#define MCS_NOT_FULL 214u
 /* An octet between its records and its check octets is not 0. */
 #define MCS_BAD_PADDING 218u
 /* Card load: no block is bad, and a limit, or a lent table's room, is exceeded. */
@@ -226,15 +230,16 @@ extern "C" {
 /* Card load: fills the front of each table with a card's records, and counts with the number of groups, tracks, segments and
  * text octets. The tables' lengths are their room, in words and in octets; the words behind the records stay as they were, so
  * a catalogue is the first 3 * counts[0], 6 * counts[1] and counts[2] words and counts[3] octets.
- * Refusals: 210, 211, 215, 216, 217, 218, 212. By 211 and 215 to 218 *block is the lowest bad block, by its place on the card,
- * counted from 0. It does not check the catalogue: every other call does. */
+ * Refusals: 210, 211, 215, 216, 217, 214, 218, 212. By 211 and 214 to 218 *block is the lowest bad block, by its place on the
+ * card, counted from 0. It does not check the catalogue: every other call does. */
 uint32_t mcs_card_load(const uint8_t *card, size_t card_len, uint32_t *groups, size_t groups_len, uint32_t *tracks,
                        size_t tracks_len, uint32_t *segments, size_t segments_len, uint8_t *text, size_t text_len,
                        uint32_t counts[4], uint32_t *block);
 
 /* Card write: fills the front of card with the catalogue's card, every block but the last of its kind full, and *blocks with the
  * number of its blocks, at most MCS_CARD_BLOCKS. The octets behind them stay as they were. Loading what was written gives the tables
- * back, and writing what was loaded from a card that is filled so gives that card. Refusals: 200, 213. */
+ * back, and writing what was loaded gives the card back, for every card that is accepted and whose tables pass 200.
+ * Refusals: 200, 213. */
 uint32_t mcs_card_write(MCS_CATALOGUE, uint8_t *card, size_t card_len, uint32_t *blocks);
 
 /* Cue sheet: fills the front of starts with the segment starts of one track, in hundredths of a second, and *count with their

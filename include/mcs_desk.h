@@ -27,7 +27,8 @@
  *   client number or buffer, a card or a cue sheet that is refused), and must not go on air.
  * - A card that is refused for one bad block need not be thrown away. Where mcs_names_block says so of the number, the host shows
  *   number, words and block to whoever brought the card: the octets from MCS_BLOCK_OCTETS times the block on are to be looked at,
- *   or written again. The blocks before it are right; those behind it may be bad too.
+ *   or written again. By MCS_NOT_FULL all blocks from there on are, since the records of the next ones move up. The blocks before it
+ *   are right; those behind it may be bad too.
  */
 #ifndef MCS_DESK_H
 #define MCS_DESK_H
@@ -44,7 +45,7 @@
 /* Whether a number that a card load returned came with the block that it is about. */
 static inline int mcs_names_block(uint32_t number)
 {
-    return number == MCS_BAD_CHECK || (number >= MCS_BAD_BLOCK_NUMBER && number <= MCS_BAD_PADDING);
+    return number == MCS_BAD_CHECK || (number >= MCS_NOT_FULL && number <= MCS_BAD_PADDING);
 }
 
 /* ROW(number, words), in the order in which a call looks for them. */
@@ -73,6 +74,7 @@ static inline int mcs_names_block(uint32_t number)
     ROW(MCS_BAD_BLOCK_NUMBER, "the number of a block is not its place on the card")                                            \
     ROW(MCS_BAD_KIND, "the kind of a block is not 1 to 4, or below that of the block before")                                  \
     ROW(MCS_BAD_COUNT, "the record count of a block is 0, or more than a block of its kind holds")                             \
+    ROW(MCS_NOT_FULL, "a block that is not the last of its kind is not full")                                                  \
     ROW(MCS_BAD_PADDING, "an octet behind the records of a block is not 0")                                                    \
     ROW(MCS_NO_ROOM, "the card holds more than a catalogue, or the lent tables, may")                                          \
     ROW(MCS_NO_CARD_ROOM, "the card has more blocks than there is room for")                                                   \

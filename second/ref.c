@@ -1,4 +1,4 @@
-/* The desk player core, written along document 01 and the requests of document 02 that have landed: W-201 to W-205, and W-212 for
+/* The desk player core, written along document 01 and the requests of document 02 that have landed: W-201 to W-206, and W-212 for
  * the cue sheet. A comment in quotation marks is a sentence of document 01; where a request is named, and in the cue sheet's
  * part, it is one of document 02. */
 #include "ref.h"
@@ -20,6 +20,7 @@ enum {
     CHECK_WRONG = 211,
     NO_ROOM = 212,
     CARD_SMALL = 213,
+    BLOCK_SHORT = 214,
     NUMBER_WRONG = 215,
     KIND_WRONG = 216,
     COUNT_WRONG = 217,
@@ -279,9 +280,10 @@ static void check_octets(const uint8_t *block, uint8_t check[2])
     check[1] = (uint8_t)(sum_of_sums % 255u);
 }
 
-/* W-205: "211 becomes check only, then 215, 216, 217, 218 in that order within a block." The first reason against the block,
- * or 0. The block before it is good, so that its kind octet is a kind; in front of the first block it is 0. */
-static uint32_t block_reason(const uint8_t *block, uint32_t number, uint32_t kind_before)
+/* W-205: "211 becomes check only, then 215, 216, 217, 218 in that order within a block." W-206: "214 with the block number, after
+ * 217 and before 218." The first reason against the block, or 0. The block before it is good, so that its kind octet is a kind;
+ * that of the block behind is any octet. In front of the first block and behind the last it is 0, which is no kind. */
+static uint32_t block_reason(const uint8_t *block, uint32_t number, uint32_t kind_before, uint32_t kind_behind)
 {
     uint32_t kind = block[2], count = octets_16(block + 3), k;
     uint8_t check[2];
@@ -301,6 +303,11 @@ static uint32_t block_reason(const uint8_t *block, uint32_t number, uint32_t kin
     /* "3–4 record count, 1 up to 42, 21, 126 or 505 by kind" */
     if (count < 1 || count > MOST_RECORDS[kind]) {
         return COUNT_WRONG;
+    }
+    /* W-206: "a block that is not the last of its kind is not full"; the last "is judged by the kind octet of the block behind
+     * it, even if that one is bad" */
+    if (kind_behind == kind && count < MOST_RECORDS[kind]) {
+        return BLOCK_SHORT;
     }
     /* "then the records; zeros up to byte 509" */
     for (k = RECORDS_AT + count * RECORD_OCTETS[kind]; k < CHECK_AT; k++) {
@@ -324,11 +331,12 @@ uint32_t ref_card_load(const uint8_t *card, size_t card_len, uint32_t *groups, s
         return CARD_LENGTH;
     }
     blocks = (uint32_t)(card_len / BLOCK);
-    /* W-205: "the lowest bad block's number and one of five reasons". The five stand where 211 stood in the table, before 212,
-     * so that all blocks are judged before the totals are. */
+    /* W-205: "the lowest bad block's number and one of five reasons", to which W-206 adds 214. The six stand where 211 stood in
+     * the table, before 212, so that all blocks are judged before the totals are. */
     for (number = 0; number < blocks; number++) {
         const uint8_t *at = card + BLOCK * number;
-        uint32_t reason = block_reason(at, number, kind_before);
+        uint32_t kind_behind = number + 1u < blocks ? at[BLOCK + 2u] : 0u;
+        uint32_t reason = block_reason(at, number, kind_before, kind_behind);
         if (reason != 0) {
             *block = number;
             return reason;

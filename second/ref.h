@@ -1,7 +1,7 @@
 /* The desk player core: card reader and writer, cue sheet reader, catalogue check, player and the layer of four clients.
  *
  * Every call returns 0, or the refusal number of document 01's table (ATT codes as 0x01 to 0x80), of a card load, a card write
- * and a cue sheet those of document 02's requests W-205, W-204 and W-212.
+ * and a cue sheet those of document 02's requests W-205 and W-206, W-204, and W-212.
  * "A refusal returns its number alone and alters nothing." W-205, of a bad block: "Demand 1 reads the number and the block as the
  * whole refusal."
  */
@@ -57,7 +57,7 @@ typedef struct {
     const uint32_t *groups, size_t groups_len, const uint32_t *tracks, size_t tracks_len, const uint32_t *segments,   \
         size_t segments_len, const uint8_t *text, size_t text_len
 
-/* counts: groups, tracks, segments, text octets; they are written where the card is accepted. block is written by 211 and 215
+/* counts: groups, tracks, segments, text octets; they are written where the card is accepted. block is written by 211 and 214
  * to 218 alone: the lowest bad block, by its place on the card from 0. */
 uint32_t ref_card_load(const uint8_t *card, size_t card_len, uint32_t *groups, size_t groups_len, uint32_t *tracks,
                        size_t tracks_len, uint32_t *segments, size_t segments_len, uint8_t *text, size_t text_len,

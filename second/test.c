@@ -579,8 +579,8 @@ static uint8_t *add_block(uint32_t kind, uint32_t count, uint32_t octets)
 }
 
 #define UNTOUCHED 0xA5A5A5A5u /* four of FILL */
-/* Into tables of that room. A refusal leaves them and the counts, a success what lies behind the records. W-205: 211 and 215 to
- * 218 give a block of the card; nothing else touches that word. */
+/* Into tables of that room. A refusal leaves them and the counts, a success what lies behind the records. W-205, W-206: 211 and
+ * 214 to 218 give a block of the card; nothing else touches that word. */
 static uint32_t loads(size_t groups, size_t tracks, size_t segments, size_t text)
 {
     const size_t room[TABLES] = {4 * groups, 4 * tracks, 4 * segments, text}, record[TABLES] = {12, 24, 4, 1};
@@ -592,7 +592,7 @@ static uint32_t loads(size_t groups, size_t tracks, size_t segments, size_t text
     EACH(0, TABLES) t[k] = exact(to[k], room[k]);
     refusal = ref_card_load(from, card_len, t[0], groups, t[1], tracks, t[2], segments, t[3], text, counts, &bad_block);
     CHECK(refusal == 0 || all_are(counts, FILL, sizeof counts));
-    CHECK(refusal == 211 || (refusal >= 215 && refusal <= 218) ? bad_block < card_len / 512 : bad_block == UNTOUCHED);
+    CHECK(refusal == 211 || (refusal >= 214 && refusal <= 218) ? bad_block < card_len / 512 : bad_block == UNTOUCHED);
     EACH(0, TABLES) {
         size_t filled = refusal == 0 ? record[k] * counts[k] : 0;
         CHECK(filled <= room[k] && (room[k] == 0 || all_are((uint8_t *)t[k] + filled, FILL, room[k] - filled)));
@@ -611,7 +611,7 @@ static uint32_t loads(size_t groups, size_t tracks, size_t segments, size_t text
 
 static void card_cases(void)
 {
-    static const uint32_t OCTETS[4] = {12, 24, 4, 1}, LIMITS[4][2] = {{2, 32}, {16, 16}, {16, 64}, {128, 256}};
+    static const uint32_t OCTETS[4] = {12, 24, 4, 1}, LIMITS[4][3] = {{1, 42, 22}, {12, 21, 4}, {8, 126, 16}, {64, 505, 448}};
     uint8_t *b;
     /* Some records of each kind, of which the first is not zeros; words are little endian. */
     card_len = 0; EACH(0, 4) (void)add_block(k + 1, 4 - k, OCTETS[k]);
@@ -645,68 +645,122 @@ static void card_cases(void)
     /* "never falling"; kinds may be left out, and stay. */
     card_len = 0; (void)add_block(2, 1, 0); (void)add_block(1, 1, 0); BAD(216, 1);
     card_len = 0; (void)add_block(4, 1, 0); (void)add_block(3, 1, 0); (void)add_block(4, 1, 0); BAD(216, 1);
-    card_len = 0; (void)add_block(1, 1, 0); (void)add_block(4, 1, 0); (void)add_block(4, 1, 0); EQUAL(LOADS(), 0); EQUAL(counts[3], 2);
-    /* "a limit": 64 groups, 256 tracks, 1,024 segments, 32,768 text octets, in so many blocks of so many; and one more. */
+    card_len = 0; (void)add_block(1, 1, 0); (void)add_block(4, 505, 0); (void)add_block(4, 1, 0); EQUAL(LOADS(), 0); EQUAL(counts[3], 506);
+    /* "a limit": 64 groups, 256 tracks, 1,024 segments, 32,768 text octets, in so many full blocks and one of the rest; and one
+     * more. */
     for (uint32_t j = 0; j < 4; j++) {
         card_len = 0; EACH(0, LIMITS[j][0]) (void)add_block(j + 1, LIMITS[j][1], 0);
-        EQUAL(LOADS(), 0); EQUAL(counts[j], LIMITS[j][0] * LIMITS[j][1]);
-        card_len = 0; (void)add_block(j + 1, LIMITS[j][1] + 1, 0); card_len = 512 * LIMITS[j][0]; EQUAL(LOADS(), 212);
+        (void)add_block(j + 1, LIMITS[j][2], 0); EQUAL(LOADS(), 0); EQUAL(counts[j], LIMITS[j][0] * LIMITS[j][1] + LIMITS[j][2]);
+        card_len -= 512; (void)add_block(j + 1, LIMITS[j][2] + 1, 0); EQUAL(LOADS(), 212);
     }
 }
 
-/* W-205: the five reasons in their order, as bits: check, block number, kind, count, padding. */
-static const uint32_t REASON[5] = {211, 215, 216, 217, 218};
-/* Gives the block at that place those reasons. Its kind octet becomes one less than that of the block before, so that it falls or
- * is none; its count becomes 0. All but the check is sealed again. */
+/* W-205: the five reasons in their order, as bits: check, block number, kind, count, padding; W-206: and 214, "after 217 and
+ * before 218". */
+static const uint32_t REASON[6] = {211, 215, 216, 217, 214, 218};
+enum { KIND_REASON = 2, SHORT_REASON = 4 };
+/* Gives the block at that place, which is full, those reasons. Its kind octet becomes one less than that of the block before, so
+ * that it falls or is none; a record is taken away, and the block behind has its kind octet; its count becomes 0. All but the check
+ * is sealed again. */
 static void spoil(uint32_t place, uint32_t reasons)
 {
     uint8_t *b = card + 512 * place;
     if ((reasons & 2) != 0) b[1] = 1;
     if ((reasons & 4) != 0) b[2] = (uint8_t)(place == 0 ? 0 : b[2 - 512] - 1);
+    if ((reasons & 16) != 0) { b[3]--; b[512 + 2] = b[2]; seal(b + 512); }
     if ((reasons & 8) != 0) b[3] = b[4] = 0;
-    if ((reasons & 16) != 0) b[509] = 9;
+    if ((reasons & 32) != 0) b[509] = 9;
     seal(b);
     if ((reasons & 1) != 0) b[511] ^= 1;
 }
-static void three_of_tracks(void) { card_len = 0; EACH(0, 3) (void)add_block(2, 21, 0); }
+static void four_of_tracks(void) { card_len = 0; EACH(0, 4) (void)add_block(2, 21, 0); }
 
 static void reason_cases(void)
 {
     static const uint32_t PLACES[3][2] = {{0, 1}, {0, 2}, {1, 2}};
-    three_of_tracks(); BAD(0, UNTOUCHED);
-    for (uint32_t i = 0; i < 5; i++) {
+    four_of_tracks(); BAD(0, UNTOUCHED);
+    for (uint32_t i = 0; i < 6; i++) {
         /* W-205: "211 becomes check only, then 215, 216, 217, 218 in that order within a block": each alone, with each that comes
-         * after it, and with all that do; in each block. */
+         * after it, and with all that do; in each block but the last. */
         for (uint32_t place = 0; place < 3; place++) {
-            EACH(i, 5) { three_of_tracks(); spoil(place, 1u << i | 1u << k); BAD(REASON[i], place); }
-            three_of_tracks(); spoil(place, 31u << i & 31u); BAD(REASON[i], place);
+            EACH(i, 6) { four_of_tracks(); spoil(place, 1u << i | 1u << k); BAD(REASON[i], place); }
+            four_of_tracks(); spoil(place, 63u << i & 63u); BAD(REASON[i], place);
         }
         /* W-205: "the lowest bad block's number": the reason is that block's, also where a higher one has one that is earlier in the
-         * order. */
+         * order. The kind octet behind a short block makes it the last of its kind where that octet is another, so that it is good. */
         for (uint32_t j = 0; j < 3; j++) {
-            EACH(0, 5) { three_of_tracks(); spoil(PLACES[j][0], 1u << i); spoil(PLACES[j][1], 1u << k); BAD(REASON[i], PLACES[j][0]); }
+            EACH(0, 6) {
+                int last = i == SHORT_REASON && k == KIND_REASON && PLACES[j][0] + 1 == PLACES[j][1];
+                four_of_tracks(); spoil(PLACES[j][0], 1u << i); spoil(PLACES[j][1], 1u << k); BAD(REASON[last ? k : i], PLACES[j][last]);
+            }
         }
         /* All blocks come before 212: behind 65 groups, and where there is no room. */
-        card_len = 0; (void)add_block(1, 42, 0); (void)add_block(1, 23, 0); (void)add_block(4, 1, 0); BAD(212, UNTOUCHED);
-        spoil(2, 1u << i); BAD(REASON[i], 2);
-        three_of_tracks(); EQUAL(loads(3, 377, 1, 1), 212); EQUAL(bad_block, UNTOUCHED); EQUAL(loads(0, 378, 0, 0), 0);
-        spoil(2, 1u << i); EQUAL(loads(3, 377, 1, 1), REASON[i]); EQUAL(bad_block, 2); EQUAL(loads(0, 0, 0, 0), REASON[i]); EQUAL(bad_block, 2);
-        /* The highest place, behind 127 · 505 = 64,135 text octets; its block of 504 leaves an octet of padding. 210 comes before
-         * all of them. */
+        card_len = 0; (void)add_block(1, 42, 0); (void)add_block(1, 23, 0); (void)add_block(2, 21, 0); (void)add_block(2, 1, 0);
+        BAD(212, UNTOUCHED); spoil(2, 1u << i); BAD(REASON[i], 2);
+        four_of_tracks(); EQUAL(loads(3, 503, 1, 1), 212); EQUAL(bad_block, UNTOUCHED); EQUAL(loads(0, 504, 0, 0), 0);
+        spoil(2, 1u << i); EQUAL(loads(3, 503, 1, 1), REASON[i]); EQUAL(bad_block, 2); EQUAL(loads(0, 0, 0, 0), REASON[i]); EQUAL(bad_block, 2);
+        /* The highest place, behind 127 · 505 = 64,135 text octets; its block of 504 leaves an octet of padding. It is the last of
+         * its kind, so that the highest that is short is the one before. 210 comes before all of them. */
         card_len = 0; EACH(0, 128) (void)add_block(4, k == 127 ? 504 : 505, 0);
-        BAD(212, UNTOUCHED); spoil(127, 1u << i); BAD(REASON[i], 127); (void)add_block(4, 1, 0); BAD(210, UNTOUCHED);
-        three_of_tracks(); spoil(0, 1u << i); card_len = 1535; BAD(210, UNTOUCHED); card_len = 511; BAD(210, UNTOUCHED);
+        BAD(212, UNTOUCHED); spoil(i == SHORT_REASON ? 126 : 127, 1u << i); BAD(REASON[i], i == SHORT_REASON ? 126 : 127);
+        (void)add_block(4, 1, 0); BAD(210, UNTOUCHED);
+        four_of_tracks(); spoil(0, 1u << i); card_len = 2047; BAD(210, UNTOUCHED); card_len = 511; BAD(210, UNTOUCHED);
     }
     /* A kind that is none allows no count and has no records: 216 comes before both. */
     EACH(0, 256) {
         card_len = 0; (void)add_block(k, 0, 255); BAD(k >= 1 && k <= 4 ? 217 : 216, 0);
         card_len = 0; (void)add_block(k, 65535, 255); BAD(k >= 1 && k <= 4 ? 217 : 216, 0);
     }
-    /* The block is the place on the card, not the number that stands in it: 0, 2, 1, and 0, 1, 1. */
-    three_of_tracks(); card[512] = 2; card[1024] = 1; seal(card + 512); seal(card + 1024); BAD(215, 1);
-    three_of_tracks(); card[1024] = 1; seal(card + 1024); BAD(215, 2);
+    /* The block is the place on the card, not the number that stands in it: 0, 2, 1, 3, and 0, 1, 1, 3. */
+    four_of_tracks(); card[512] = 2; card[1024] = 1; seal(card + 512); seal(card + 1024); BAD(215, 1);
+    four_of_tracks(); card[1024] = 1; seal(card + 1024); BAD(215, 2);
     /* An empty card has no block. */
     card_len = 0; BAD(0, UNTOUCHED);
+}
+
+/* The records of a full block by kind. */
+static const uint32_t FULL[5] = {0, 42, 21, 126, 505};
+
+/* W-206: "refused where a block that is not the last of its kind is not full" */
+static void short_cases(void)
+{
+    static const uint32_t BEHIND[5] = {0, 211, 215, 217, 218};
+    /* One record, and one less than the most: as the last block, in front, and in the middle. 42 groups and 41 are too many. */
+    for (uint32_t kind = 1; kind <= 4; kind++) {
+        for (uint32_t j = 0; j < 2; j++) {
+            uint32_t full = FULL[kind], few = j == 0 ? 1 : full - 1;
+            card_len = 0; (void)add_block(kind, few, 0); BAD(0, UNTOUCHED); EQUAL(counts[kind - 1], few);
+            (void)add_block(kind, 1, 0); BAD(214, 0);
+            card_len = 0; (void)add_block(kind, few, 0); (void)add_block(kind, full, 0); (void)add_block(kind, 1, 0); BAD(214, 0);
+            card_len = 0; (void)add_block(kind, full, 0); (void)add_block(kind, few, 0); BAD(kind == 1 && j == 1 ? 212 : 0, UNTOUCHED);
+            (void)add_block(kind, 1, 0); BAD(214, 1);
+            /* Between the kinds, each of them short; then a block more of each. */
+            card_len = 0; EACH(1, 5) (void)add_block(k, k == kind ? few : 1, 0); BAD(0, UNTOUCHED);
+            card_len = 0; EACH(1, 5) { (void)add_block(k, k == kind ? few : FULL[k], 0); (void)add_block(k, 1, 0); } BAD(214, 2 * kind - 2);
+        }
+        /* A full block, and one that is over, which is not short: 217. */
+        card_len = 0; (void)add_block(kind, FULL[kind], 0); (void)add_block(kind, 1, 0); BAD(0, UNTOUCHED); EQUAL(counts[kind - 1], FULL[kind] + 1);
+        card_len = 0; (void)add_block(kind, FULL[kind] + 1, 0); (void)add_block(kind, 1, 0); BAD(217, 0);
+        /* No record is not full either: W-206: "after 217". An octet behind the records: "before 218". */
+        card_len = 0; (void)add_block(kind, 0, 0); (void)add_block(kind, 1, 0); BAD(217, 0);
+        card_len = 0; (void)add_block(kind, FULL[kind] - 1, 0); card[509] = 9; seal(card); BAD(218, 0); (void)add_block(kind, 1, 0); BAD(214, 0);
+    }
+    /* W-206: "judged by the kind octet of the block behind it, even if that one is bad": every octet there, behind 20 and 21 tracks,
+     * in a block that is good else, or has one of the reasons. Where the first block is the last of its kind or full, the one behind
+     * answers: 211 and 215 come before 216, which all octets but 2, 3 and 4 give, and 217 and 218 after it. */
+    for (uint32_t j = 0; j < 10; j++) {
+        uint32_t count = 20 + j % 2, behind = BEHIND[j / 2];
+        EACH(0, 256) {
+            uint32_t answer = k >= 2 && k <= 4 ? behind : behind == 211 || behind == 215 ? behind : 216;
+            uint8_t *b;
+            card_len = 0; (void)add_block(2, count, 24); b = add_block(k, behind == 217 ? 0 : 1, 0);
+            if (behind == 215) b[0] = 7;
+            if (behind == 218) b[509] = 9;
+            seal(b);
+            if (behind == 211) b[510] ^= 1;
+            if (k == 2 && count == 20) { BAD(214, 0); } else { BAD(answer, answer == 0 ? UNTOUCHED : 1); }
+        }
+    }
 }
 
 /* W-204: the lent catalogue into that room, and into `card` where it is written. A refusal leaves room and blocks as they were,
@@ -732,7 +786,6 @@ static uint32_t writes_card(size_t room)
  * besides is what the reader asks for, so there is one card only that does all this. */
 static int comes_back(void)
 {
-    static const uint32_t FULL[5] = {0, 42, 21, 126, 505};
     int right = LOADS() == 0 && 3 * counts[0] == lent.len[0] && 6 * counts[1] == lent.len[1] && counts[2] == lent.len[2] &&
                 counts[3] == lent.len[3] && memcmp(got.text, lent.text, lent.len[3]) == 0;
     EACH(0, 3) right &= memcmp(got.words[k], lent.words[k], 4 * lent.len[k]) == 0;
@@ -780,13 +833,23 @@ static void writer_cases(void)
     }
     /* All four limits: 2, 13, 9 and 65 blocks, 45,568 octets. */
     lend_full(193); TAKES(89);
-    /* "writing what was loaded gives the card back for cards filled that way"; another card of the same tables becomes that one. */
+    /* "writing what was loaded gives the card back"; W-206: "for every card accepted whose tables pass 200" */
     card_len = 0; (void)add_block(4, 505, 255); (void)add_block(4, 505, 7); (void)add_block(4, 3, 3); memcpy(before, card, 1536);
     EQUAL(LOADS(), 0); EQUAL(counts[3], 1013); lent = (tables){.len = {0, 0, 0, 1013}}; memcpy(lent.text, got.text, 1013);
     TAKES(3); EQUAL(writes_card(1536), 0); CHECK(memcmp(card, before, 1536) == 0);
+    /* Another card of the same tables, which the writer does not make: "a", "b" and "c" in two blocks. */
     lent = (tables){.text = "abc", .len = {0, 0, 0, 3}}; TAKES(1);
-    card_len = 0; add_block(4, 2, 0)[5] = 'a'; card[6] = 'b'; seal(card); add_block(4, 1, 0)[5] = 'c'; seal(card + 512);
-    CHECK(LOADS() == 0 && memcmp(got.text, "abc", 3) == 0);
+    card_len = 0; add_block(4, 2, 0)[5] = 'a'; card[6] = 'b'; seal(card); add_block(4, 1, 0)[5] = 'c'; seal(card + 512); BAD(214, 0);
+    /* Three blocks of text of 1, 504 or 505 octets each: accepted where two are full, and then given back. */
+    static const uint32_t FEW[3] = {505, 504, 1};
+    EACH(0, 27) {
+        uint32_t first = FEW[k / 9], second = FEW[k / 3 % 3], third = FEW[k % 3];
+        card_len = 0; (void)add_block(4, first, first < 505 ? first : 255); (void)add_block(4, second, 1); (void)add_block(4, third, 1);
+        memcpy(before, card, 1536);
+        if (k >= 3) { BAD(214, k >= 9 ? 0 : 1); continue; }
+        EQUAL(LOADS(), 0); lent = (tables){.len = {0, 0, 0, 1010 + third}}; memcpy(lent.text, got.text, 1010 + third);
+        EQUAL(writes_card(1536), 0); EQUAL(card_len, 1536); CHECK(memcmp(card, before, 1536) == 0);
+    }
 }
 
 /* ---- Cue sheets */
@@ -905,7 +968,7 @@ static void damaged_octets(void)
     char sheet[] = "REM x\r\n INDEX 00 00:00:00\n" AT_0 "\nTITLE\r\n  INDEX 01 00:59:74\r\nINDEX 01 99:00:00";
     sheet[below(sizeof sheet - 1)] = "\r\n 0179:INDEXx\xFF"[below(15)];
     (void)reads_sheet(sheet, one_in(2) ? sizeof sheet - 1 : below(sizeof sheet), below(4));
-    card_len = 0; EACH(0, 4) (void)add_block(k + 1, 1 + below(21), 4);
+    card_len = 0; EACH(0, 4) (void)add_block(k + 1 - (k > 0 && one_in(4)), one_in(4) ? 21 : 1 + below(21), 4);
     card[below(2048)] ^= (uint8_t)any(); seal(card + 512 * below(4)); card_len = one_in(8) ? below(2048) : 2048;
     (void)(one_in(2) ? LOADS() : loads(below(63), below(126), below(21), below(21)));
 }
@@ -927,7 +990,7 @@ int main(int argc, char **argv)
     seed += (argc > 2 ? strtoul(argv[2], NULL, 10) : 0) * 0x9E3779B97F4A7C15u;
     move_cases(); previous_segment_cases(); running_cases(); media_cases(); owed_cases(); take_cases();
     catalogue_cases(); name_cases(); order_cases(); state_cases();
-    card_cases(); reason_cases(); writer_cases(); sheet_cases();
+    card_cases(); reason_cases(); short_cases(); writer_cases(); sheet_cases();
     for (unsigned long k = 0; k < histories; k++) history();
     EACH(0, CALLS) { CHECK(histories < 40 || (accepted[k] > 0 && refused[k] > 0)); made += accepted[k] + refused[k]; }
     printf("checks: %lu, failures: %lu; random histories: %lu, calls: %lu\n", checks, failures, histories, made);

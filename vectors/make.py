@@ -9,12 +9,12 @@
     crates/inspect/stdin    the card of the sample catalogue
 
 Each vector has its answer beside it, worked out by hand from document 01 and from these requests of document 02: W-205 for a
-card with a bad block, W-202 for a running recording, W-212 for a sheet, W-204 for a written card. Only three things are
-computed: the check numbers of the tables, from the tables that the vector was made of; those of written cards, from cards made
-by document 01's words on blocks; and the starts of the two sheets that have 1,024 and 3,640 of them, by the request's formula.
-Many sheets and some cards are variants that a loop makes, with one answer set by hand for all of them or, of a card, with the
-number that REASONS sets for each reason. A comment in quotation marks is a sentence of document 01, and of document 02 where a
-request is named with it or it stands over sheets or written cards.
+card with a bad block, W-206 for one with a block that is not full, W-202 for a running recording, W-212 for a sheet, W-204 for
+a written card. Only three things are computed: the check numbers of the tables, from the tables that the vector was made of;
+those of written cards, from cards made by document 01's words on blocks; and the starts of the two sheets that have 1,024 and
+3,640 of them, by the request's formula. Many sheets and some cards are variants that a loop makes, with one answer set by hand
+for all of them or, of a card, with the number that REASONS sets for each reason. A comment in quotation marks is a sentence of
+document 01, and of document 02 where a request is named with it or it stands over sheets or written cards.
 """
 import struct
 import sys
@@ -215,16 +215,19 @@ def text_block(number=0):
 card('card-empty', '0 0 0 0', b'')
 card('card-empty-no-room', '0 0 0 0', b'', room=NO_ROOM)
 card('card-sample', '4 4 3 22', SAMPLE_CARD, SAMPLE)
+# All blocks but the last of a kind are full: 64 groups take 2 blocks, 256 tracks 13, 1,024 segments 9, 32,768 octets of text 65.
+# These 89 blocks are the longest card that is not refused. With 85 groups, which take 3 blocks, there are 90.
 card('card-full', '64 256 1024 32768', card_of(FULL_GROUPS, FULL_TRACKS, FULL_SEGMENTS, FULL_TEXT), FULL)
-ONE_EACH = {GROUP_KIND: 1, TRACK_KIND: 1, SEGMENT_KIND: 1, TEXT_KIND: 1}
-card('card-128-blocks', '0 0 0 128', card_of(text=b'x' * 128, most=ONE_EACH), Tables(text=b'x' * 128))
+card('card-90-blocks', '212', card_of([(0, 0, 0)] * 85, FULL_TRACKS, FULL_SEGMENTS, FULL_TEXT), room=ABOVE_LIMITS)
+# 127 blocks of 505 octets and one of 1 octet: the length is right and so is each block, and only the text is too long.
+card('card-128-blocks', '212', card_of(text=b'x' * 64136))
 
 # 210: "card length no multiple of 512, or over 65,536"
 card('card-length-1', '210', b'\0')
 card('card-length-511', '210', SAMPLE_CARD[:511])
 card('card-length-513', '210', SAMPLE_CARD[:512] + b'\0')
 card('card-length-2047', '210', SAMPLE_CARD[:2047])
-card('card-129-blocks', '210', card_of(text=b'x' * 129, most=ONE_EACH))
+card('card-129-blocks', '210', card_of(text=b'x' * 64641))
 
 # "Text is octets", and none of the "five reasons: check, block number, kind, count, padding" (W-205) is in a record: no word
 # and no octet of a record is looked at.
@@ -261,8 +264,8 @@ card('room-all-short', '212', SAMPLE_CARD, room=NO_ROOM)
 
 # 215: "Bytes 0–1 block number from 0". The refusal has the place of the block, not the number that stands in it.
 card('block-number-first-1', '215 0', block(1, TEXT_KIND, 2, b'ab'))
-card('block-number-again', '215 1', block(0, TEXT_KIND, 2, b'ab') + block(0, TEXT_KIND, 2, b'cd'))
-card('block-number-skipped', '215 1', block(0, TEXT_KIND, 2, b'ab') + block(2, TEXT_KIND, 2, b'cd'))
+card('block-number-again', '215 1', block(0, TEXT_KIND, 505, b'z' * 505) + block(0, TEXT_KIND, 2, b'cd'))
+card('block-number-skipped', '215 1', block(0, TEXT_KIND, 505, b'z' * 505) + block(2, TEXT_KIND, 2, b'cd'))
 card('block-number-high-octet', '215 0', block(256, TEXT_KIND, 2, b'ab'))
 card('block-number-high-octet-second', '215 1', seal(group_block()) + seal(text_block(257)))
 card('block-numbers-swapped', '215 0', seal(group_block(1)) + seal(text_block(0)))
@@ -407,7 +410,7 @@ card('lowest-216-falling-1-then-211-2', '216 1', flawed(FALLING + seal(text_bloc
 card('lowest-of-four', '218 0',
      flawed(flawed(flawed(flawed(SAMPLE_CARD, 0, 'padding'), 1, 'count'), 2, 'number'), 3, 'check'))
 
-# Kinds never fall, and may be left out or be spread over several blocks.
+# Kinds never fall, and may be left out or be spread over several blocks, all of which but the last are full.
 card('kinds-groups-only', '4 0 0 0', card_of(groups=SAMPLE_GROUPS), Tables(groups=SAMPLE_GROUPS))
 card('kinds-tracks-only', '0 4 0 0', card_of(tracks=SAMPLE_TRACKS), Tables(tracks=SAMPLE_TRACKS))
 card('kinds-segments-only', '0 0 3 0', card_of(segments=SAMPLE_SEGMENTS), Tables(segments=SAMPLE_SEGMENTS))
@@ -415,10 +418,115 @@ card('kinds-text-only', '0 0 0 22', card_of(text=SAMPLE_TEXT), Tables(text=SAMPL
 card('kinds-1-and-4', '4 0 0 22', card_of(groups=SAMPLE_GROUPS, text=SAMPLE_TEXT), Tables(SAMPLE_GROUPS, text=SAMPLE_TEXT))
 card('kinds-2-and-3', '0 4 3 0', card_of(tracks=SAMPLE_TRACKS, segments=SAMPLE_SEGMENTS),
      Tables(tracks=SAMPLE_TRACKS, segments=SAMPLE_SEGMENTS), (0, 24, 3, 0))
+TWO_EACH = (FULL_GROUPS[:43], FULL_TRACKS[:22], FULL_SEGMENTS[:127], FULL_TEXT[:506])
+card('kinds-two-blocks-each', '43 22 127 506', card_of(*TWO_EACH), Tables(*TWO_EACH))
+card('kinds-full-then-short', '0 0 0 507', block(0, TEXT_KIND, 505, b'z' * 505) + block(1, TEXT_KIND, 2, b'ab'),
+     Tables(text=b'z' * 505 + b'ab'))
 SHORT = {GROUP_KIND: 1, TRACK_KIND: 3, SEGMENT_KIND: 2, TEXT_KIND: 7}
-card('kinds-short-blocks', '4 4 3 22', card_of(SAMPLE_GROUPS, SAMPLE_TRACKS, SAMPLE_SEGMENTS, SAMPLE_TEXT, SHORT), SAMPLE)
-card('kinds-short-then-full', '0 0 0 507', block(0, TEXT_KIND, 2, b'ab') + block(1, TEXT_KIND, 505, b'z' * 505),
-     Tables(text=b'ab' + b'z' * 505))
+card('kinds-short-blocks', '214 0', card_of(SAMPLE_GROUPS, SAMPLE_TRACKS, SAMPLE_SEGMENTS, SAMPLE_TEXT, SHORT))
+card('kinds-short-then-full', '214 0', block(0, TEXT_KIND, 2, b'ab') + block(1, TEXT_KIND, 505, b'z' * 505))
+
+# 214: "a block that is not the last of its kind is not full" (W-206)
+
+# How many octets a record has, and the word of which each octet is 1.
+RECORD = {GROUP_KIND: 12, TRACK_KIND: 24, SEGMENT_KIND: 4, TEXT_KIND: 1}
+ONES = 0x01010101
+
+
+def counted(*blocks):
+    """A card of blocks with these kinds and counts. Each octet of their records is 1."""
+    return b''.join(block(place, kind, count, b'\x01' * (RECORD[kind] * count)) for place, (kind, count) in enumerate(blocks))
+
+
+for kind, name in ((GROUP_KIND, 'groups'), (TRACK_KIND, 'tracks'), (SEGMENT_KIND, 'segments'), (TEXT_KIND, 'text')):
+    full = MOST[kind]
+    card('short-%s-1-then-1' % name, '214 0', counted((kind, 1), (kind, 1)))
+    card('short-%s-1-then-full' % name, '214 0', counted((kind, 1), (kind, full)))
+    card('short-%s-by-one-then-1' % name, '214 0', counted((kind, full - 1), (kind, 1)))
+    card('short-%s-by-one-then-full' % name, '214 0', counted((kind, full - 1), (kind, full)))
+    card('short-%s-by-one-middle' % name, '214 1', counted((kind, full), (kind, full - 1), (kind, 1)))
+    card('short-%s-twice' % name, '214 0', counted((kind, full - 1), (kind, full - 1), (kind, 1)))
+# The same behind other kinds, whose last blocks are not full either.
+card('short-tracks-behind-groups', '214 1', counted((GROUP_KIND, 4), (TRACK_KIND, 20), (TRACK_KIND, 1), (TEXT_KIND, 9)))
+card('short-segments-behind-tracks', '214 2', counted((GROUP_KIND, 4), (TRACK_KIND, 4), (SEGMENT_KIND, 125), (SEGMENT_KIND, 1)))
+card('short-text-behind-segments', '214 2', counted((GROUP_KIND, 4), (SEGMENT_KIND, 3), (TEXT_KIND, 504), (TEXT_KIND, 505)))
+# A block that is the last of its kind may be short: the last of the card, and the last before another kind.
+card('short-groups-last', '43 0 0 0', counted((GROUP_KIND, 42), (GROUP_KIND, 1)), Tables(groups=[(ONES,) * 3] * 43))
+card('short-tracks-last', '0 41 0 0', counted((TRACK_KIND, 21), (TRACK_KIND, 20)), Tables(tracks=[(ONES,) * 6] * 41))
+card('short-segments-last', '0 0 251 0', counted((SEGMENT_KIND, 126), (SEGMENT_KIND, 125)), Tables(segments=[ONES] * 251))
+card('short-text-last', '0 0 0 1009', counted((TEXT_KIND, 505), (TEXT_KIND, 504)), Tables(text=b'\x01' * 1009))
+card('short-last-of-each-kind', '41 20 125 504',
+     counted((GROUP_KIND, 41), (TRACK_KIND, 20), (SEGMENT_KIND, 125), (TEXT_KIND, 504)),
+     Tables([(ONES,) * 3] * 41, [(ONES,) * 6] * 20, [ONES] * 125, b'\x01' * 504))
+card('short-groups-before-text', '43 0 0 1', counted((GROUP_KIND, 42), (GROUP_KIND, 1), (TEXT_KIND, 1)),
+     Tables([(ONES,) * 3] * 43, text=b'\x01'))
+# The longest card with its last block but one short, and with its last one short: that one may be, and its segments are too many.
+card('short-block-126', '214 126', LONGEST_CARD[:64512] + block(126, SEGMENT_KIND, 125, words((7,)) * 125) + LONGEST_CARD[65024:])
+card('short-block-127', '212', LONGEST_CARD[:65024] + block(127, SEGMENT_KIND, 125, words((7,)) * 125))
+ONE_EACH = {GROUP_KIND: 1, TRACK_KIND: 1, SEGMENT_KIND: 1, TEXT_KIND: 1}
+card('short-128-blocks', '214 0', card_of(text=b'x' * 128, most=ONE_EACH))
+
+# "judged by the kind octet of the block behind it, even if that one is bad" (W-206). Block 0 is short by one group; behind it are
+# groups, and it is the lowest bad block, or tracks, and it is right.
+BEFORE_GROUPS = counted((GROUP_KIND, 41), (GROUP_KIND, 9))
+BEFORE_TRACKS = counted((GROUP_KIND, 41), (TRACK_KIND, 9))
+card('short-before-groups-check', '214 0', flawed(BEFORE_GROUPS, 1, 'check'))
+card('short-before-groups-number', '214 0', flawed(BEFORE_GROUPS, 1, 'number'))
+card('short-before-groups-count', '214 0', flawed(BEFORE_GROUPS, 1, 'count'))
+card('short-before-groups-padding', '214 0', flawed(BEFORE_GROUPS, 1, 'padding'))
+card('short-before-groups-all-but-kind', '214 0', flawed(BEFORE_GROUPS, 1, 'check', 'number', 'count', 'padding'))
+card('short-before-tracks-check', '211 1', flawed(BEFORE_TRACKS, 1, 'check'))
+card('short-before-tracks-number', '215 1', flawed(BEFORE_TRACKS, 1, 'number'))
+card('short-before-tracks-count', '217 1', flawed(BEFORE_TRACKS, 1, 'count'))
+card('short-before-tracks-padding', '218 1', flawed(BEFORE_TRACKS, 1, 'padding'))
+card('short-before-tracks-short', '214 1', counted((GROUP_KIND, 41), (TRACK_KIND, 9), (TRACK_KIND, 9)))
+# Block 1 becomes another kind, and its check octets are as they were: groups in place of tracks, and others in place of groups.
+card('short-before-tracks-changed-to-groups', '214 0', spoiled(BEFORE_TRACKS, 514, GROUP_KIND))
+card('short-before-groups-changed-to-tracks', '211 1', spoiled(BEFORE_GROUPS, 514, TRACK_KIND))
+card('short-before-groups-changed-to-0', '211 1', spoiled(BEFORE_GROUPS, 514, 0))
+card('short-before-groups-changed-to-5', '211 1', spoiled(BEFORE_GROUPS, 514, 5))
+# Behind the short block is an octet that is no kind, or a kind that falls: it is the last of its kind, and block 1 is the bad one.
+card('short-groups-before-kind-0', '216 1', counted((GROUP_KIND, 41)) + block(1, 0, 1, b'a'))
+card('short-groups-before-kind-5', '216 1', counted((GROUP_KIND, 41)) + block(1, 5, 1, b'a'))
+card('short-text-before-kind-0', '216 1', counted((TEXT_KIND, 504)) + block(1, 0, 1, b'a'))
+card('short-text-before-kind-5', '216 1', counted((TEXT_KIND, 504)) + block(1, 5, 1, b'a'))
+card('short-text-before-kind-255', '216 1', counted((TEXT_KIND, 504)) + block(1, 255, 1, b'a'))
+card('short-tracks-before-falling-kind', '216 1', counted((TRACK_KIND, 20), (GROUP_KIND, 1)))
+# The blocks 0 and 2 are tracks, and only the block directly behind says whether block 0 is the last of its kind.
+card('short-tracks-around-groups', '216 1', counted((TRACK_KIND, 20), (GROUP_KIND, 1), (TRACK_KIND, 1)))
+
+# "214 .., after 217 and before 218" (W-206)
+card('reasons-check-short', '211 0', flawed(BEFORE_GROUPS, 0, 'check'))
+card('reasons-number-short', '215 0', flawed(BEFORE_GROUPS, 0, 'number'))
+card('reasons-falling-short', '216 1', FALLING + seal(group_block(2)))
+card('reasons-kind-0-twice', '216 0', block(0, 0, 1, b'a') + block(1, 0, 1, b'a'))
+card('reasons-kind-5-twice', '216 0', block(0, 5, 1, b'a') + block(1, 5, 1, b'a'))
+card('reasons-short-padding', '214 0', flawed(BEFORE_GROUPS, 0, 'padding'))
+card('reasons-short-padding-both', '214 0', flawed(flawed(BEFORE_GROUPS, 0, 'padding'), 1, 'padding'))
+# A count of 0 is not full, but 217 comes first; a count above the most is not short.
+card('reasons-count-0-short', '217 0', counted((GROUP_KIND, 0), (GROUP_KIND, 1)))
+card('reasons-count-43-before-groups', '217 0', block(0, GROUP_KIND, 43, words((ONES,)) * 126) + seal(group_block(1)))
+card('reasons-count-65535-before-groups', '217 0', flawed(BEFORE_GROUPS, 0, 'count'))
+card('reasons-count-short-padding', '217 0', flawed(BEFORE_GROUPS, 0, 'count', 'padding'))
+card('reasons-falling-count-short-padding', '216 1', flawed(FALLING + seal(group_block(2)), 1, 'count', 'padding'))
+card('reasons-all-but-check', '215 1', flawed(FALLING + seal(group_block(2)), 1, 'number', 'count', 'padding'))
+card('reasons-all-six', '211 1', flawed(FALLING + seal(group_block(2)), 1, 'check', 'number', 'count', 'padding'))
+# A full block with padding that is not zeros, before another of its kind.
+card('reasons-full-padding', '218 0', flawed(counted((GROUP_KIND, 42), (GROUP_KIND, 1)), 0, 'padding'))
+
+# "the lowest bad block" (W-205): block 1 is short, and a bad block is before it or behind it.
+SHORT_SECOND = counted((TRACK_KIND, 21), (TRACK_KIND, 20), (TRACK_KIND, 1))
+for number, reason in REASONS:
+    card('lowest-%s-0-then-214-1' % number, number + ' 0', flawed(SHORT_SECOND, 0, reason))
+card('lowest-214-1-then-211-2', '214 1', flawed(SHORT_SECOND, 2, 'check'))
+card('lowest-214-1-then-215-2', '214 1', flawed(SHORT_SECOND, 2, 'number'))
+card('lowest-216-2-behind-short', '216 2', flawed(SHORT_SECOND, 2, 'kind'))
+card('lowest-214-1-then-217-2', '214 1', flawed(SHORT_SECOND, 2, 'count'))
+card('lowest-214-1-then-218-2', '214 1', flawed(SHORT_SECOND, 2, 'padding'))
+card('lowest-214-0-then-211-2', '214 0', flawed(BEFORE_GROUPS + seal(text_block(2)), 2, 'check'))
+card('lowest-214-0-then-216-2', '214 0', BEFORE_GROUPS + block(2, 5, 1, b'a'))
+card('lowest-218-0-then-214-2', '218 0',
+     flawed(counted((GROUP_KIND, 4), (TRACK_KIND, 21), (TRACK_KIND, 20), (TRACK_KIND, 1)), 0, 'padding'))
 
 # "Several at once: the first in the table." A bad block comes before 212, also where it stands behind the records that are too
 # many. The 65 groups take the blocks 0 and 1, and the text is block 2.
@@ -430,11 +538,17 @@ for number, reason in REASONS:
     card('first-%s-over-limit' % number, number + ' 2', flawed(OVER_LIMIT, 2, reason), room=ABOVE_LIMITS)
     card('first-%s-in-table-over-limit' % number, number + ' 1', flawed(OVER_LIMIT, 1, reason), room=ABOVE_LIMITS)
     card('first-210-%s' % number, '210', flawed(SAMPLE_CARD, 0, reason) + b'\0')
+card('first-214-no-room', '214 0', BEFORE_GROUPS, room=NO_ROOM)
+card('first-214-no-room-for-groups', '214 1', counted((GROUP_KIND, 4), (TEXT_KIND, 504), (TEXT_KIND, 1)), room=(0, 0, 0, 505))
+card('first-214-over-limit', '214 2', OVER_LIMIT + block(3, TEXT_KIND, 1, b'a'), room=ABOVE_LIMITS)
+card('first-214-in-table-over-limit', '214 0', counted((GROUP_KIND, 41), (GROUP_KIND, 24)), room=ABOVE_LIMITS)
+card('first-210-214', '210', BEFORE_GROUPS + b'\0')
 card('first-212-over-limit', '212', OVER_LIMIT, room=ABOVE_LIMITS)
 card('first-216-falling-no-room', '216 2', card_of(tracks=[PLAIN] * 22) + seal(group_block(2)), room=(192, 0, 0, 0))
 card('first-210-bad-block', '210', flawed(SAMPLE_CARD, 3, 'check') + b'\0')
 card('first-210-no-room', '210', SAMPLE_CARD + b'\0', room=NO_ROOM)
 card('first-210-129-blocks-first-bad', '210', flawed(LONGEST_CARD, 0, 'padding') + block(128, SEGMENT_KIND, 1, words((7,))))
+card('first-210-129-short-blocks', '210', card_of(text=b'x' * 129, most=ONE_EACH))
 card('first-210-129-bad-blocks', '210', b'\xFF' * 66048, room=NO_ROOM)
 
 

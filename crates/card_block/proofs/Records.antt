@@ -14,7 +14,7 @@ use Rattle.ground.specs.Words.{words}
 use Rattle.ground.proofs.Cases.{and-right}
 use Rattle.ground.proofs.Rows.{none-of}
 use Rattle.ground.proofs.Words.{words-length, words-take}
-use Rattle.card_block.specs.Block.{kindOf, countOf, recordSize, mostRecords, recordsEnd, recordsOf, checkRule, numberRule, kindRule, countRule, paddingRule, blockRows, blockRule}
+use Rattle.card_block.specs.Block.{kindOf, countOf, recordSize, mostRecords, recordsEnd, recordsOf, checkRule, numberRule, kindRule, countRule, fullRule, paddingRule, blockRows, blockRule}
 
 room-by : (a b c : Bool) (n : ℕ) → n ≤ pick a 42 (pick b 21 (pick c 126 505)) → n * pick a 12 (pick b 24 (pick c 4 1)) ≤ 505
 room-by true b c n h = omega arith
@@ -32,32 +32,34 @@ unfolding countRule
 count-room b h = leb-true _ _ (and-right (leb 1 (countOf b)) _ h)
 
 -- what a right block keeps, rule by rule; and the way back
-pub record Keeps (number least : ℕ) (b : List ℕ) : Type 0 where
+pub record Keeps (number least : ℕ) (last : Bool) (b : List ℕ) : Type 0 where
   pub check : checkRule b ≡ true
   pub place : numberRule number b ≡ true
   pub kind : kindRule least b ≡ true
   pub count : countRule b ≡ true
+  pub full : fullRule last b ≡ true
   pub padding : paddingRule b ≡ true
 
-pub keeps-of : (number least : ℕ) (b : List ℕ) → blockRule number least b ≡ true → Keeps number least b
+pub keeps-of : (number least : ℕ) (last : Bool) (b : List ℕ) → blockRule number least last b ≡ true → Keeps number least last b
 unfolding blockRule
-keeps-of number least b h =
-    let n = none-of (blockRows number least b) h in
+keeps-of number least last b h =
+    let n = none-of (blockRows number least last b) h in
     record {
       check = not-false _ (n .0);
       place = not-false _ (n .1 .0);
       kind = not-false _ (n .1 .1 .0);
       count = not-false _ (n .1 .1 .1 .0);
-      padding = not-false _ (n .1 .1 .1 .1 .0);
+      full = not-false _ (n .1 .1 .1 .1 .0);
+      padding = not-false _ (n .1 .1 .1 .1 .1 .0);
     }
 
-pub of-keeps : (number least : ℕ) (b : List ℕ) → Keeps number least b → blockRule number least b ≡ true
+pub of-keeps : (number least : ℕ) (last : Bool) (b : List ℕ) → Keeps number least last b → blockRule number least last b ≡ true
 unfolding blockRule
-of-keeps number least b k = rw (k .check, k .place, k .kind, k .count, k .padding)
+of-keeps number least last b k = rw (k .check, k .place, k .kind, k .count, k .full, k .padding)
 
 -- a right block has a right count
-pub block-count : (number least : ℕ) (b : List ℕ) → blockRule number least b ≡ true → countOf b ≤ mostRecords (kindOf b)
-block-count number least b h = count-room b (keeps-of number least b h .count)
+pub block-count : (number least : ℕ) (last : Bool) (b : List ℕ) → blockRule number least last b ≡ true → countOf b ≤ mostRecords (kindOf b)
+block-count number least last b h = count-room b (keeps-of number least last b h .count)
 
 -- the first m of w are what f makes of a block's records
 abbrev pub Cut : (List ℕ → List ℕ) → List ℕ → List ℕ → ℕ → Type 0

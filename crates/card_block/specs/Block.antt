@@ -1,6 +1,6 @@
 -- A block of 512 octets and its rules, in the order of document 01, "Card and catalogue".
 -- Assumes nothing.
-use mathlib.Core.Bool.{Bool, true, _&&_, not}
+use mathlib.Core.Bool.{Bool, true, _&&_, _||_, not}
 use mathlib.Core.List.{List, [], _∷_}
 use Prim.Native.Nat.{ℕ, _+_, _*_}
 use lib.Dec.{eqb, leb}
@@ -57,7 +57,8 @@ unfoldable pub allZero : List ℕ → Bool
 allZero [] = true
 allZero (x ∷ s) = eqb x 0 && allZero s
 
--- the rules: `number` is the block's place on the card, `least` the kind of the block before it, 1 for the first
+-- the rules: `number` is the block's place on the card, `least` the kind of the block before it, 1 for the first; `last` says whether it is the last of its
+-- kind
 unfoldable pub checkRule : List ℕ → Bool
 checkRule b =
     eqb (getD b summed 0) (sumsOf (take summed b) .plain) && eqb (getD b (summed + 1) 0) (sumsOf (take summed b) .running)
@@ -71,24 +72,29 @@ kindRule least b = leb least (kindOf b) && leb (kindOf b) 4
 unfoldable pub countRule : List ℕ → Bool
 countRule b = leb 1 (countOf b) && leb (countOf b) (mostRecords (kindOf b))
 
+-- "a block that is not the last of its kind is not full" (document 02, W-206)
+unfoldable pub fullRule : Bool → List ℕ → Bool
+fullRule last b = last || eqb (countOf b) (mostRecords (kindOf b))
+
 -- "zeros up to byte 509"
 unfoldable pub paddingRule : List ℕ → Bool
 paddingRule b = allZero (part b (recordsEnd b) summed)
 
--- "the lowest bad block's number and one of five reasons: check, block number, kind, count, padding" (document 02, W-205): the rules in that order, each with
--- its number and the block's place on the card; the first that is broken is the reason
-abbrev pub blockRows : ℕ → ℕ → List ℕ → List Row
-blockRows number least b =
+-- "the lowest bad block's number and one of five reasons: check, block number, kind, count, padding" (document 02, W-205), and "214 with the block number,
+-- after 217 and before 218" (W-206): the rules in that order, each with its number and the block's place on the card; the first that is broken is the reason
+abbrev pub blockRows : ℕ → ℕ → Bool → List ℕ → List Row
+blockRows number least last b =
     rowWith 211 (number ∷ []) (not (checkRule b))
     ∷ rowWith 215 (number ∷ []) (not (numberRule number b))
     ∷ rowWith 216 (number ∷ []) (not (kindRule least b))
     ∷ rowWith 217 (number ∷ []) (not (countRule b))
+    ∷ rowWith 214 (number ∷ []) (not (fullRule last b))
     ∷ rowWith 218 (number ∷ []) (not (paddingRule b))
     ∷ []
 
 -- a block that breaks none of them
-unfoldable pub blockRule : ℕ → ℕ → List ℕ → Bool
-blockRule number least b = accepted (blockRows number least b)
+unfoldable pub blockRule : ℕ → ℕ → Bool → List ℕ → Bool
+blockRule number least last b = accepted (blockRows number least last b)
 
 -- the number of each answer, and the block that it carries
 abbrev pub saidOf : Judged → Said

@@ -5,7 +5,7 @@ ghost use Prim.Native.Nat.{_+_, _*_, _<_, _≤_};
 ghost use lib.ListN.{length};
 ghost use Rattle.ground.specs.Refusals.{refusedWith, saidBy};
 ghost use Rattle.card_block.specs.Sums.{sumOf, runningSums, sumsOf};
-ghost use Rattle.card_block.specs.Block.{blockSize, headSize, summed, kindOf, countOf, recordSize, mostRecords, recordsEnd, allZero, checkRule, numberRule, kindRule, countRule, paddingRule, blockRows, saidOf};
+ghost use Rattle.card_block.specs.Block.{blockSize, headSize, summed, kindOf, countOf, recordSize, mostRecords, recordsEnd, allZero, checkRule, numberRule, kindRule, countRule, fullRule, paddingRule, blockRows, saidOf};
 
 // The octets in a block, in its head, and in head and records; behind those stand the two check octets.
 pub const BLOCK: usize = 512;
@@ -170,6 +170,16 @@ fn padding_right(b: &[u8]) -> bool
     all_zero(&b[end..SUMMED])
 }
 
+// A block that is not the last of its kind has to be full.
+fn full_right(b: &[u8], last: bool) -> bool
+    requires { ⌜ length (now b) ≡ blockSize ⌝ }
+    ensures { λ r. ⌜ r ≡ fullRule last (now (b .entry)) ⌝ }
+{
+    let count = ground::half_at(b, 3);
+    let most = most_records(b[2]);
+    last | (count == most)
+}
+
 fn refused(number: u32, block: usize) -> Judged
     ensures { λ r. ⌜ saidOf r ≡ refusedWith number (block ∷ []) ⌝ }
 {
@@ -178,10 +188,10 @@ fn refused(number: u32, block: usize) -> Judged
 }
 
 // What is said of a block by its rules, the first that it breaks first. `number` is its place on the card, `least` the kind of the block before it, 1 for the
-// first.
-pub fn judge(b: &[u8], number: usize, least: u8) -> Judged
+// first; `last` says whether it is the last of its kind.
+pub fn judge(b: &[u8], number: usize, least: u8, last: bool) -> Judged
     requires { ⌜ length (now b) ≡ blockSize ⌝ }
-    ensures { λ r. ⌜ saidOf r ≡ saidBy (blockRows number least (now (b .entry))) ⌝ }
+    ensures { λ r. ⌜ saidOf r ≡ saidBy (blockRows number least last (now (b .entry))) ⌝ }
 {
     if !check_right(b) {
         return refused(ground::BAD_CHECK, number);
@@ -194,6 +204,9 @@ pub fn judge(b: &[u8], number: usize, least: u8) -> Judged
     }
     if !count_right(b) {
         return refused(ground::BAD_COUNT, number);
+    }
+    if !full_right(b, last) {
+        return refused(ground::NOT_FULL, number);
     }
     if !padding_right(b) {
         return refused(ground::BAD_PADDING, number);

@@ -1,6 +1,6 @@
 -- A block that is right by the reader's rules is the block of its own number, kind, count and records: no other block has them. Assumes nothing.
 use mathlib.Core.Path.{_≡_, refl, sym, ap, _∙_}
-use mathlib.Core.Bool.{true}
+use mathlib.Core.Bool.{Bool, true}
 use mathlib.Core.List.{List, [], _∷_, _++_}
 use Prim.Native.Nat.{ℕ, _+_, _*_, _-_, _/_, _%_, _≤_, _<_}
 use native.Mathlib.Nat.{add-sub-cancel-left}
@@ -23,23 +23,23 @@ all-zeros (x ∷ s) h =
     let e : x ≡ 0 = eqb-true x 0 (and-left (eqb x 0) (allZero s) h) in
     λ i. e i ∷ all-zeros s (and-right (eqb x 0) (allZero s) h) i
 
-module _ (number least a0 a1 a2 a3 a4 : ℕ) (r : List ℕ) (long : length r ≡ 507) (o0 : a0 < 256) (o3 : a3 < 256)
-    (h : blockRule number least (a0 ∷ a1 ∷ a2 ∷ a3 ∷ a4 ∷ r) ≡ true) where
+module _ (number least : ℕ) (last : Bool) (a0 a1 a2 a3 a4 : ℕ) (r : List ℕ) (long : length r ≡ 507) (o0 : a0 < 256) (o3 : a3 < 256)
+    (h : blockRule number least last (a0 ∷ a1 ∷ a2 ∷ a3 ∷ a4 ∷ r) ≡ true) where
   abbrev b : List ℕ
   b = a0 ∷ a1 ∷ a2 ∷ a3 ∷ a4 ∷ r
 
   number-is : a0 + a1 * 256 ≡ number
   unfolding numberRule
-  number-is = eqb-true _ _ (keeps-of number least b h .place)
+  number-is = eqb-true _ _ (keeps-of number least last b h .place)
 
   checks-are : (getD r 505 0 ≡ sumsOf (take 510 b) .plain) × (getD r 506 0 ≡ sumsOf (take 510 b) .running)
   unfolding checkRule
   checks-are =
-      let c = keeps-of number least b h .check in
+      let c = keeps-of number least last b h .check in
       (eqb-true _ _ (and-left (eqb (getD r 505 0) (sumsOf (take 510 b) .plain)) _ c), eqb-true _ _ (and-right (eqb (getD r 505 0) (sumsOf (take 510 b) .plain)) _ c))
 
   room : (a3 + a4 * 256) * recordSize a2 ≤ 505
-  room = records-room a2 (a3 + a4 * 256) (block-count number least b h)
+  room = records-room a2 (a3 + a4 * 256) (block-count number least last b h)
 
   records-are : recordsOf (a0 ∷ a1 ∷ a2 ∷ a3 ∷ a4 ∷ r) ≡ take ((a3 + a4 * 256) * recordSize a2) r
   records-are = ap (λ (k : ℕ). take k r) (add-sub-cancel-left 5 ((a3 + a4 * 256) * recordSize a2))
@@ -49,7 +49,7 @@ module _ (number least a0 a1 a2 a3 a4 : ℕ) (r : List ℕ) (long : length r ≡
   padding-is =
       let m = (a3 + a4 * 256) * recordSize a2 in
       let k = room in
-      let z = keeps-of number least b h .padding in
+      let z = keeps-of number least last b h .padding in
       let q : 510 - (5 + m) ≡ 505 - m = omega arith in
       let e : part b (5 + m) 510 ≡ take (505 - m) (drop m r) = λ i. take (q i) (sym (drop-drop m 5 b) i) in
       let n : length (take (505 - m) (drop m r)) ≡ 505 - m = simp (length-take, length-drop) (omega arith) in

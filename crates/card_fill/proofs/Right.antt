@@ -1,6 +1,6 @@
 -- A written block is right by the reader's own rules, and its records are those that were written. Assumes nothing.
 use mathlib.Core.Path.{_≡_, refl, sym, ap, _∙_}
-use mathlib.Core.Bool.{true}
+use mathlib.Core.Bool.{Bool, true}
 use mathlib.Core.List.{List, [], _∷_, _++_, append-assoc}
 use Prim.Native.Nat.{ℕ, zero, suc, _+_, _*_, _-_, _/_, _%_, _≤_}
 use native.Mathlib.Nat.{add-sub-cancel-left}
@@ -12,7 +12,7 @@ use Rattle.ground.specs.Lists.{part}
 use Rattle.ground.specs.Words.{halfOf}
 use Rattle.ground.proofs.Cases.{and-both}
 use Rattle.card_block.specs.Sums.{sumsOf}
-use Rattle.card_block.specs.Block.{kindOf, countOf, recordSize, mostRecords, recordsEnd, recordsOf, allZero, checkRule, numberRule, kindRule, countRule, paddingRule, blockRule}
+use Rattle.card_block.specs.Block.{kindOf, countOf, recordSize, mostRecords, recordsEnd, recordsOf, allZero, checkRule, numberRule, kindRule, countRule, fullRule, paddingRule, blockRule}
 use Rattle.card_block.proofs.Records.{of-keeps, records-room}
 use Rattle.card_fill.specs.Filled.{zeros, frontOf, checksOf, blockOf}
 use Rattle.card_fill.proofs.Making.{front-length, written-length}
@@ -96,8 +96,9 @@ module _ (number kind count : ℕ) (records : List ℕ) (most : count ≤ mostRe
   unfolding countRule blockOf frontOf
   count-right one = rw (half-back count) (and-both (le-leb _ _ one) (le-leb _ _ most))
 
-  -- THE theorem of the block: it passes all rules of the reader, at its number and behind any kind that is not above its own
-  pub block-right : (least : ℕ) → least ≤ kind → kind ≤ 4 → 1 ≤ count → blockRule number least (blockOf number kind count records) ≡ true
-  block-right least lo hi one =
-      of-keeps number least _
-      record { check = check-right; place = number-right; kind = kind-right least lo hi; count = count-right one; padding = padding-right }
+  -- THE theorem of the block: it passes all rules of the reader, at its number and behind any kind that is not above its own, where it need not be full or is
+  pub block-right : (least : ℕ) (last : Bool) → least ≤ kind → kind ≤ 4 → 1 ≤ count → fullRule last (blockOf number kind count records) ≡ true
+      → blockRule number least last (blockOf number kind count records) ≡ true
+  block-right least last lo hi one full =
+      of-keeps number least last _
+      record { check = check-right; place = number-right; kind = kind-right least lo hi; count = count-right one; full = full; padding = padding-right }

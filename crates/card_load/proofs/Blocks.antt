@@ -1,12 +1,14 @@
 -- The blocks of a card as a loop meets them: the next one, its length, none behind the last. Assumes nothing.
 use mathlib.Core.Path.{_≡_, refl, sym, ap, _∙_}
 use mathlib.Core.List.{List, [], _∷_}
-use Prim.Native.Nat.{ℕ, zero, suc, _+_, _*_, _≤_, _<_}
+use Prim.Native.Nat.{ℕ, zero, suc, _+_, _*_, _-_, _≤_, _<_}
 use native.Mathlib.Nat.{add-sub-cancel-left, not-suc-le-zero}
 use native.Mathlib.Numerals.{add-one}
 use native.Mathlib.Omega.{arith}
+use lib.Dec.{lit≤}
 use lib.ListN.{length, getD, take, drop, length-take, length-drop, drop-of-length-le}
-use lib.Seq.{drop-drop, drop-cons}
+use lib.Seq.{drop-drop, drop-cons, getD-take, getD-drop}
+use Rattle.card_block.specs.Block.{kindOf}
 use Rattle.card_load.specs.Card.{blocks, blockAt}
 
 pub blocks-length : (n : ℕ) (card : List ℕ) → length (blocks n card) ≡ n
@@ -36,3 +38,12 @@ blocks-end n card i h = let l : length (blocks n card) ≤ i = rw blocks-length 
 
 pub block-length : (n : ℕ) (card : List ℕ) (i : ℕ) → i < n → n * 512 ≤ length card → length (blockAt card i) ≡ 512
 block-length n card i h k = simp (length-take, length-drop) (omega arith)
+
+-- where the kind octet of a block stands on the card
+pub kind-at : (card : List ℕ) (i at : ℕ) → at ≡ i * 512 + 2 → getD card at 0 ≡ kindOf (blockAt card i)
+kind-at card i at e =
+    let long : i * 512 + 512 - i * 512 ≡ 512 = add-sub-cancel-left (i * 512) 512 in
+    ap (λ (k : ℕ). getD card k 0) e
+    ∙ sym (getD-drop (i * 512) card 2 0)
+    ∙ sym (getD-take 512 (drop (i * 512) card) 2 0 (lit≤ tt))
+    ∙ ap (λ (k : ℕ). getD (take k (drop (i * 512) card)) 2 0) (sym long)

@@ -14,28 +14,28 @@ use Rattle.ground.proofs.Cases.{and-left, and-right, and-both}
 use Rattle.ground.proofs.Rows.{both-accept}
 use Rattle.card_block.specs.Block.{kindOf, countOf, mostRecords, recordsOf, blockRows, blockRule}
 use Rattle.card_block.proofs.Records.{block-count}
-use Rattle.card_load.specs.Card.{blocks, blockAt, blocksRows, blocksRule, recordCount, gather, CountsFit}
+use Rattle.card_load.specs.Card.{blocks, blockAt, lastOfKind, blocksRows, blocksRule, recordCount, gather, CountsFit}
 use Rattle.card_load.proofs.Blocks.{blocks-at, blocks-length, block-length}
 
 -- right blocks are a right block and then right blocks
 pub blocks-first : (number least : ℕ) (b : List ℕ) (bs : List (List ℕ)) → blocksRule number least (b ∷ bs) ≡ true
-    → (blockRule number least b ≡ true) × (blocksRule (number + 1) (kindOf b) bs ≡ true)
+    → (blockRule number least (lastOfKind b bs) b ≡ true) × (blocksRule (number + 1) (kindOf b) bs ≡ true)
 unfolding blocksRows blockRule
 blocks-first number least b bs h =
-    let rows = blockRows number least b in
+    let rows = blockRows number least (lastOfKind b bs) b in
     let more = blocksRows (number + 1) (kindOf b) bs in
     let e = sym (both-accept rows more) ∙ h in
     (and-left (accepted rows) (accepted more) e, and-right (accepted rows) (accepted more) e)
 
-pub blocks-onto : (number least : ℕ) (b : List ℕ) (bs : List (List ℕ)) → blockRule number least b ≡ true → blocksRule (number + 1) (kindOf b) bs ≡ true
+pub blocks-onto : (number least : ℕ) (b : List ℕ) (bs : List (List ℕ)) → blockRule number least (lastOfKind b bs) b ≡ true → blocksRule (number + 1) (kindOf b) bs ≡ true
     → blocksRule number least (b ∷ bs) ≡ true
 unfolding blocksRows blockRule
-blocks-onto number least b bs r s = both-accept (blockRows number least b) (blocksRows (number + 1) (kindOf b) bs) ∙ and-both r s
+blocks-onto number least b bs r s = both-accept (blockRows number least (lastOfKind b bs) b) (blocksRows (number + 1) (kindOf b) bs) ∙ and-both r s
 
 fit-list : (number least : ℕ) (bs : List (List ℕ)) → blocksRule number least bs ≡ true
     → (i : ℕ) → i < length bs → countOf (getD bs i []) ≤ mostRecords (kindOf (getD bs i []))
 fit-list number least [] h i l = absurd (not-suc-le-zero l)
-fit-list number least (b ∷ bs) h zero l = block-count number least b (blocks-first number least b bs h .0)
+fit-list number least (b ∷ bs) h zero l = block-count number least (lastOfKind b bs) b (blocks-first number least b bs h .0)
 fit-list number least (b ∷ bs) h (suc i) l = fit-list (number + 1) (kindOf b) bs (blocks-first number least b bs h .1) i (omega arith)
 
 pub counts-fit : (n : ℕ) (card : List ℕ) → blocksRule 0 1 (blocks n card) ≡ true → CountsFit n card

@@ -1,6 +1,6 @@
 -- The rows of card load stand in the table's order, the lowest bad block is the one that is named, and a refusal leaves each table as it was. Assumes nothing.
 use mathlib.Core.Path.{_≡_, refl, sym, ap, _∙_}
-use mathlib.Core.Bool.{true, false, not}
+use mathlib.Core.Bool.{Bool, true, false, not}
 use mathlib.Core.List.{List, [], _∷_, _++_}
 use Prim.Native.Nat.{ℕ, zero, suc, _+_, _<_}
 use native.Mathlib.Nat.{zero-add}
@@ -13,20 +13,20 @@ use Rattle.ground.proofs.Cases.{clash}
 use Rattle.ground.proofs.Settled.{table-kept}
 use Rattle.ground.proofs.Rows.{more, beyond, none-of, all-carry}
 use Rattle.card_block.specs.Block.{kindOf, blockRows}
-use Rattle.card_load.specs.Card.{lengthRule, blocksOf, blocksRows, gather, octets}
+use Rattle.card_load.specs.Card.{lengthRule, blocksOf, lastOfKind, blocksRows, gather, octets}
 use Rattle.card_load.specs.Load.{saidOf, roomRow, loadSaid}
 use Rattle.card_load.proofs.Answers.{says-block}
 use Rattle.card_load.proofs.Outcome.{Outcome, Meets}
 
 -- of a card of any one block the rows stand in the order of the table: those of its block between 210 and 212
-pub load-order : (card b : List ℕ) (number least groups tracks segments text : ℕ)
-    → inOrder table (row 210 (not (lengthRule card)) ∷ (blockRows number least b ++ (roomRow (blocksOf card) groups tracks segments text ∷ []))) ≡ true
-load-order card b number least groups tracks segments text = refl
+pub load-order : (card b : List ℕ) (number least : ℕ) (last : Bool) (groups tracks segments text : ℕ)
+    → inOrder table (row 210 (not (lengthRule card)) ∷ (blockRows number least last b ++ (roomRow (blocksOf card) groups tracks segments text ∷ []))) ≡ true
+load-order card b number least last groups tracks segments text = refl
 
 -- the rows of block k of these, of which the first has the place `number` and stands behind the kind `least`
 abbrev pub rowsOf : ℕ → ℕ → List (List ℕ) → ℕ → List Row
 rowsOf number least [] k = []
-rowsOf number least (b ∷ bs) zero = blockRows number least b
+rowsOf number least (b ∷ bs) zero = blockRows number least (lastOfKind b bs) b
 rowsOf number least (b ∷ bs) (suc k) = rowsOf (number + 1) (kindOf b) bs k
 
 -- the first block that breaks a rule is said, whatever stands behind it
@@ -34,9 +34,9 @@ lowest : (number least : ℕ) (bs : List (List ℕ)) (k : ℕ) → ((i : ℕ) �
     → saidBy (rowsOf number least bs k) .isGranted ≡ false → saidBy (blocksRows number least bs) ≡ saidBy (rowsOf number least bs k)
 unfolding blocksRows
 lowest number least [] k h bad = clash (sym bad)
-lowest number least (b ∷ bs) zero h bad = sym (more (blockRows number least b) (blocksRows (number + 1) (kindOf b) bs) bad)
+lowest number least (b ∷ bs) zero h bad = sym (more (blockRows number least (lastOfKind b bs) b) (blocksRows (number + 1) (kindOf b) bs) bad)
 lowest number least (b ∷ bs) (suc k) h bad =
-    sym (beyond (blockRows number least b) (blocksRows (number + 1) (kindOf b) bs) (none-of (blockRows number least b) (h 0 (omega arith))) refl)
+    sym (beyond (blockRows number least (lastOfKind b bs) b) (blocksRows (number + 1) (kindOf b) bs) (none-of (blockRows number least (lastOfKind b bs) b) (h 0 (omega arith))) refl)
     ∙ lowest (number + 1) (kindOf b) bs k (λ i l. h (suc i) (omega arith)) bad
 
 -- and it is said with its place
@@ -44,7 +44,7 @@ placed : (number least : ℕ) (bs : List (List ℕ)) (k : ℕ) → saidBy (rowsO
 placed number least [] k bad = clash (sym bad)
 placed number least (b ∷ bs) zero bad =
     let z : number + 0 ≡ number = omega arith in
-    rw z (all-carry (number ∷ []) (blockRows number least b) (refl, (refl, (refl, (refl, (refl, tt))))) bad)
+    rw z (all-carry (number ∷ []) (blockRows number least (lastOfKind b bs) b) (refl, (refl, (refl, (refl, (refl, (refl, tt)))))) bad)
 placed number least (b ∷ bs) (suc k) bad =
     let z : number + suc k ≡ number + 1 + k = omega arith in
     rw z (placed (number + 1) (kindOf b) bs k bad)

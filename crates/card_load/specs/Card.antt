@@ -1,6 +1,6 @@
 -- A card as a list of blocks (document 01, "Card and catalogue").
 -- Assumes nothing.
-use mathlib.Core.Bool.{Bool, _&&_}
+use mathlib.Core.Bool.{Bool, true, _&&_, not}
 use mathlib.Core.List.{List, [], _∷_, _++_}
 use Prim.Native.Nat.{ℕ, zero, suc, _+_, _*_, _/_, _%_, _<_, _≤_}
 use lib.Dec.{eqb, leb}
@@ -25,11 +25,17 @@ blocks (suc n) card = take blockSize card ∷ blocks n (drop blockSize card)
 abbrev pub blocksOf : List ℕ → List (List ℕ)
 blocksOf card = blocks (length card / blockSize) card
 
+-- "Whether a block is the last of its kind is judged by the kind octet of the block behind it, even if that one is bad" (document 02, W-206); the last block
+-- of the card is
+unfoldable pub lastOfKind : List ℕ → List (List ℕ) → Bool
+lastOfKind b [] = true
+lastOfKind b (behind ∷ bs) = not (eqb (kindOf behind) (kindOf b))
+
 -- the rules of all blocks, block by block, so that the first that is broken is one of the lowest bad block: the places count on from `number`, and the kind
 -- never falls below `least`
 unfoldable pub blocksRows : ℕ → ℕ → List (List ℕ) → List Row
 blocksRows number least [] = []
-blocksRows number least (b ∷ bs) = blockRows number least b ++ blocksRows (number + 1) (kindOf b) bs
+blocksRows number least (b ∷ bs) = blockRows number least (lastOfKind b bs) b ++ blocksRows (number + 1) (kindOf b) bs
 
 -- blocks that break none of them
 abbrev pub blocksRule : ℕ → ℕ → List (List ℕ) → Bool

@@ -1,14 +1,14 @@
 // The card reader: a card into four lent tables.
 ghost use mathlib.Core.Path.{_≡_};
 ghost use mathlib.Core.List.{_∷_, []};
-ghost use Prim.Native.Nat.{_+_, _*_, _≤_};
+ghost use Prim.Native.Nat.{_+_, _*_, _<_, _≤_};
 ghost use lib.ListN.{length, drop};
 ghost use lib.Seq.{paste};
 ghost use Rattle.ground.specs.Refusals.{refusedWith, saidThrough, saidBy};
 ghost use Rattle.ground.specs.Lists.{filled, tableAfter};
 ghost use Rattle.ground.specs.Words.{words};
 ghost use Rattle.card_block.specs.Block.{blockSize, saidOf as judgedSaidOf};
-ghost use Rattle.card_load.specs.Card.{mostBlocks, blocks, blocksOf, blocksRows, recordCount, gather, octets, CountsFit};
+ghost use Rattle.card_load.specs.Card.{mostBlocks, blocks, blocksOf, blockAt, lastOfKind, blocksRows, recordCount, gather, octets, CountsFit};
 ghost use Rattle.card_load.specs.Load.{fits, roomRow, counted, saidOf, loadSaid};
 use card_block::Judged;
 
@@ -35,6 +35,20 @@ fn refused(number: u32) -> Loaded
     Loaded::Refused(r)
 }
 
+// Whether block i of n is the last of its kind: the block behind it has another kind octet, or there is none.
+fn last_of_kind(card: &[u8], n: usize, i: usize) -> bool
+    requires { ⌜ n * blockSize ≤ length (now card) ⌝ }
+    requires { ⌜ i < n ⌝ }
+    ensures { λ r. ⌜ r ≡ lastOfKind (blockAt (now (card .entry)) i) (drop (i + 1) (blocks n (now (card .entry)))) ⌝ }
+{
+    let own = i * card_block::BLOCK + 2;
+    if i + 1 < n {
+        let behind = own + card_block::BLOCK;
+        return card[behind] != card[own];
+    }
+    true
+}
+
 // What is said of the first n blocks: the rules are asked block by block, so that the lowest bad block is the one that is named.
 fn judge_blocks(card: &[u8], n: usize) -> Judged
     requires { ⌜ n * blockSize ≤ length (now card) ⌝ }
@@ -46,7 +60,8 @@ fn judge_blocks(card: &[u8], n: usize) -> Judged
         let a = i * card_block::BLOCK;
         let e = a + card_block::BLOCK;
         let b = &card[a..e];
-        let j = card_block::judge(b, i, least);
+        let last = last_of_kind(card, n, i);
+        let j = card_block::judge(b, i, least, last);
         match j {
             Judged::Refused(r) => return Judged::Refused(r),
             Judged::Fine => {}

@@ -1,4 +1,4 @@
--- Writing what was loaded gives the card back, for a right card whose blocks are full but for the last of each kind. Assumes nothing.
+-- Writing what was loaded gives the card back, for every right card. Assumes nothing.
 use mathlib.Core.Path.{_≡_, refl, sym, ap, _∙_}
 use mathlib.Core.Bool.{true}
 use mathlib.Core.List.{List, [], _∷_, _++_, append-nil}
@@ -11,11 +11,11 @@ use lib.ListN.{length, take, drop, length-drop, take-append-drop}
 use Rattle.ground.specs.Words.{words, octetsOf}
 use Rattle.ground.proofs.Cases.{and-left}
 use Rattle.card_block.specs.Block.{recordSize}
-use Rattle.card_load.specs.Card.{blocks, lengthRule, blocksOf, blocksRule, gather, octets}
+use Rattle.card_load.specs.Card.{blocks, lengthRule, blocksOf, lastOfKind, blocksRule, gather, octets}
 use Rattle.card_load.proofs.Lengths.{blocks-first}
 use Rattle.ground.proofs.Words.{octets-length}
 use Rattle.catalogue_tables.specs.Tables.{Tables, tables}
-use Rattle.card_write.specs.Card.{kindBlocks, wordsTake, octetsTake, wordBlocks, textBlocks, joined, catalogueBlocks, cardOf, FullButLast}
+use Rattle.card_write.specs.Card.{kindBlocks, wordsTake, octetsTake, wordBlocks, textBlocks, joined, catalogueBlocks, cardOf}
 use Rattle.card_write.proofs.Loading.{groups-way, tracks-way, segments-way, text-way}
 use Rattle.ground.proofs.Octets.{Octs, octets-words}
 use Rattle.card_write.proofs.Peeling.{Fine, fine-of, WayBack, Peeled, peel, kind-low}
@@ -55,7 +55,7 @@ run-text P text t from n =
 none-five : (number : ℕ) (bs : List (List ℕ)) → blocksRule number 5 bs ≡ true → bs ≡ []
 none-five number [] h = refl
 none-five number (b ∷ bs) h =
-    let low = kind-low number 5 b (blocks-first number 5 b bs h .0) in
+    let low = kind-low number 5 (lastOfKind b bs) b (blocks-first number 5 b bs h .0) in
     absurd (let z : ⊥ = omega (arith, low .0, low .1) in z)
 
 joined-blocks : (n : ℕ) (card : List ℕ) → length card ≡ n * 512 → joined (blocks n card) ≡ card
@@ -97,12 +97,12 @@ blocks-again bs F h =
     ∙ ap (λ (l : List (List ℕ)). P2 .run ++ l) (P3 .parts
     ∙ ap (λ (l : List (List ℕ)). P3 .run ++ l) (P4 .parts ∙ ap (λ (l : List (List ℕ)). P4 .run ++ l) z ∙ append-nil (P4 .run)))))
 
--- THE way back: a card that the reader's rules pass and that is filled that way is the card of the tables that it holds
-pub card-again : (card : List ℕ) → Octs card → lengthRule card ≡ true → blocksRule 0 1 (blocksOf card) ≡ true → FullButLast (blocksOf card)
+-- THE way back: a card that the reader's rules pass is the card of the tables that it holds
+pub card-again : (card : List ℕ) → Octs card → lengthRule card ≡ true → blocksRule 0 1 (blocksOf card) ≡ true
     → cardOf (heldBy (blocksOf card)) ≡ card
 unfolding cardOf lengthRule
-card-again card o l h f =
+card-again card o l h =
     let n = length card / 512 in
     let m : length card % 512 ≡ 0 = eqb-true _ _ (and-left (eqb (length card % 512) 0) (leb (length card) 65536) l) in
     let e : length card ≡ n * 512 = omega arith in
-    ap joined (blocks-again (blocksOf card) (fine-of n card (omega arith) o f) h) ∙ joined-blocks n card e
+    ap joined (blocks-again (blocksOf card) (fine-of n card (omega arith) o) h) ∙ joined-blocks n card e

@@ -1,19 +1,37 @@
 -- The card of a catalogue has "every block but the last of its kind full". Assumes nothing.
 use mathlib.Core.Path.{_≡_, refl, sym, ap, _∙_}
-use mathlib.Core.List.{List, [], _++_, append-nil}
+use mathlib.Core.Bool.{Bool, true, false, not, _||_}
+use mathlib.Core.List.{List, [], _∷_, _++_, append-nil}
 use Prim.Native.Nat.{ℕ, zero, suc, _+_, _*_, _-_, _/_}
 use native.Mathlib.Nat.{suc-mul}
 use native.Mathlib.Omega.{arith}
+use borrow.Author.Tests.{eqb-true, eq-eqb}
+use lib.Dec.{eqb}
 use lib.ListN.{length, take, drop}
 use Rattle.ground.specs.Words.{octetsOf}
-use Rattle.card_block.specs.Block.{kindOf, mostRecords}
-use Rattle.card_load.specs.Card.{octets}
+use Rattle.card_block.specs.Block.{kindOf, countOf, mostRecords, fullRule}
+use Rattle.card_load.specs.Card.{lastOfKind, octets}
 use Rattle.catalogue_tables.specs.Tables.{Tables}
 use Rattle.card_fill.specs.Filled.{frontOf, blockOf}
 use Rattle.card_fill.proofs.Right.{block-count}
-use Rattle.card_write.specs.Card.{kindBlocks, wordsTake, octetsTake, wordBlocks, textBlocks, tracksFrom, segmentsFrom, textFrom, catalogueBlocks, nextKind, FullButLast}
+use Rattle.card_write.specs.Card.{kindBlocks, wordsTake, octetsTake, wordBlocks, textBlocks, tracksFrom, segmentsFrom, textFrom, catalogueBlocks, FullButLast}
 use Rattle.card_write.proofs.Runs.{Way, Takes, first}
 use Rattle.card_write.proofs.Loading.{Sized, groups-way, tracks-way, segments-way, text-way, groups-take, tracks-take, segments-take, text-take}
+
+-- the kind of the first block, 0 where there is none
+abbrev nextKind : List (List ℕ) → ℕ
+nextKind [] = 0
+nextKind (b ∷ bs) = kindOf b
+
+-- a block that is full if one of its kind stands behind it
+full-by : (b : List ℕ) (bs : List (List ℕ)) → (nextKind bs ≡ kindOf b → countOf b ≡ mostRecords (kindOf b)) → fullRule (lastOfKind b bs) b ≡ true
+unfolding fullRule lastOfKind
+full-by b [] h = refl
+full-by b (c ∷ bs) h = at (eqb (kindOf c) (kindOf b)) refl
+  where
+    at : (t : Bool) → eqb (kindOf c) (kindOf b) ≡ t → (not t || eqb (countOf b) (mostRecords (kindOf b))) ≡ true
+    at true e = eq-eqb _ _ (h (eqb-true _ _ e))
+    at false e = refl
 
 kind-of : (number kind count : ℕ) (records : List ℕ) → kindOf (blockOf number kind count records) ≡ kind
 unfolding blockOf frontOf
@@ -45,7 +63,7 @@ module _ {enc dec : List ℕ → List ℕ} {kind unit per : ℕ} (W : Way enc de
       let q = length part / unit in
       let K = kind-of number kind q (enc part) in
       let C = block-count number kind q (enc part) (F .fits) (W .size part q (F .whole)) in (
-        λ e. C ∙ full-if n c (suc number) (drop per table) q rest r t (F .all) (e ∙ K) ∙ ap mostRecords (sym K),
+        full-by (blockOf number kind q (enc part)) _ (λ e. C ∙ full-if n c (suc number) (drop per table) q rest r t (F .all) (e ∙ K) ∙ ap mostRecords (sym K)),
         full-run n (c - mostRecords kind) (suc number) (drop per table) (F .left) (F .on) rest r f,
       )
 

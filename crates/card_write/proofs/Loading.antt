@@ -16,7 +16,7 @@ use Rattle.card_load.specs.Load.{roomRule, loadSaid}
 use Rattle.card_load.proofs.Answers.{says-done}
 use Rattle.ground.proofs.Words.{octets-length, words-octets}
 use Rattle.catalogue_tables.specs.Tables.{Tables}
-use Rattle.card_write.specs.Card.{wordsTake, octetsTake, wordBlocks, textBlocks, tracksFrom, segmentsFrom, textFrom, blocksTaken, catalogueBlocks, cardOf}
+use Rattle.card_write.specs.Card.{wordsTake, octetsTake, wordBlocks, textBlocks, tracksFrom, segmentsFrom, textFrom, blocksTaken, catalogueBlocks, cardOf, FullButLast}
 use Rattle.card_write.proofs.Runs.{Way, Takes, Reads, Long, reads}
 use Rattle.card_write.proofs.Runs.Long.{none}
 use Rattle.card_write.proofs.Joining.{joined-length, blocks-back, kind-length}
@@ -46,17 +46,25 @@ unfolding recordSize mostRecords
 text-way =
     record { back = λ s. refl; size = λ s c h. h; per-is = refl; unit-some = omega arith; most-some = omega arith; kind-is = omega arith }
 
+-- blocks that are full but for the last of each kind are so behind any of them
+full-behind : (bs rest : List (List ℕ)) → FullButLast (bs ++ rest) → FullButLast rest
+full-behind [] rest f = f
+full-behind (b ∷ bs) rest f = full-behind bs rest (f .1)
+
 -- four runs of blocks, one behind the other
 module _ (n1 n2 n3 n4 g t s x : ℕ) (groups tracks segments text : List ℕ) (B1 B2 B3 B4 : List (List ℕ))
     (G : Reads words 1 g n1 0 groups B1) (T : Reads words 2 t n2 n1 tracks B2)
     (S : Reads words 3 s n3 (n1 + n2) segments B3) (X : Reads octets 4 x n4 (n1 + n2 + n3) text B4) where
-  runs-right : blocksRule 0 1 (B1 ++ (B2 ++ (B3 ++ B4))) ≡ true
+  runs-right : FullButLast (B1 ++ (B2 ++ (B3 ++ B4))) → blocksRule 0 1 (B1 ++ (B2 ++ (B3 ++ B4))) ≡ true
   unfolding blocksRows
-  runs-right =
-      G .right 1 (omega arith) (B2 ++ (B3 ++ B4))
-      (λ low1 h1. rw (zero-add n1) (T .right low1 (omega arith) (B3 ++ B4)
-      (λ low2 h2. S .right low2 (omega arith) B4
-      (λ low3 h3. rw (append-nil B4) at (X .right low3 (omega arith) [] (λ low4 h4. refl))))))
+  runs-right full1 =
+      let full2 = full-behind B1 (B2 ++ (B3 ++ B4)) full1 in
+      let full3 = full-behind B2 (B3 ++ B4) full2 in
+      let full4 : FullButLast (B4 ++ []) = rw (append-nil B4) (full-behind B3 B4 full3) in
+      G .right 1 (omega arith) (B2 ++ (B3 ++ B4)) full1
+      (λ low1 h1. rw (zero-add n1) (T .right low1 (omega arith) (B3 ++ B4) full2
+      (λ low2 h2. S .right low2 (omega arith) B4 full3
+      (λ low3 h3. rw (append-nil B4) at (X .right low3 (omega arith) [] full4 (λ low4 h4. refl))))))
 
   runs-long : Long (B1 ++ (B2 ++ (B3 ++ B4)))
   runs-long = G .long _ (T .long _ (S .long _ (rw (append-nil B4) at (X .long [] none))))
@@ -220,15 +228,15 @@ module _ (k : Tables) (g t s x : ℕ) (H : Sized k g t s x) where
       (and-both (le-leb _ _ (H .text-short)) (le-leb _ _ kd)))
 
   -- THE round trip
-  pub card-loads : Loads (cardOf k) k g t s x
+  pub card-loads : FullButLast (catalogueBlocks k) → Loads (cardOf k) k g t s x
   unfolding catalogueBlocks
-  card-loads =
+  card-loads full =
       let e = blocks-read in
       let card = cardOf k in
       record {
         said = λ a b c d ha hb hc hd.
             says-done card a b c d length-right
-            (rw e (runs-right _ _ _ _ g t s x (k .groups) (k .tracks) (k .segments) (k .text) _ _ _ _ G T S X))
+            (rw e (runs-right _ _ _ _ g t s x (k .groups) (k .tracks) (k .segments) (k .text) _ _ _ _ G T S X full))
             (rw e (room-right a b c d ha hb hc hd))
             (sym (ap (recordCount 1) e ∙ counts .0)) (sym (ap (recordCount 2) e ∙ counts .1))
             (sym (ap (recordCount 3) e ∙ counts .2)) (sym (ap (recordCount 4) e ∙ counts .3));

@@ -1,6 +1,6 @@
--- The way back: the blocks of one kind at the front of a right and well filled card are the blocks of what they hold. Assumes nothing.
+-- The way back: the blocks of one kind at the front of a right card are the blocks of what they hold. Assumes nothing.
 use mathlib.Core.Path.{_≡_, refl, sym, ap, _∙_}
-use mathlib.Core.Bool.{true}
+use mathlib.Core.Bool.{Bool, true, false, not}
 use mathlib.Core.List.{List, [], _∷_, _++_, append-nil}
 use mathlib.Core.Logic.{⊎-elim}
 use Prim.Native.Nat.{ℕ, zero, suc, _+_, _*_, _-_, _/_, _≤_, _<_}
@@ -14,45 +14,46 @@ use lib.Seq.{take-all, take-at, drop-at, length-take-le}
 use Rattle.ground.proofs.Cases.{true-or, le-or, and-left, and-right, and-both}
 use Rattle.ground.proofs.Octets.{Octs, octs-take, octs-drop}
 use Rattle.ground.proofs.Octets.Octs.{no-octets, octet}
-use Rattle.card_block.specs.Block.{kindOf, countOf, recordSize, mostRecords, recordsEnd, recordsOf, kindRule, countRule, blockRule}
+use Rattle.card_block.specs.Block.{kindOf, countOf, recordSize, mostRecords, recordsEnd, recordsOf, kindRule, countRule, fullRule, blockRule}
 use Rattle.card_block.proofs.Records.{keeps-of, of-keeps, block-count, records-room}
-use Rattle.card_load.specs.Card.{blocks, blocksRows, blocksRule, gather}
+use Rattle.card_load.specs.Card.{blocks, lastOfKind, blocksRows, blocksRule, gather}
 use Rattle.card_load.proofs.Lengths.{blocks-first, blocks-onto}
 use Rattle.card_fill.specs.Filled.{blockOf}
 use Rattle.card_fill.proofs.Only.{block-is}
-use Rattle.card_write.specs.Card.{kindBlocks, nextKind, FullButLast}
+use Rattle.card_write.specs.Card.{kindBlocks}
 use Rattle.card_write.proofs.Runs.{Way}
 
-pub right-is : {b : List ℕ} → Octs b → length b ≡ 512 → (number least : ℕ) → blockRule number least b ≡ true
+pub right-is : {b : List ℕ} → Octs b → length b ≡ 512 → (number least : ℕ) (last : Bool) → blockRule number least last b ≡ true
     → b ≡ blockOf number (kindOf b) (countOf b) (recordsOf b)
-right-is no-octets l number least h = absurd (let z : ⊥ = omega arith in z)
-right-is (octet a no-octets) l number least h = absurd (let z : ⊥ = omega arith in z)
-right-is (octet a (octet b no-octets)) l number least h = absurd (let z : ⊥ = omega arith in z)
-right-is (octet a (octet b (octet c no-octets))) l number least h = absurd (let z : ⊥ = omega arith in z)
-right-is (octet a (octet b (octet c (octet d no-octets)))) l number least h = absurd (let z : ⊥ = omega arith in z)
-right-is (octet {x = a0} h0 (octet {x = a1} h1 (octet {x = a2} h2 (octet {x = a3} h3 (octet {x = a4} {s = r} h4 o))))) l number least h =
-    block-is number least a0 a1 a2 a3 a4 r (omega arith) h0 h3 h
+right-is no-octets l number least last h = absurd (let z : ⊥ = omega arith in z)
+right-is (octet a no-octets) l number least last h = absurd (let z : ⊥ = omega arith in z)
+right-is (octet a (octet b no-octets)) l number least last h = absurd (let z : ⊥ = omega arith in z)
+right-is (octet a (octet b (octet c no-octets))) l number least last h = absurd (let z : ⊥ = omega arith in z)
+right-is (octet a (octet b (octet c (octet d no-octets)))) l number least last h = absurd (let z : ⊥ = omega arith in z)
+right-is (octet {x = a0} h0 (octet {x = a1} h1 (octet {x = a2} h2 (octet {x = a3} h3 (octet {x = a4} {s = r} h4 o))))) l number least last h =
+    block-is number least last a0 a1 a2 a3 a4 r (omega arith) h0 h3 h
 
 -- the rule of a block's kind, out and in again at another kind before it
-pub kind-low : (number least : ℕ) (b : List ℕ) → blockRule number least b ≡ true → (least ≤ kindOf b) × (kindOf b ≤ 4) × (1 ≤ countOf b)
+pub kind-low : (number least : ℕ) (last : Bool) (b : List ℕ) → blockRule number least last b ≡ true → (least ≤ kindOf b) × (kindOf b ≤ 4) × (1 ≤ countOf b)
 unfolding kindRule countRule
-kind-low number least b h =
-    let r = keeps-of number least b h in (
+kind-low number least last b h =
+    let r = keeps-of number least last b h in (
       leb-true _ _ (and-left (leb least (kindOf b)) (leb (kindOf b) 4) (r .kind)),
       leb-true _ _ (and-right (leb least (kindOf b)) (leb (kindOf b) 4) (r .kind)),
       leb-true _ _ (and-left (leb 1 (countOf b)) _ (r .count)),
     )
 
-raise : (number least low : ℕ) (b : List ℕ) → blockRule number least b ≡ true → low ≤ kindOf b → blockRule number low b ≡ true
+raise : (number least low : ℕ) (last : Bool) (b : List ℕ) → blockRule number least last b ≡ true → low ≤ kindOf b → blockRule number low last b ≡ true
 unfolding kindRule
-raise number least low b h m =
-    let r = keeps-of number least b h in
-    of-keeps number low b
+raise number least low last b h m =
+    let r = keeps-of number least last b h in
+    of-keeps number low last b
     record {
       check = r .check;
       place = r .place;
       kind = and-both (le-leb _ _ m) (and-right (leb least (kindOf b)) (leb (kindOf b) 4) (r .kind));
       count = r .count;
+      full = r .full;
       padding = r .padding;
     }
 
@@ -62,22 +63,22 @@ unfolding gather
 none-above f kind number least [] k h = refl
 none-above f kind number least (b ∷ bs) k h =
     let h2 = blocks-first number least b bs h in
-    let low = kind-low number least b (h2 .0) in
+    let low = kind-low number least (lastOfKind b bs) b (h2 .0) in
     rw (ne-eqb (kindOf b) kind (λ e. omega arith)) (none-above f kind (number + 1) (kindOf b) bs (omega (arith, low .0)) (h2 .1))
 
--- blocks of 512 octets; one that is not the last of its kind is full
+-- blocks of 512 octets
 pub data Fine : List (List ℕ) → Type 0 where
   no-blocks : Fine []
-  fine : {b : List ℕ} {bs : List (List ℕ)} → length b ≡ 512 → Octs b → (nextKind bs ≡ kindOf b → countOf b ≡ mostRecords (kindOf b)) → Fine bs → Fine (b ∷ bs)
+  fine : {b : List ℕ} {bs : List (List ℕ)} → length b ≡ 512 → Octs b → Fine bs → Fine (b ∷ bs)
 
 -- the blocks of a card
-pub fine-of : (n : ℕ) (card : List ℕ) → n * 512 ≤ length card → Octs card → FullButLast (blocks n card) → Fine (blocks n card)
+pub fine-of : (n : ℕ) (card : List ℕ) → n * 512 ≤ length card → Octs card → Fine (blocks n card)
 unfolding blocks
-fine-of zero card l o f = no-blocks
-fine-of (suc n) card l o f =
+fine-of zero card l o = no-blocks
+fine-of (suc n) card l o =
     let m : 512 ≤ length card = omega arith in
     let d : n * 512 ≤ length (drop 512 card) = rw length-drop (omega arith) in
-    fine (length-take-le 512 card m) (octs-take 512 o) (f .0) (fine-of n (drop 512 card) d (octs-drop 512 o) (f .1))
+    fine (length-take-le 512 card m) (octs-take 512 o) (fine-of n (drop 512 card) d (octs-drop 512 o))
 
 pub record WayBack (enc dec : List ℕ → List ℕ) (kind unit : ℕ) : Type 0 where
   pub forth : (s : List ℕ) (c : ℕ) → Octs s → length s ≡ c * recordSize kind → enc (dec s) ≡ s
@@ -90,7 +91,7 @@ pub record Peeled (enc dec : List ℕ → List ℕ) (kind unit per number : ℕ)
   pub run-is : run ≡ kindBlocks enc kind unit per (length run) number (gather dec kind bs)
   pub enough : length (gather dec kind bs) ≤ length run * per
   pub needed : length run * per < length (gather dec kind bs) + per
-  pub head : 1 ≤ length run → nextKind bs ≡ kind
+  pub head : 1 ≤ length run → (b : List ℕ) → kindOf b ≡ kind → lastOfKind b bs ≡ false
   pub left : blocksRule (number + length run) (suc kind) rest ≡ true
   pub left-fine : Fine rest
   pub other : (f : List ℕ → List ℕ) (k : ℕ) → (kind ≡ k → ⊥) → gather f k bs ≡ gather f k rest
@@ -116,13 +117,12 @@ module _ {enc dec : List ℕ → List ℕ} {kind unit per : ℕ} (W : Way enc de
       (take-at D R per l, drop-at D R per l)
 
   -- one block more in front of a peeled run
-  module _ (number : ℕ) (b : List ℕ) (bs : List (List ℕ)) (l : length b ≡ 512) (o : Octs b)
-      (full : nextKind bs ≡ kindOf b → countOf b ≡ mostRecords (kindOf b)) (e : kindOf b ≡ kind)
-      (r : blockRule number kind b ≡ true) (P : Peeled enc dec kind unit per (suc number) bs) where
+  module _ (number : ℕ) (b : List ℕ) (bs : List (List ℕ)) (l : length b ≡ 512) (o : Octs b) (e : kindOf b ≡ kind)
+      (r : blockRule number kind (lastOfKind b bs) b ≡ true) (P : Peeled enc dec kind unit per (suc number) bs) where
     held : length (recordsOf b) ≡ countOf b * recordSize kind
     held =
         let m = countOf b * recordSize (kindOf b) in
-        let k : m ≤ 505 = records-room (kindOf b) (countOf b) (block-count number kind b r) in
+        let k : m ≤ 505 = records-room (kindOf b) (countOf b) (block-count number kind (lastOfKind b bs) b r) in
         let n : length (recordsOf b) ≡ m = simp (length-take, length-drop) (omega arith) in
         n ∙ ap (λ (x : ℕ). countOf b * recordSize x) e
 
@@ -137,10 +137,13 @@ module _ {enc dec : List ℕ → List ℕ} {kind unit per : ℕ} (W : Way enc de
     sized = Z .counted (recordsOf b) (countOf b) octs held
 
     most : countOf b ≤ mostRecords kind
-    most = rw e at (block-count number kind b r)
+    most = rw e at (block-count number kind (lastOfKind b bs) b r)
 
     is-full : 1 ≤ length (P .run) → countOf b ≡ mostRecords kind
-    is-full h = full (P .head h ∙ sym e) ∙ ap mostRecords e
+    unfolding fullRule
+    is-full h =
+        let full = keeps-of number kind (lastOfKind b bs) b r .full in
+        eqb-true _ _ (rw (P .head h b e) at full) ∙ ap mostRecords e
 
     cuts : (take per (dec (recordsOf b) ++ gather dec kind bs) ≡ dec (recordsOf b)) × (drop per (dec (recordsOf b) ++ gather dec kind bs) ≡ gather dec kind bs)
     cuts = cut (dec (recordsOf b)) (gather dec kind bs) (length (P .run)) (countOf b) sized most (P .enough) is-full
@@ -149,15 +152,15 @@ module _ {enc dec : List ℕ → List ℕ} {kind unit per : ℕ} (W : Way enc de
     is-block =
         let q : countOf b ≡ length (dec (recordsOf b)) / unit = sym (ap (λ (x : ℕ). x / unit) sized ∙ mul-div-cancel (countOf b) (W .unit-some)) in
         let s : recordsOf b ≡ enc (dec (recordsOf b)) = sym (Z .forth (recordsOf b) (countOf b) octs held) in
-        right-is o l number kind r ∙ (λ i. blockOf number (e i) (q i) (s i))
+        right-is o l number kind (lastOfKind b bs) r ∙ (λ i. blockOf number (e i) (q i) (s i))
 
     more-peeled : Peeled enc dec kind unit per number (b ∷ bs)
-    unfolding kindBlocks gather
+    unfolding kindBlocks gather lastOfKind
     more-peeled =
         let n = length (P .run) in
         let t : take per (gather dec kind (b ∷ bs)) ≡ dec (recordsOf b) = ap (take per) all ∙ cuts .0 in
         let d : drop per (gather dec kind (b ∷ bs)) ≡ gather dec kind bs = ap (drop per) all ∙ cuts .1 in
-        let low = kind-low number kind b r in
+        let low = kind-low number kind (lastOfKind b bs) b r in
         let G = length-append (dec (recordsOf b)) (gather dec kind bs) in
         let A = ap length all in
         let S = suc-mul n per in
@@ -181,7 +184,7 @@ module _ {enc dec : List ℕ → List ℕ} {kind unit per : ℕ} (W : Way enc de
               let y : n * per ≡ 0 = ap (λ (k : ℕ). k * per) z ∙ zero-mul per in
               omega (arith, sized))
               (le-or 1 n);
-          head = λ h. e;
+          head = λ h c k. ap not (eq-eqb _ _ (e ∙ sym k));
           left = let j : number + suc n ≡ suc number + n = omega arith in rw j (P .left);
           left-fine = P .left-fine;
           other = λ f k h. rw (ne-eqb (kindOf b) k (λ x. h (sym e ∙ x))) (P .other f k h);
@@ -197,22 +200,22 @@ module _ {enc dec : List ℕ → List ℕ} {kind unit per : ℕ} (W : Way enc de
         run-is = refl;
         enough = omega arith;
         needed = omega (arith, zero-mul per, per-some);
-        head = λ k. absurd (let z : ⊥ = omega arith in z);
+        head = λ k b e. absurd (let z : ⊥ = omega arith in z);
         left = refl;
         left-fine = no-blocks;
         other = λ f k e. refl;
       }
-  peel number (fine {b} {bs} l o full F) h =
+  peel number (fine {b} {bs} l o F) h =
       let r = blocks-first number kind b bs h .0 in
       let s = blocks-first number kind b bs h .1 in
-      let low = kind-low number kind b r in
+      let low = kind-low number kind (lastOfKind b bs) b r in
       ⊎-elim
       (λ t.
       let e : kindOf b ≡ kind = eqb-true _ _ t in
-      more-peeled number b bs l o full e r (peel (suc number) F (rw (add-one number, e) at s)))
+      more-peeled number b bs l o e r (peel (suc number) F (rw (add-one number, e) at s)))
       (λ t.
       let k : kind < kindOf b = above (kindOf b) (low .0) (eqb-false _ _ t) in
-      let none : gather dec kind (b ∷ bs) ≡ [] = none-above dec kind number (suc kind) (b ∷ bs) (omega arith) (blocks-onto number (suc kind) b bs (raise number kind (suc kind) b r k) s) in
+      let none : gather dec kind (b ∷ bs) ≡ [] = none-above dec kind number (suc kind) (b ∷ bs) (omega arith) (blocks-onto number (suc kind) b bs (raise number kind (suc kind) (lastOfKind b bs) b r k) s) in
       let len : length (gather dec kind (b ∷ bs)) ≡ 0 = ap length none in
       record {
         run = [];
@@ -221,9 +224,9 @@ module _ {enc dec : List ℕ → List ℕ} {kind unit per : ℕ} (W : Way enc de
         run-is = refl;
         enough = omega (arith, zero-mul per);
         needed = omega (arith, zero-mul per, per-some);
-        head = λ j. absurd (let z : ⊥ = omega arith in z);
-        left = rw (add-zero number) (blocks-onto number (suc kind) b bs (raise number kind (suc kind) b r k) s);
-        left-fine = fine l o full F;
+        head = λ j c x. absurd (let z : ⊥ = omega arith in z);
+        left = rw (add-zero number) (blocks-onto number (suc kind) b bs (raise number kind (suc kind) (lastOfKind b bs) b r k) s);
+        left-fine = fine l o F;
         other = λ f j e. refl;
       })
       (true-or (eqb (kindOf b) kind))

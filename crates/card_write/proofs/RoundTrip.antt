@@ -1,6 +1,6 @@
 -- Both halves of W-204's round trip, over any outcome of `card_write::write` and of `card_load::load` that meets its contract as the check reads it
--- (`Reads.Post`): "Loading what was written gives the tables back; writing what was loaded gives the card back for cards filled that way whose tables pass
--- 200." Assumes nothing.
+-- (`Reads.Post`): "Loading what was written gives the tables back; writing what was loaded gives the card back", and that "for every card accepted whose
+-- tables pass 200" (W-206). Assumes nothing.
 use mathlib.Core.Path.{_≡_, refl, sym, ap, _∙_}
 use mathlib.Core.Bool.{true, false, not}
 use mathlib.Core.List.{List, [], _∷_}
@@ -88,7 +88,7 @@ module _ (κs : Lfts 5) (groups tracks segments text card : RefT (List ℕ)) (o 
       × (p .groups ≡ filled (groups .now) (gs .now)) × (p .tracks ≡ filled (tracks .now) (ts .now))
       × (p .segments ≡ filled (segments .now) (ss .now)) × (p .text ≡ filled (text .now) (xs .now))
   load-of-write ls lent gs ts ss xs p q e hg ht hs hx =
-      let L = card-loads k _ _ _ _ (right-sized k right) in
+      let L = card-loads k _ _ _ _ (right-sized k right) (blocks-full k _ _ _ _ (right-sized k right)) in
       let E : lent .now ≡ cardOf k = e ∙ written-front in
       let said =
       q .0
@@ -101,10 +101,10 @@ module _ (κs : Lfts 5) (groups tracks segments text card : RefT (List ℕ)) (o 
         filled-is (xs .now) said (ap (λ (c : List ℕ). gather octets 4 (blocksOf c)) E ∙ L .text-back) (q .1 .1 .1 .1),
       )
 
--- a load that was granted, of a card of octets that is filled that way
+-- a load that was granted, of a card of octets
 module _ (ls : Lfts 5) (lent gs ts ss xs : RefT (List ℕ)) (p : load.Outcome) (m : load.Meets ls lent gs ts ss xs p)
     (c : Counts) (done : p .answer ≡ LoadDone c)
-    (octet : (i : ℕ) → getD (lent .now) i 0 < 256) (full : FullButLast (blocksOf (lent .now))) where
+    (octet : (i : ℕ) → getD (lent .now) i 0 < 256) where
   abbrev bs : List (List ℕ)
   bs = blocksOf (lent .now)
 
@@ -182,7 +182,7 @@ module _ (ls : Lfts 5) (lent gs ts ss xs : RefT (List ℕ)) (p : load.Outcome) (
   write-of-load κs groups tracks segments text card o q eg et es ex right room =
       let k = tables (groups .now) (tracks .now) (segments .now) (text .now) in
       let E : k ≡ heldBy bs = λ j. tables ((eg ∙ groups-held) j) ((et ∙ tracks-held) j) ((es ∙ segments-held) j) ((ex ∙ text-held) j) in
-      let same : cardOf k ≡ lent .now = ap cardOf E ∙ card-again (lent .now) (octs-of (lent .now) octet) whole ruled full in
+      let same : cardOf k ≡ lent .now = ap cardOf E ∙ card-again (lent .now) (octs-of (lent .now) octet) whole ruled in
       let l : blocksTaken k * 512 ≡ length (lent .now) = sym (card-length k _ _ _ _ (right-sized k right)) ∙ ap length same in
       let n : blocksTaken k ≡ length (lent .now) / 512 = omega arith in
       let enough : ltb (length (card .now)) (blocksTaken k * 512) ≡ false = (let h : blocksTaken k * 512 ≤ length (card .now) = omega arith in le-ltb _ _ h) in

@@ -1,6 +1,6 @@
 -- The blocks of one kind, in front of any others: they are right, they give the table back, and other kinds pass them by. Assumes nothing.
 use mathlib.Core.Path.{_≡_, refl, sym, ap, _∙_}
-use mathlib.Core.Bool.{true}
+use mathlib.Core.Bool.{Bool, true}
 use mathlib.Core.List.{List, [], _∷_, _++_, append-assoc}
 use mathlib.Core.Logic.{⊎-elim}
 use Prim.Native.Nat.{ℕ, zero, suc, _+_, _*_, _-_, _/_, _≤_, _<_}
@@ -11,12 +11,12 @@ use borrow.Author.Tests.{eq-eqb, ne-eqb}
 use lib.ListN.{length, take, drop, length-drop, take-append-drop}
 use lib.Seq.{take-all, length-take-le}
 use Rattle.ground.proofs.Cases.{le-or}
-use Rattle.card_block.specs.Block.{kindOf, countOf, recordSize, mostRecords, recordsOf, blockRule}
-use Rattle.card_load.specs.Card.{blocksRule, recordCount, gather}
+use Rattle.card_block.specs.Block.{kindOf, countOf, recordSize, mostRecords, recordsOf, fullRule, blockRule}
+use Rattle.card_load.specs.Card.{lastOfKind, blocksRule, recordCount, gather}
 use Rattle.card_load.proofs.Lengths.{blocks-onto}
 use Rattle.card_fill.specs.Filled.{blockOf}
 use Rattle.card_fill.proofs.Right.{block-length, block-kind, block-count, block-records, block-right}
-use Rattle.card_write.specs.Card.{kindBlocks}
+use Rattle.card_write.specs.Card.{kindBlocks, FullButLast}
 
 -- how the records of a kind are written and read
 pub record Way (enc dec : List ℕ → List ℕ) (kind unit per : ℕ) : Type 0 where
@@ -79,7 +79,7 @@ module _ (unit per most c n : ℕ) (table : List ℕ) (p : per ≡ most * unit) 
 
 -- what reading makes of the blocks bs, in front of any others
 pub record Reads (dec : List ℕ → List ℕ) (kind c n number : ℕ) (table : List ℕ) (bs : List (List ℕ)) : Type 0 where
-  pub right : (least : ℕ) → least ≤ kind → (rest : List (List ℕ))
+  pub right : (least : ℕ) → least ≤ kind → (rest : List (List ℕ)) → FullButLast (bs ++ rest)
       → ((low : ℕ) → low ≤ kind → blocksRule (number + n) low rest ≡ true) → blocksRule number least (bs ++ rest) ≡ true
   pub own : (rest : List (List ℕ)) → gather dec kind (bs ++ rest) ≡ table ++ gather dec kind rest
   pub own-count : (rest : List (List ℕ)) → recordCount kind (bs ++ rest) ≡ c + recordCount kind rest
@@ -91,15 +91,15 @@ pub record Reads (dec : List ℕ → List ℕ) (kind c n number : ℕ) (table : 
 module _ (dec : List ℕ → List ℕ) (kind c n number : ℕ) (table left : List ℕ) (b : List ℕ) (bs : List (List ℕ)) (q : ℕ) (part : List ℕ)
     (R : Reads dec kind c n (suc number) left bs)
     (k : kindOf b ≡ kind) (x : countOf b ≡ q) (y : dec (recordsOf b) ≡ part) (z : length b ≡ 512)
-    (r : (least : ℕ) → least ≤ kind → blockRule number least b ≡ true) (j : part ++ left ≡ table) where
+    (r : (least : ℕ) (last : Bool) → least ≤ kind → fullRule last b ≡ true → blockRule number least last b ≡ true) (j : part ++ left ≡ table) where
   one-more : Reads dec kind (q + c) (suc n) number table (b ∷ bs)
   unfolding gather recordCount
   one-more =
       record {
-        right = λ least lo rest h.
+        right = λ least lo rest full h.
             let e : number + suc n ≡ suc number + n = omega arith in
-            blocks-onto number least b (bs ++ rest) (r least lo)
-            (rw (add-one number, k) (R .right kind (omega arith) rest (λ low lo. rw e at (h low lo))));
+            blocks-onto number least b (bs ++ rest) (r least (lastOfKind b (bs ++ rest)) lo (full .0))
+            (rw (add-one number, k) (R .right kind (omega arith) rest (full .1) (λ low lo. rw e at (h low lo))));
         own = λ rest. rw (eq-eqb _ _ k, y, R .own rest) (sym (append-assoc part left (gather dec kind rest)) ∙ ap (λ (l : List ℕ). l ++ gather dec kind rest) j);
         own-count = λ rest. rw (eq-eqb _ _ k, x, R .own-count rest) (sym (add-assoc q c (recordCount kind rest)));
         other = λ f o rest h. rw (ne-eqb _ _ (λ e. h (sym k ∙ e))) (R .other f o rest h);
@@ -110,7 +110,7 @@ module _ (dec : List ℕ → List ℕ) (kind c n number : ℕ) (table left : Lis
 no-more : (dec : List ℕ → List ℕ) (kind number : ℕ) → Reads dec kind 0 0 number [] []
 no-more dec kind number =
     record {
-      right = λ least lo rest h. let e : number + 0 ≡ number = omega arith in rw e at (h least lo);
+      right = λ least lo rest full h. let e : number + 0 ≡ number = omega arith in rw e at (h least lo);
       own = λ rest. refl;
       own-count = λ rest. omega arith;
       other = λ f k rest h. refl;
@@ -143,6 +143,6 @@ module _ {enc dec : List ℕ → List ℕ} {kind unit per : ℕ} (W : Way enc de
       (block-count number kind q (enc part) (F .fits) fits)
       (ap dec (block-records number kind q (enc part) (F .fits) fits) ∙ W .back part)
       (block-length number kind q (enc part) (F .fits) fits)
-      (λ least lo. block-right number kind q (enc part) (F .fits) fits least lo (W .kind-is) (F .some))
+      (λ least last lo full. block-right number kind q (enc part) (F .fits) fits least last lo (W .kind-is) (F .some) full)
       (take-append-drop per table) in
       rw (F .all) at M

@@ -1,12 +1,13 @@
 -- The card of a catalogue (document 02, W-204): its blocks by kind, "every block but the last of its kind full".
 -- Assumes nothing.
 use mathlib.Core.Path.{_≡_}
+use mathlib.Core.Bool.{true}
 use mathlib.Core.List.{List, [], _∷_, _++_}
 use Prim.Native.Nat.{ℕ, zero, suc, _+_, _/_}
 use lib.ListN.{length, take, drop}
 use Rattle.ground.specs.Words.{octetsOf}
-use Rattle.card_block.specs.Block.{kindOf, countOf, mostRecords}
-use Rattle.card_load.specs.Card.{octets}
+use Rattle.card_block.specs.Block.{fullRule}
+use Rattle.card_load.specs.Card.{lastOfKind, octets}
 use Rattle.card_fill.specs.Filled.{blockOf}
 use Rattle.catalogue_tables.specs.Tables.{Tables}
 
@@ -60,12 +61,7 @@ module _ (k : Tables) where
   unfoldable pub cardOf : List ℕ
   cardOf = joined catalogueBlocks
 
--- the kind of the first block, 0 where there is none; and "every block but the last of its kind full": a block with one of its own kind behind it has as
--- many records as the kind may have
-abbrev pub nextKind : List (List ℕ) → ℕ
-nextKind [] = 0
-nextKind (b ∷ bs) = kindOf b
-
+-- "every block but the last of its kind full", as the reader judges it
 abbrev pub FullButLast : List (List ℕ) → Type 0
 FullButLast [] = Unit
-FullButLast (b ∷ bs) = (nextKind bs ≡ kindOf b → countOf b ≡ mostRecords (kindOf b)) × FullButLast bs
+FullButLast (b ∷ bs) = (fullRule (lastOfKind b bs) b ≡ true) × FullButLast bs

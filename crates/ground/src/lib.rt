@@ -70,6 +70,8 @@ pub const BAD_KIND: u32 = 216;
 
 pub const BAD_COUNT: u32 = 217;
 
+pub const NOT_FULL: u32 = 214;
+
 pub const BAD_PADDING: u32 = 218;
 
 pub const NO_ROOM: u32 = 212;

@@ -30,6 +30,9 @@ fn write_reason(number: u32) {
             b"its record count is 0, or more than a block of its kind holds",
         );
     }
+    if number == ground::NOT_FULL {
+        io::write_all(1, b"it is not full, and the block behind it is of its kind");
+    }
     if number == ground::BAD_PADDING {
         io::write_all(1, b"an octet behind its records is not 0");
     }

@@ -87,7 +87,7 @@ unfolding SmallRows blocksRows
 small-blocks number least [] behind h n = n
 small-blocks number least (b ∷ bs) behind h n =
     let w : number < 4294967296 = omega arith in
-    ((w, tt), ((w, tt), ((w, tt), ((w, tt), ((w, tt), small-blocks (number + 1) (kindOf b) bs behind (omega arith) n)))))
+    ((w, tt), ((w, tt), ((w, tt), ((w, tt), ((w, tt), ((w, tt), small-blocks (number + 1) (kindOf b) bs behind (omega arith) n))))))
 
 -- a card has few blocks, and its counts keep within the limits
 pub load-words : (card : List ℕ) (groups tracks segments text : ℕ) → AllWords (loadSaid card groups tracks segments text .values)

@@ -3,7 +3,7 @@ use mathlib.Core.Path.{_≡_, refl, sym, ap, _∙_}
 use mathlib.Core.Bool.{false, not}
 use borrow.Author.Tests.{not-false}
 use Rattle.ground.proofs.Cases.{past, here}
-use Rattle.card_block.specs.Block.{checkRule, numberRule, kindRule, countRule}
+use Rattle.card_block.specs.Block.{checkRule, numberRule, kindRule, countRule, fullRule}
 use Rattle.card_block.proofs.Records.{count-room}
 use borrow.Author.Needs.{needs}
 use Rattle.card_block.proofs.judge.Statement.{statement}
@@ -21,6 +21,9 @@ kind-holds c = ap not (sym (c .before .kind-right .ensures)) ∙ c .if3 .left
 
 count-holds : (c : tie.Else4) → not (countRule (c .before .before .before .before .before .before .before .before .before .args .b .now)) ≡ false
 count-holds c = ap not (sym (c .before .count-right .ensures)) ∙ c .if4 .left
+
+full-holds : (c : tie.Else5) → let a = c .before .before .before .before .before .before .before .before .before .before .before .args in not (fullRule (a .last) (a .b .now)) ≡ false
+full-holds c = ap not (sym (c .before .full-right .ensures)) ∙ c .if5 .left
 
 check-right-requires : tie.Need-check-right-requires
 check-right-requires c κs = search needs
@@ -76,8 +79,8 @@ returns-4 c =
     (past _ (kind-holds e3)
     (here _ (ap not (sym (f .before .count-right .ensures)) ∙ f .if4 .taken) (c .refused4 .ensures))))
 
-padding-right-requires : tie.Need-padding-right-requires
-padding-right-requires c κs = (search needs, count-room _ (not-false _ (count-holds c)))
+full-right-requires : tie.Need-full-right-requires
+full-right-requires c κs = search needs
 
 refused-requires-5 : tie.Need-refused-requires-5
 refused-requires-5 c κs = search needs
@@ -92,18 +95,40 @@ returns-5 c =
     (past _ (number-holds e2)
     (past _ (kind-holds e3)
     (past _ (count-holds e4)
-    (here _ (ap not (sym (f .before .padding-right .ensures)) ∙ f .if5 .taken) (c .refused5 .ensures)))))
+    (here _ (ap not (sym (f .before .full-right .ensures)) ∙ f .if5 .taken) (c .refused5 .ensures)))))
+
+padding-right-requires : tie.Need-padding-right-requires
+padding-right-requires c κs = (search needs, count-room _ (not-false _ (count-holds (c .before .before))))
+
+refused-requires-6 : tie.Need-refused-requires-6
+refused-requires-6 c κs = search needs
 
 returns-6 : tie.Need-returns-6
 returns-6 c =
-    let e4 = c .before .before in
+    let f = c .before in
+    let e5 = f .before .before in
+    let e4 = e5 .before .before in
     let e3 = e4 .before .before in
     let e2 = e3 .before .before in
     past _ (check-holds (e2 .before .before))
     (past _ (number-holds e2)
     (past _ (kind-holds e3)
     (past _ (count-holds e4)
-    (past _ (ap not (sym (c .before .padding-right .ensures)) ∙ c .if5 .left) refl))))
+    (past _ (full-holds e5)
+    (here _ (ap not (sym (f .before .padding-right .ensures)) ∙ f .if6 .taken) (c .refused6 .ensures))))))
+
+returns-7 : tie.Need-returns-7
+returns-7 c =
+    let e5 = c .before .before in
+    let e4 = e5 .before .before in
+    let e3 = e4 .before .before in
+    let e2 = e3 .before .before in
+    past _ (check-holds (e2 .before .before))
+    (past _ (number-holds e2)
+    (past _ (kind-holds e3)
+    (past _ (count-holds e4)
+    (past _ (full-holds e5)
+    (past _ (ap not (sym (c .before .padding-right .ensures)) ∙ c .if6 .left) refl)))))
 
 pub judge-spec : {M : Type 1} → statement M
 judge-spec =
@@ -121,7 +146,10 @@ judge-spec =
     count-right-requires
     refused-requires-4
     returns-4
-    padding-right-requires
+    full-right-requires
     refused-requires-5
     returns-5
-    returns-6)
+    padding-right-requires
+    refused-requires-6
+    returns-6
+    returns-7)
