@@ -12,7 +12,6 @@
 
 #include "rival.h"
 #include "rows.h"
-#include "sheets.h"
 
 #define MOST_REPETITIONS 99u
 #define BATCH_NS 4e6
@@ -43,31 +42,13 @@ static const struct {
 /* Nanoseconds that so many calls take. Before each, the state is put back: about the same octets for every program. */
 static double batch(const row *r, uint32_t times, uint32_t which)
 {
-    static struct {
-        uint8_t out[MCS_OUTPUT_OCTETS];
-        uint32_t word, served[3], counts[4], block, line, starts[MOST_STARTS];
-        tables loaded;
-        uint8_t card[MCS_CARD_OCTETS];
-    } answers;
+    static answers handed_back;
     const void *before = PROGRAMS[which].on_octets ? (const void *)r->before.octets : (const void *)&r->before.state;
     size_t octets = PROGRAMS[which].on_octets ? sizeof r->before.octets : sizeof r->before.state;
     desk state;
-    call c = r->made;
+    call c = lend(r->made, &state, &handed_back);
     uint32_t sum = 0;
     double began;
-    c.state = &state;
-    c.out = answers.out;
-    c.out_len = sizeof answers.out;
-    c.room = whole_room(&answers.loaded);
-    c.starts = answers.starts;
-    c.starts_len = MOST_STARTS;
-    c.card = answers.card;
-    c.card_len = sizeof answers.card;
-    c.word = &answers.word;
-    c.served = answers.served;
-    c.counts = answers.counts;
-    c.block = &answers.block;
-    c.line = &answers.line;
     began = now();
     for (uint32_t k = 0; k < times; k++) {
         memcpy(&state, before, octets);

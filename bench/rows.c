@@ -6,22 +6,12 @@
 
 #include "rival.h"
 #include "service.h"
-#include "sheets.h"
 #include "state.h"
 
 #define ACCEPTED 0u
 
 /* A group with tracks in every catalogue here. */
 #define GROUP 1u
-
-/* What a call hands back beside its number and the state. */
-typedef struct {
-    uint8_t out[MCS_OUTPUT_OCTETS];
-    uint32_t word, served[3], counts[4], block, line;
-    tables loaded;
-    uint32_t starts[MOST_STARTS];
-    uint8_t card[MCS_CARD_OCTETS];
-} answers;
 
 /* More card loads than the report has. */
 #define MOST_CARDS 16u
@@ -30,8 +20,7 @@ static answers from_library, from_rival;
 
 /* ---- The call by each program */
 
-/* The answers are lent to the call, filled alike, so that what a call leaves alone is compared as well. */
-static call lend(call made, void *state, answers *a)
+call lend(call made, void *state, answers *a)
 {
     memset(a, 0x5A, sizeof *a);
     made.state = state;
@@ -47,6 +36,8 @@ static call lend(call made, void *state, answers *a)
     made.counts = a->counts;
     made.block = &a->block;
     made.line = &a->line;
+    made.track = &a->track;
+    made.octet = &a->octet;
     return made;
 }
 

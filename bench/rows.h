@@ -6,12 +6,26 @@
 #include "card.h"
 #include "catalogues.h"
 #include "ref.h"
+#include "sheets.h"
 
 /* A state, as each program holds it. */
 typedef struct {
     uint8_t octets[MCS_STATE_OCTETS];
     ref_state state;
 } desk;
+
+/* What a call hands back beside its number and the state. */
+typedef struct {
+    uint8_t out[MCS_OUTPUT_OCTETS];
+    uint32_t word, served[3], counts[4], block, line, track, octet;
+    tables loaded;
+    uint32_t starts[MOST_STARTS];
+    uint8_t card[MCS_CARD_OCTETS];
+} answers;
+
+/* The call with a state and answers that are lent to it. They are filled, always alike, so that what a call leaves alone can be
+ * compared as well. */
+call lend(call made, void *state, answers *a);
 
 typedef struct {
     const char *name;
@@ -42,7 +56,7 @@ void add_cue_sheets(table *t);
 
 void add_card_load(table *t, const catalogue *c);
 
-/* Whether all programs give the same to a row: number, state, output, counts, block, line, starts and loaded tables. */
+/* Whether all programs give the same to a row: number, state and answers. */
 int row_agrees(const row *r);
 
 #endif

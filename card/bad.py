@@ -1,6 +1,7 @@
 #!/usr/bin/env python3
 """Writes to standard output a card that is refused with the number that is named: 211, 215, 216, 217, 214 or 218, each for another
-of its blocks; or 200, for the catalogue that it holds; or 0, which is accepted.
+of its blocks; or 200, for the catalogue that it holds; or 200-title, with 200 for titles that are not UTF-8, those of tracks 1 and 3;
+or 0, which is accepted.
 
 The card is the sample's with more text, in six blocks: groups, tracks, segments, and three of text. But for 211 every check octet
 is right.
@@ -36,6 +37,8 @@ CARDS = {
     '214': with_block(4, make.block(4, make.TEXT_KIND, 504, b' ' * 504)),
     '218': with_octet(2, 509, 1),
     '200': make.card_of(tracks=make.SAMPLE_TRACKS, segments=make.SAMPLE_SEGMENTS, text=TEXT),
+    '200-title': make.card_of(make.SAMPLE_GROUPS, make.SAMPLE_TRACKS, make.SAMPLE_SEGMENTS,
+                              TEXT.replace(b'Intermezzo', b'Inter\xC3ezzo').replace(b'Coda', b'Cod\xFF')),
 }
 
 sys.stdout.buffer.write(CARDS[sys.argv[1]])

@@ -5,7 +5,8 @@
  *
  * Check loads the card file FILE, says what it holds, and whether its catalogue is right. Copy loads and checks the card file FROM,
  * and writes the catalogue's card to the file TO. That is always the card as it was (document 02, W-206); copy compares the two all
- * the same. Of a card that is refused for a block, both say which block it is, and what is wrong with it.
+ * the same. Of a card that is refused for a block, both say which block it is, and what is wrong with it; of one that is refused for a
+ * title, which title, and which octet of it (document 02, W-207).
  * Exit status 0, or 1 where the card or its catalogue is refused or its copy would differ, or 2 where a file cannot be read or
  * written or the program is called otherwise.
  */
@@ -53,9 +54,9 @@ static int load(const char *path)
     return 0;
 }
 
-static int refuse_catalogue(uint32_t number)
+static int refuse_catalogue(uint32_t number, struct mcs_place place)
 {
-    print_refusal(stdout, "Its catalogue", number, from, 0);
+    print_refused_catalogue(stdout, "Its catalogue", number, &catalogue, place);
     return 1;
 }
 
@@ -63,14 +64,15 @@ static int check(const char *path)
 {
     int status = load(path);
     uint32_t number, blocks;
+    struct mcs_place place;
 
     if (status != 0) {
         return status;
     }
     /* A card write looks at the catalogue first, and without room it writes nothing. */
-    number = mcs_catalogue_write(&catalogue, NULL, 0, &blocks);
+    number = mcs_catalogue_write(&catalogue, NULL, 0, &blocks, &place);
     if (number == MCS_BAD_CATALOGUE) {
-        return refuse_catalogue(number);
+        return refuse_catalogue(number, place);
     }
     printf("Its catalogue is right.\n");
     return 0;
@@ -80,13 +82,14 @@ static int copy(const char *from_path, const char *to_path)
 {
     int status = load(from_path);
     uint32_t number, blocks = 0;
+    struct mcs_place place;
 
     if (status != 0) {
         return status;
     }
-    number = mcs_catalogue_write(&catalogue, to, sizeof to, &blocks);
+    number = mcs_catalogue_write(&catalogue, to, sizeof to, &blocks, &place);
     if (number != MCS_OK) {
-        return refuse_catalogue(number);
+        return refuse_catalogue(number, place);
     }
     if (MCS_BLOCK_OCTETS * blocks != from_len || memcmp(from, to, from_len) != 0) {
         printf("The copy would differ from the card, and is not written.\n");

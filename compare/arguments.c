@@ -51,11 +51,12 @@ void some_name(dice *d, const run *r, uint32_t wrong, step *s)
 {
     if (one_in(d, wrong)) {
         s->length = ONE_OF(d, 129, 130, 200, 256, 257, MCS_STATE_OCTETS);
-        right_text(d, s->octets, s->length);
+        (one_in(d, 2) ? right_text : wrong_text)(d, s->octets, s->length);
         return;
     }
     s->length = one_in(d, 3) ? ONE_OF(d, 0, 1, 19, 20, 21, 22, 23, 127, 128) : below(d, one_in(d, 3) ? 129 : 30);
     if (one_in(d, wrong) && s->length > 0) {
+        s->length = one_in(d, 4) ? 128 : s->length; /* its last octet is wrong in few of them */
         wrong_text(d, s->octets, s->length);
         return;
     }

@@ -1,4 +1,4 @@
-/* The cases of document 01, the bounds of both documents, bad blocks, and what random calls meet late, on both programs. */
+/* The cases of document 01, the bounds of both documents, bad blocks, bad texts, and what random calls meet late, on both programs. */
 #ifndef CASES_H
 #define CASES_H
 
@@ -10,6 +10,7 @@
 unsigned long play_cases(FILE *out, run *r);
 unsigned long play_limits(FILE *out, run *r);
 unsigned long play_bad_blocks(FILE *out, run *r);
+unsigned long play_bad_texts(FILE *out, run *r);
 unsigned long play_edges(FILE *out, run *r);
 
 #endif

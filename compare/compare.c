@@ -91,6 +91,7 @@ static int compare_cases(void)
     wrong = play_cases(stdout, &pair);
     wrong += play_limits(stdout, &pair);
     wrong += play_bad_blocks(stdout, &pair);
+    wrong += play_bad_texts(stdout, &pair);
     wrong += play_edges(stdout, &pair);
     strcpy(what_runs, "lengths of more than 32 bits");
     wrong += play_wide_lengths(stdout);

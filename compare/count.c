@@ -1,6 +1,7 @@
 #include "count.h"
 #include "judge.h"
 #include "octets.h"
+#include "places.h"
 #include "service.h"
 #include "words.h"
 
@@ -20,6 +21,9 @@ enum { GIVEN_BACK, MORE_OF_A_KIND, NO_CATALOGUE, WRITTEN_AGAIN };
 enum { NO_BLOCKS, EXACT_ROOM, ROOM_BEHIND, ONE_OCTET_SHORT, WRITE_BOUNDS };
 enum { REACHES_END, STAYS_AT_END, SEEKS_AT_END, NEGATIVE_WRITE, RUNNING_CASES };
 enum { NO_STARTS, NO_ROOM_LEFT, LONGEST, ONE_TOO_LONG, BOUNDS };
+enum { AT_FIRST, AMONG, AT_127, CUT_OFF, OF_LAST_TRACK, OF_TWO, OF_TWO_ALIKE, OF_TWO_OVERLAPPING, TITLE_CASES };
+enum { NO_BAD_TITLE, WRONG_TRACK_BEFORE, WRONG_TRACK_BEHIND, WRONG_ELSEWHERE, BARE_CASES };
+enum { NAME_AT_FIRST, NAME_AMONG, NAME_AT_127, NAME_CUT_OFF, LONG_RIGHT, LONG_WRONG_BEFORE, ONE_OCTET_LONG, NAME_CASES };
 
 static unsigned long calls, by_share[SHARES], by_number[CALLS][NUMBERS], by_twice[CALLS][2], unchanged[CALLS],
     by_dead[DEAD_RULES][CALLS];
@@ -32,6 +36,7 @@ static unsigned long by_reason[REASONS][BLOCK_PLACES], by_pair[REASONS][REASONS]
     by_overfull[REASONS][OVERFULL], by_length[REASONS];
 static unsigned long by_short[TABLES][SHORT_BLOCKS], refused_before[BLOCKS_BEHIND], right_before[BLOCKS_BEHIND],
     by_again[WRITTEN_AGAIN];
+static unsigned long carrying[CALLS], bare[CALLS], by_title[TITLE_CASES], by_bare[BARE_CASES], by_name[2][NAME_CASES];
 
 static uint32_t counted_as(uint32_t number) { return number < NUMBERS ? number : NUMBERS - 1u; }
 
@@ -290,7 +295,7 @@ static uint32_t mended_number(const run *r, const step *s)
 {
     static ref_state mended;
     static uint8_t out[OUT_ROOM];
-    uint32_t word, served[3];
+    uint32_t word, served[3], track, octet;
     call c;
     mended = r->second;
     for (uint32_t k = 0; k < REF_CLIENTS; k++) {
@@ -300,7 +305,7 @@ static uint32_t mended_number(const run *r, const step *s)
     }
     c = (call){.kind = s->kind, .who = s->who, .what = s->what, .number = s->number, .catalogue = lent(&r->lent),
                .octets = s->octets, .length = s->length, .state = &mended, .out = out, .out_len = s->room[0], .word = &word,
-               .served = served};
+               .served = served, .track = &track, .octet = &octet};
     return call_second(&c);
 }
 
@@ -314,6 +319,80 @@ static void count_truths(const run *r, const step *s)
         }
     }
     by_mended[s->kind][counted_as(number)]++;
+}
+
+/* ---- Texts that are not UTF-8 (document 02, W-207): bad titles by where they are wrong and beside what, and bad names */
+
+/* Whether the character that is begun there lacks octets behind the end, whatever else is wrong with it. */
+static int is_cut_off(const uint8_t *octets, uint32_t at, uint32_t length)
+{
+    uint32_t needs = octets[at] >= 0xF0 ? 4 : octets[at] >= 0xE0 ? 3 : octets[at] >= 0xC2 ? 2 : 1;
+    return length - at < needs;
+}
+
+static void count_title(const tables *t, struct mcs_place place)
+{
+    uint32_t at = track_word(t, place.track, TITLE), length = track_word(t, place.track, TITLE_LENGTH);
+    uint32_t next = next_bad_title(t, place.track + 1u);
+    by_title[AT_FIRST] += place.octet == 0;
+    by_title[AMONG] += place.octet > 0 && place.octet + 1u < length;
+    by_title[AT_127] += place.octet == 127;
+    by_title[CUT_OFF] += is_cut_off(t->text + at, place.octet, length) != 0;
+    by_title[OF_LAST_TRACK] += place.track + 1u == track_count(t);
+    if (next < track_count(t)) {
+        uint32_t other = track_word(t, next, TITLE), other_length = track_word(t, next, TITLE_LENGTH);
+        int alike = other == at && other_length == length;
+        by_title[OF_TWO]++;
+        by_title[OF_TWO_ALIKE] += alike != 0;
+        by_title[OF_TWO_OVERLAPPING] += !alike && other < at + length && at < other + other_length;
+    }
+}
+
+/* A 200 that carries nothing: with a bad title beside what is wrong, it is seen to come before that. */
+static void count_bare(const tables *t)
+{
+    uint32_t title = next_bad_title(t, 0), wrong_before = 0, wrong_behind = 0;
+    if (title == track_count(t)) {
+        by_bare[NO_BAD_TITLE]++;
+        return;
+    }
+    for (uint32_t k = 0; k < track_count(t); k++) {
+        wrong_before |= k < title && !duration_and_title_fit(t, k);
+        wrong_behind |= k > title && !duration_and_title_fit(t, k);
+    }
+    by_bare[WRONG_TRACK_BEFORE] += wrong_before;
+    by_bare[WRONG_TRACK_BEHIND] += wrong_behind && !wrong_before;
+    by_bare[WRONG_ELSEWHERE] += !wrong_behind && !wrong_before;
+}
+
+static void count_name(const step *s, uint32_t octet)
+{
+    unsigned long *counts = by_name[s->kind];
+    if (s->length > 128) {
+        uint32_t wrong = wrong_octet(s->octets, s->length);
+        counts[LONG_RIGHT] += wrong == s->length;
+        counts[LONG_WRONG_BEFORE] += wrong < 128;
+        counts[ONE_OCTET_LONG] += s->length == 129;
+        return;
+    }
+    counts[NAME_AT_FIRST] += octet == 0;
+    counts[NAME_AMONG] += octet > 0 && octet + 1u < s->length;
+    counts[NAME_AT_127] += octet == 127;
+    counts[NAME_CUT_OFF] += is_cut_off(s->octets, octet, s->length) != 0;
+}
+
+static void count_place(const run *r, const step *s)
+{
+    struct mcs_place place = place_of(&r->lent, s, r->second_said.number);
+    if (place.track != MCS_NOWHERE) {
+        carrying[s->kind]++;
+        count_title(&r->lent, place);
+    } else if (r->second_said.number == MCS_BAD_CATALOGUE) {
+        bare[s->kind]++;
+        count_bare(&r->lent);
+    } else if (r->second_said.number == MCS_BAD_NAME) {
+        count_name(s, place.octet);
+    }
 }
 
 void count_call(const run *r, const step *s, uint32_t share)
@@ -336,6 +415,7 @@ void count_call(const run *r, const step *s, uint32_t share)
     if (s->kind == CARD_WRITE) {
         count_written(r, s);
     }
+    count_place(r, s);
     if (has_state(s->kind) && s->kind != START && !plain_truths(r->octets)) {
         count_truths(r, s);
     }
@@ -580,6 +660,40 @@ static void tell_cards(void)
     }
 }
 
+static void tell_places(void)
+{
+    static const char *const TITLE_CASE[TITLE_CASES] = {
+        "at the first octet", "further on",      "at octet 127",         "in a character that is cut off",
+        "in the last track",  "with one behind", "with the same behind", "with one behind that overlaps it"};
+    static const char *const BARE_CASE[BARE_CASES] = {"no title bad", "a wrong track before a bad title",
+                                                      "a wrong track behind a bad title", "a bad title and no wrong track"};
+    static const char *const NAME_CASE[NAME_CASES] = {
+        "wrong at the first octet", "further on", "at octet 127", "in a character that is cut off",
+        "long and right", "long and wrong before octet 128", "of 129 octets"};
+    row("200 for a bad title");
+    for (uint32_t kind = 0; kind < CALLS; kind++) {
+        tell(carrying[kind], (unsigned long)has_catalogue(kind), "%s", CALL_NAME[kind]);
+    }
+    row("200 that carries nothing");
+    for (uint32_t kind = 0; kind < CALLS; kind++) {
+        tell(bare[kind], (unsigned long)has_catalogue(kind), "%s", CALL_NAME[kind]);
+    }
+    row("the lowest bad title");
+    for (uint32_t k = 0; k < TITLE_CASES; k++) {
+        tell(by_title[k], 1, "%s", TITLE_CASE[k]);
+    }
+    row("200 that carries nothing, by what else is bad");
+    for (uint32_t k = 0; k < BARE_CASES; k++) {
+        tell(by_bare[k], 1, "%s", BARE_CASE[k]);
+    }
+    for (uint32_t kind = START; kind <= SET_NAME; kind++) {
+        row("%s refused for a name", CALL_NAME[kind]);
+        for (uint32_t k = 0; k < NAME_CASES; k++) {
+            tell(by_name[kind][k], 1, "%s", NAME_CASE[k]);
+        }
+    }
+}
+
 static void tell_sheets(void)
 {
     static const char *const NAME[BOUNDS] = {"accepted without starts", "accepted with no room left",
@@ -628,6 +742,7 @@ static void tell_all(void)
     tell_characteristics("reads above 0 by characteristic", read_on, MCS_MAY_READ);
     tell_characteristics("writes by characteristic", written, MCS_MAY_WRITE);
     tell_truths();
+    tell_places();
     tell_cards();
     tell_sheets();
 }

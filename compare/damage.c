@@ -258,6 +258,48 @@ void damage_catalogue(dice *d, const run *r, step *s)
     append(d, r, s);
 }
 
+/* ---- Titles */
+
+/* A track with a title, the last of all among the likely ones; any where no track has one. */
+static uint32_t some_titled_track(dice *d, const tables *t)
+{
+    uint32_t tracks = track_count(t), from = one_in(d, 4) ? tracks - 1u : below(d, tracks), back = 0;
+    while (back < from && track_word(t, from - back, TITLE_LENGTH) == 0) {
+        back++;
+    }
+    return from - back;
+}
+
+void damage_title(dice *d, const run *r, step *s)
+{
+    const tables *t = &r->lent;
+    uint32_t track, other, at, length;
+    if (track_count(t) == 0) {
+        damage_catalogue(d, r, s);
+        return;
+    }
+    blank_step(d, POKE_TABLE, s);
+    track = some_titled_track(d, t);
+    other = below(d, track_count(t));
+    at = track_word(t, track, TITLE);
+    length = track_word(t, track, TITLE_LENGTH);
+    if (length > 0 && !one_in(d, 3)) {
+        s->who = TEXT;
+        s->number = at + (one_in(d, 3) ? 0 : one_in(d, 2) ? length - 1u : below(d, length));
+        s->what = ONE_OF(d, 0x80, 0xBF, 0xC0, 0xC3, 0xE0, 0xED, 0xF0, 0xF4, 0xF5, 0xFF);
+        return;
+    }
+    /* It may end inside a character, or begin inside one, be another's, overlap that, or have octets that no title had. */
+    s->who = TRACKS;
+    if (one_in(d, 2)) {
+        s->number = MCS_TRACK_WORDS * track + TITLE_LENGTH;
+        s->what = ONE_OF(d, length - 1u, length + 1u, between(d, 1, 128), 128, track_word(t, other, TITLE_LENGTH));
+    } else {
+        s->number = MCS_TRACK_WORDS * track + TITLE;
+        s->what = ONE_OF(d, at - 1u, at + 1u, below(d, t->length[TEXT] + 1u), track_word(t, other, TITLE));
+    }
+}
+
 /* ---- Cards */
 
 void damage_card(dice *d, const run *r, step *s)

@@ -205,7 +205,7 @@ static const struct {
 };
 
 /* As the octets of a title, behind an octet that would begin a character, with the text ending there or going on. */
-static void titled(const uint8_t *octets, uint32_t length, int right)
+static void titled(const uint8_t *octets, uint32_t length, int right, uint32_t at)
 {
     static tables t;
     for (uint32_t behind = 0; behind < 2; behind++) {
@@ -219,21 +219,24 @@ static void titled(const uint8_t *octets, uint32_t length, int right)
         }
         lend_tables(both, &t);
         makes(blank(START), right ? 0 : MCS_BAD_CATALOGUE);
+        carries(right ? MCS_NOWHERE : 1, right ? MCS_NOWHERE : at);
     }
 }
 
 /* As a name that is set, and as one that a state has. */
-static void named(const uint8_t *octets, uint32_t length, int right)
+static void named(const uint8_t *octets, uint32_t length, int right, uint32_t at)
 {
     makes(with_octets(blank(SET_NAME), octets, length), right ? 0 : MCS_BAD_NAME);
+    carries(MCS_NOWHERE, right ? MCS_NOWHERE : at);
     poke(MCS_AT_NAME, octets, MCS_OUTPUT_OCTETS);
     poke_number(MCS_AT_NAME_LENGTH, length, 1);
     makes(blank(TAKE), right ? 0 : MCS_BAD_STATE);
     poke_number(MCS_AT_NAME_LENGTH, 0, 1);
 }
 
-/* Each character at every place, cut behind each of its octets, and with one more behind it. */
-static void in_every_place(void (*has)(const uint8_t *octets, uint32_t length, int right))
+/* Each character at every place, cut behind each of its octets, and with one more behind it. Where it is not right, its first octet is
+ * the one that document 02 (W-207) asks for. */
+static void in_every_place(void (*has)(const uint8_t *octets, uint32_t length, int right, uint32_t at))
 {
     for (uint32_t k = 0; k < MCS_OUTPUT_OCTETS * (sizeof CHARACTER / sizeof CHARACTER[0]); k++) {
         uint32_t at = k % MCS_OUTPUT_OCTETS, which = k / MCS_OUTPUT_OCTETS, size = CHARACTER[which].length;
@@ -241,7 +244,7 @@ static void in_every_place(void (*has)(const uint8_t *octets, uint32_t length, i
         memset(octets, 'a', sizeof octets);
         memcpy(octets + at, CHARACTER[which].octets, size);
         for (uint32_t length = at + 1u; length <= at + size + 1u && length <= MCS_OUTPUT_OCTETS; length++) {
-            has(octets, length, CHARACTER[which].right && length >= at + size);
+            has(octets, length, CHARACTER[which].right && length >= at + size, at);
         }
     }
 }

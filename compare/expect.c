@@ -1,4 +1,5 @@
 #include "expect.h"
+#include "lend.h"
 #include "service.h"
 #include "words.h"
 
@@ -8,6 +9,7 @@ run *both;
 static FILE *report;
 static unsigned long wrong, expected;
 static const char *now;
+static struct mcs_place untouched; /* what the words for a place held before the last call */
 
 void now_trying(const char *what) { now = what; }
 
@@ -51,11 +53,19 @@ step with_octets(step s, const void *octets, uint32_t length)
 void makes(step s, uint32_t number)
 {
     s.fill = (uint8_t)(s.fill ^ (expected & 1u)); /* so that the stacks are painted in both ways */
+    untouched = filled_place(s.fill);
     if (!do_step(both, &s)) {
         fprintf(report, "compare: %s: %s: %s\n", now, CALL_NAME[s.kind], both->difference);
         wrong++;
     }
     expect("the number", both->library_said.number, number);
+}
+
+void carries(uint32_t track, uint32_t octet)
+{
+    const answer *a = &both->library_said;
+    expect("the track carried", a->track, track == MCS_NOWHERE ? untouched.track : track);
+    expect("the octet carried", a->octet, octet == MCS_NOWHERE ? untouched.octet : octet);
 }
 
 /* ---- Steps */

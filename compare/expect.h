@@ -21,6 +21,9 @@ step with_octets(step s, const void *octets, uint32_t length);
 /* Makes the call on both, which have to agree and to return this number. The library's is made twice, at either page. */
 void makes(step s, uint32_t number);
 
+/* The track and the octet that it carried; MCS_NOWHERE for what it left alone. */
+void carries(uint32_t track, uint32_t octet);
+
 /* ---- Steps with their arguments; those without a number are accepted */
 
 void start_desk(uint32_t mask);

@@ -24,6 +24,8 @@ static const struct {
     {offsetof(call, counts), NO_LENGTH, 4, 4, "the counts of a card load"},
     {offsetof(call, block), NO_LENGTH, 4, 1, "the block of a card load"},
     {offsetof(call, line), NO_LENGTH, 4, 1, "the line of a cue sheet"},
+    {offsetof(call, track), NO_LENGTH, 4, 1, "the track with a bad title"},
+    {offsetof(call, octet), NO_LENGTH, 4, 1, "the wrong octet of a title or a name"},
     TABLES_OF(room, "a loaded table"),
     {offsetof(call, starts), offsetof(call, starts_len), 4, STARTS_ROOM, "the starts"},
     {offsetof(call, card), offsetof(call, card_len), 1, CARD_ROOM, "the written card"},
@@ -72,6 +74,12 @@ int has_output(uint32_t kind) { return kind == READ || kind == TAKE; }
 
 uint8_t filled(uint8_t fill, uint32_t at) { return (uint8_t)(fill + 37u * at); }
 
+struct mcs_place filled_place(uint8_t fill)
+{
+    struct mcs_place place = {0xA5000000u + fill, 0x5A000000u + fill};
+    return place;
+}
+
 static uint32_t filled_word(const step *s, uint32_t at) { return (s->fill + at) * 0x9E3779B1u; }
 
 static void fill_answer(const step *s, answer *a)
@@ -82,6 +90,8 @@ static void fill_answer(const step *s, answer *a)
     a->counts[0] = a->counts[1] = a->counts[2] = a->counts[3] = a->length + 2u;
     a->line = a->length + 3u;
     a->block = a->length + 4u;
+    a->track = filled_place(s->fill).track;
+    a->octet = filled_place(s->fill).octet;
     for (uint32_t k = 0; has_output(s->kind) && k < OUT_ROOM; k++) {
         a->out[k] = filled(s->fill, k);
     }
@@ -136,6 +146,8 @@ void lend_plainly(run *r, const step *s, call *c)
     fill_answer(s, a);
     if (has_catalogue(s->kind)) {
         c->catalogue = lent(&r->lent);
+        c->track = &a->track;
+        c->octet = &a->octet;
     }
     if (has_state(s->kind)) {
         c->state = r->octets;

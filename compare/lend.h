@@ -5,7 +5,22 @@
 #include "run.h"
 
 /* What calls are lent, inputs and outputs. The tables of a catalogue come first, by their numbers. */
-enum { THE_STATE = TABLES, OCTETS, OUTPUT, WORD, SERVED, COUNTS, BLOCK, LINE, ROOM, STARTS = ROOM + TABLES, WRITTEN, BUFFERS };
+enum {
+    THE_STATE = TABLES,
+    OCTETS,
+    OUTPUT,
+    WORD,
+    SERVED,
+    COUNTS,
+    BLOCK,
+    LINE,
+    BAD_TRACK,
+    BAD_OCTET,
+    ROOM,
+    STARTS = ROOM + TABLES,
+    WRITTEN,
+    BUFFERS
+};
 
 /* Where a buffer of a call lies, its entries, which are words or octets, and its octets. One of a fixed size has none where the
  * call is not lent it. */
@@ -34,5 +49,9 @@ const char *differing(const call *one, const call *other, int states);
 /* Whether a call is lent an output, and what an output holds before the call. */
 int has_output(uint32_t kind);
 uint8_t filled(uint8_t fill, uint32_t at);
+
+/* What the two words for a place hold before the call: no track and no octet that can be carried, so that it is seen whether they are
+ * written. */
+struct mcs_place filled_place(uint8_t fill);
 
 #endif

@@ -10,7 +10,7 @@
 #include <string.h>
 
 enum { NOTE = 0, FIRST_CALL = 1, LAST_CALL = 12, DAMAGE = 13 };
-enum { SAMPLE, LONG_TITLES, OWN_PARENT, CUT_GROUPS, CLOSE_SEGMENTS, RUNNING, CATALOGUES };
+enum { SAMPLE, LONG_TITLES, OWN_PARENT, CUT_GROUPS, CLOSE_SEGMENTS, RUNNING, BAD_TITLES, BAD_AND_WRONG, CATALOGUES };
 
 #define GESPRAECH                                                                                                          \
     "Gespr\xC3\xA4"                                                                                                        \
@@ -25,7 +25,13 @@ static void make_catalogues(void)
     static const char LONG_TEXT[] = GESPRAECH GESPRAECH;
     static const uint32_t CLOSE_STARTS[4] = {0, 200, 450, 5800};
     static const uint32_t RUNNING_STARTS[3] = {0, 1500, 8639999};
+    /* A right title, a bad one, none, and another bad one. */
+    static const char BAD_TEXT[] = "Pr\xC3\xA9" "lude" "Inter\xC3" "ezzo" "Cod\xFF";
+    static const struct {
+        uint32_t at, length;
+    } BAD_TITLE[4] = {{0, 8}, {8, 10}, {18, 0}, {18, 4}};
     tables *titled = &catalogue[LONG_TITLES], *close = &catalogue[CLOSE_SEGMENTS], *running = &catalogue[RUNNING];
+    tables *bad = &catalogue[BAD_TITLES], *wrong = &catalogue[BAD_AND_WRONG];
     for (uint32_t k = 0; k < CATALOGUES; k++) {
         sample_catalogue(&catalogue[k]);
     }
@@ -53,6 +59,14 @@ static void make_catalogues(void)
         record[FIRST_SEGMENT] = k == 1 ? 3 : 6;
         record[SEGMENT_COUNT] = k == 1 ? 3 : 0;
     }
+    memcpy(bad->text, BAD_TEXT, sizeof BAD_TEXT - 1);
+    bad->length[TEXT] = sizeof BAD_TEXT - 1;
+    for (uint32_t k = 0; k < 4; k++) {
+        bad->tracks[MCS_TRACK_WORDS * k + TITLE] = BAD_TITLE[k].at;
+        bad->tracks[MCS_TRACK_WORDS * k + TITLE_LENGTH] = BAD_TITLE[k].length;
+    }
+    *wrong = *bad;
+    wrong->groups[MCS_GROUP_WORDS * 3 + PARENT] = 3;
 }
 
 /* ---- A line */
@@ -90,6 +104,14 @@ static void write_state(FILE *out, const ref_state *s)
     }
 }
 
+/* A word that the call wrote: what it carries. */
+static void write_carried(FILE *out, uint32_t word, uint32_t before)
+{
+    if (word != before) {
+        fprintf(out, " %u", (unsigned)word);
+    }
+}
+
 /* The library's answer, and a ! where lent octets behind it did not stay. */
 static void write_line(FILE *out, const step *s, const run *r)
 {
@@ -101,6 +123,8 @@ static void write_line(FILE *out, const step *s, const run *r)
         fprintf(out, "damaged");
     } else if (a->number != 0) {
         fprintf(out, a->number >= 200 ? "refused %u" : "refused 0x%02X", (unsigned)a->number);
+        write_carried(out, a->track, filled_place(s->fill).track);
+        write_carried(out, a->octet, filled_place(s->fill).octet);
     } else if (s->kind == READ) {
         fprintf(out, "read");
         length = a->length;

@@ -1,4 +1,5 @@
 #include "play.h"
+#include "damage.h"
 
 #define ROUND 64u
 
@@ -39,6 +40,17 @@ void damage(play *p, uint32_t times, void (*draw)(dice *, const run *, step *))
     for (; times > 0 && p->going; times--) {
         draw(&p->d, p->r, new_step(p));
         take_step(p);
+    }
+}
+
+void damage_titles_or_more(play *p)
+{
+    int titles = one_in(&p->d, 2);
+    if (titles) {
+        damage(p, few_times(p), damage_title);
+    }
+    if (!titles || one_in(&p->d, 4)) {
+        damage(p, few_times(p), damage_catalogue);
     }
 }
 

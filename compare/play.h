@@ -32,6 +32,7 @@ void take_step(play *p);
 void bare_step(play *p, uint32_t kind, uint32_t number);
 void call_in(play *p, const mood *m);
 void damage(play *p, uint32_t times, void (*draw)(dice *, const run *, step *));
+void damage_titles_or_more(play *p); /* the catalogue: its titles, something else, or both */
 
 /* Once or a little more often. */
 uint32_t few_times(play *p);

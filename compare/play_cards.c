@@ -234,7 +234,7 @@ void play_cards(play *p)
         bare_step(p, PUT_BACK, 0);
         write_right_card(p);
         bare_step(p, KEEP, 0);
-        damage(p, few_times(p), damage_catalogue);
+        damage_titles_or_more(p);
         write_card(p);
         bare_step(p, PUT_BACK, 0);
     }

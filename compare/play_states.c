@@ -105,7 +105,7 @@ void play_catalogues(play *p)
         }
         p->share = DAMAGED_CATALOGUE;
         bare_step(p, KEEP, 0);
-        damage(p, few_times(p), damage_catalogue);
+        damage_titles_or_more(p);
         if (one_in(&p->d, 6)) {
             damage(p, 1, damage_state);
         }

@@ -1,4 +1,5 @@
 #include "print.h"
+#include "lend.h"
 
 static void print_octets(FILE *out, const uint8_t *octets, uint32_t length)
 {
@@ -79,6 +80,12 @@ static void print_answer(FILE *out, const char *program, const step *s, const an
 {
     fprintf(out, "     %-8s ", program);
     fprintf(out, faulted ? "fault" : a->number >= 200 || a->number == 0 ? "%u" : "0x%02X", (unsigned)a->number);
+    if (a->track != filled_place(s->fill).track) {
+        fprintf(out, ", track %u", (unsigned)a->track);
+    }
+    if (a->octet != filled_place(s->fill).octet) {
+        fprintf(out, ", octet %u", (unsigned)a->octet);
+    }
     if (s->kind == CUE_SHEET) {
         fprintf(out, ", count %u, line %u", (unsigned)a->length, (unsigned)a->line);
     } else if (s->kind == CARD_WRITE && a->number == 0) {

@@ -3,6 +3,7 @@
 #include "guard.h"
 #include "lend.h"
 #include "octets.h"
+#include "places.h"
 
 #include <stdio.h>
 #include <string.h>
@@ -103,7 +104,7 @@ static int same_states(run *r, const step *s, const uint8_t *octets, const ref_s
 /* What the library left, in its answer where the second program's is in its own, and as its state. */
 static void collect(run *r, const call *plain, const call *made)
 {
-    for (uint32_t k = OUTPUT; k <= LINE; k++) {
+    for (uint32_t k = OUTPUT; k <= BAD_OCTET; k++) {
         if (lent_octets(plain, k) > 0) {
             ptrdiff_t at = (uint8_t *)lent_at(plain, k) - (uint8_t *)&r->second_said;
             memcpy((uint8_t *)&r->library_said + at, lent_at(made, k), lent_octets(plain, k));
@@ -124,15 +125,23 @@ static int same_twice(run *r, const call made[2], const uint32_t number[2])
     return buffer == NULL || differs_in(r, "over another stack the library left something else", buffer);
 }
 
-/* A block and a line are written by the refusals that carry them, and by nothing else. */
-static int carried_alone(run *r, uint32_t block, uint32_t line)
+/* A block, a line and a place are written by the refusals that carry them, and by nothing else; and the place is the one that is to be
+ * seen in the name or the titles. */
+static int carried_alone(run *r, const step *s, uint32_t block, uint32_t line)
 {
     const answer *a = &r->library_said;
+    struct mcs_place place = place_of(&r->lent, s, a->number), untouched = filled_place(s->fill);
     if (a->block != block && !mcs_names_block(a->number)) {
         return differs(r, "both wrote the block of a card load that carries none");
     }
     if (a->line != line && a->number != MCS_BAD_LINE && a->number != MCS_NOT_RISING) {
         return differs(r, "both wrote the line of a cue sheet that carries none");
+    }
+    if (a->track != (place.track == MCS_NOWHERE ? untouched.track : place.track)) {
+        return differs(r, "both say something else of the lowest track with a bad title than is to be seen in the catalogue");
+    }
+    if (a->octet != (place.octet == MCS_NOWHERE ? untouched.octet : place.octet)) {
+        return differs(r, "both say something else of the wrong octet than is to be seen in the title or the name");
     }
     return 1;
 }
@@ -188,7 +197,7 @@ static int do_call(run *r, const step *s)
     if (buffer != NULL) {
         return differs_in(r, "the programs differ in", buffer);
     }
-    if (!carried_alone(r, block, line)) {
+    if (!carried_alone(r, s, block, line)) {
         return 0;
     }
     if (s->twice && !same_twice(r, made, number)) {

@@ -17,6 +17,7 @@ typedef struct {
     uint32_t counts[4];    /* of a card load */
     uint32_t block;        /* of a card load */
     uint32_t line;         /* of a cue sheet */
+    uint32_t track, octet; /* of a call that is lent the catalogue: where a text is wrong */
     uint8_t out[OUT_ROOM]; /* of a read or a take; behind what was lent it stays as it was filled */
 } answer;
 

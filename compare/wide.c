@@ -44,7 +44,7 @@ static tables sample, loaded;
 static card made, written;
 static uint8_t octets[MCS_STATE_OCTETS], out[MCS_OUTPUT_OCTETS], line_of_0[17];
 static ref_state state;
-static uint32_t word, served[3], counts[4], block, line, starts[1];
+static uint32_t word, served[3], counts[4], block, line, track, octet, starts[1];
 
 /* A call on the sample that is accepted: the octet 1 is a name, a speed, an order and Play. */
 static call right_call(uint32_t kind, uint32_t what)
@@ -58,6 +58,8 @@ static call right_call(uint32_t kind, uint32_t what)
     c.counts = counts;
     c.block = &block;
     c.line = &line;
+    c.track = &track;
+    c.octet = &octet;
     c.room = whole_room(&loaded);
     c.starts = starts;
     c.starts_len = 1;
@@ -73,17 +75,22 @@ static call right_call(uint32_t kind, uint32_t what)
     return c;
 }
 
-/* Whether both programs return that number. */
+/* Whether both programs return that number, and carry nothing but the 128 of a name that is too long. */
 static int give(FILE *to, const char *what, call c, uint32_t number)
 {
     uint32_t library, second;
+    int carried = 1;
+    track = octet = MCS_NOWHERE;
     c.state = octets;
     library = call_library(&c);
+    carried &= track == MCS_NOWHERE && octet == (number == MCS_BAD_NAME ? 128 : MCS_NOWHERE);
+    octet = MCS_NOWHERE;
     c.state = &state;
     second = call_second(&c);
-    if (library != number || second != number) {
-        fprintf(to, "compare: with a length of over 32 bits, %s: library %u, second %u, not %u\n", what, (unsigned)library,
-                (unsigned)second, (unsigned)number);
+    carried &= track == MCS_NOWHERE && octet == (number == MCS_BAD_NAME ? 128 : MCS_NOWHERE);
+    if (library != number || second != number || !carried) {
+        fprintf(to, "compare: with a length of over 32 bits, %s: library %u, second %u, not %u%s\n", what, (unsigned)library,
+                (unsigned)second, (unsigned)number, carried ? "" : "; and something else is carried");
         return 0;
     }
     return 1;

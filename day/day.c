@@ -176,6 +176,7 @@ int main(int count, char **words)
     const char *path = count > 1 ? words[1] : SAMPLE_CARD;
     struct mcs_room room = whole_room(&loaded);
     struct mcs_catalogue c;
+    struct mcs_place place;
     uint32_t number, block = 0, groups, group;
     size_t len;
 
@@ -187,12 +188,15 @@ int main(int count, char **words)
         return 1;
     }
     number = mcs_catalogue_load(card, len, &room, &c, &block);
-    if (number == MCS_OK) {
-        number = open_office(&c);
-    }
     if (number != MCS_OK) {
         fprintf(stderr, "day: ");
         print_refusal(stderr, path, number, card, block);
+        return 1;
+    }
+    number = open_office(&c, &place);
+    if (number != MCS_OK) {
+        fprintf(stderr, "day: ");
+        print_refused_catalogue(stderr, path, number, &c, place);
         return 1;
     }
     groups = (uint32_t)c.groups_len / MCS_GROUP_WORDS;

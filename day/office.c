@@ -90,11 +90,14 @@ static void show_owed(void)
 
 /* ---- The desk */
 
-uint32_t open_office(const struct mcs_catalogue *c)
+uint32_t open_office(const struct mcs_catalogue *c, struct mcs_place *place)
 {
     static const uint8_t NAME[] = "Mantelhona";
+    uint32_t number;
     desk.catalogue = *c;
-    return mcs_desk_start(&desk, NAME, sizeof NAME - 1u, MCS_ALL_OPCODES, CONTENT_CONTROL_ID);
+    number = mcs_desk_start(&desk, NAME, sizeof NAME - 1u, MCS_ALL_OPCODES, CONTENT_CONTROL_ID);
+    *place = desk.place;
+    return number;
 }
 
 void introduce(void)

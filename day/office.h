@@ -4,8 +4,8 @@
 
 #include "mcs_desk.h"
 
-/* Starts the desk on a catalogue. 0, or the number of the refusal. */
-uint32_t open_office(const struct mcs_catalogue *c);
+/* Starts the desk on a catalogue. 0, or the number of the refusal, and the place that it carries. */
+uint32_t open_office(const struct mcs_catalogue *c, struct mcs_place *place);
 
 /* Who is in the office, and how to read what follows. */
 void introduce(void);

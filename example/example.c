@@ -8,8 +8,9 @@ static const uint32_t groups[] = {0, 0, 1};
 static const uint32_t tracks[] = {1000, 7, 0, 0, 0, 9};
 static const uint8_t text[] = {'I', 'n', 't', 'e', 'r', 'v', 'i', 'e', 'w'};
 static const uint8_t name[] = {'D', 'e', 's', 'k'};
+static const uint8_t bad_name[] = {'D', 'e', 's', 'k', 0xC3};
 
-static struct mcs_desk desk = {{groups, 3, tracks, 6, NULL, 0, text, sizeof text}, {0}};
+static struct mcs_desk desk = {{groups, 3, tracks, 6, NULL, 0, text, sizeof text}, {0}, {0, 0}};
 
 int main(void)
 {
@@ -58,5 +59,9 @@ int main(void)
     number = mcs_desk_write(&desk, pedal, MCS_PLAYING_ORDER, out, 2);
     if (number != MCS_BAD_LENGTH || !MCS_IS_ATT_ERROR(number))
         return 13;
+    /* One that whoever typed the name is to be told: at octet 4 it is not UTF-8. It is no title that is wrong, so there is no track. */
+    number = mcs_desk_set_name(&desk, bad_name, sizeof bad_name);
+    if (number != MCS_BAD_NAME || desk.place.octet != 4 || desk.place.track != MCS_NOWHERE)
+        return 14;
     return 0;
 }

@@ -43,6 +43,7 @@ typedef struct {
     size_t card_len;
     uint32_t *word; /* the length of a read, the count of a cue sheet, the blocks of a card write */
     uint32_t *served, *counts, *block, *line;
+    uint32_t *track, *octet; /* where a text is wrong; of every call that is lent the catalogue */
 } call;
 
 /* A card load and a cue sheet are lent neither a state nor a catalogue, a card write no state. */

@@ -56,3 +56,16 @@ void print_refusal(FILE *to, const char *what, uint32_t number, const uint8_t *c
     }
     fprintf(to, ".\n");
 }
+
+void print_refused_catalogue(FILE *to, const char *what, uint32_t number, const struct mcs_catalogue *c, struct mcs_place place)
+{
+    fprintf(to, "%s is refused, %u: ", what, (unsigned)number);
+    if (place.track == MCS_NOWHERE) {
+        fprintf(to, "%s", mcs_refusal_words(number));
+    } else {
+        const uint8_t *title = c->text + c->tracks[MCS_TRACK_WORDS * place.track + TITLE];
+        fprintf(to, "the title of track %u is not UTF-8: octet %u of it is 0x%02X", (unsigned)place.track, (unsigned)place.octet,
+                title[place.octet]);
+    }
+    fprintf(to, ".\n");
+}

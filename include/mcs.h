@@ -3,15 +3,16 @@
  * Every call takes all octets, numbers, tables and states there are, checks them itself, and ends. It returns 0, or the number of
  * the first refusal that applies, in the order of the list below. A refusal alters nothing: state, tables, card, output, length,
  * served, counts, blocks, starts and count hold what they held. The six of the list from MCS_BAD_CHECK to MCS_BAD_PADDING carry a
- * block of the card, MCS_BAD_LINE and MCS_NOT_RISING a line of the cue sheet, and these alone write it to the word that is lent for
- * it.
+ * block of the card, MCS_BAD_LINE and MCS_NOT_RISING a line of the cue sheet, MCS_BAD_CATALOGUE for a title that is not UTF-8 a track
+ * and an octet, MCS_BAD_NAME an octet: each writes what it carries to the words that are lent for it. Every other refusal, and every
+ * call that is accepted, leaves block, line, track and octet as they were.
  *
  * What is the caller's to see to, as for any function of C:
  * - a pointer with a length points to that many octets or words (a length of 0: it is not followed, and may be null);
- *   words are aligned as uint32_t is; state points to MCS_STATE_OCTETS octets, length, block, blocks, count and line to 1 word,
- *   served to 3, counts to 4;
- * - what a call writes (state, output, length, served, the tables, counts and block of a card load, the card and blocks of a card
- *   write, and starts, count and line of a cue sheet) overlaps nothing else lent to it;
+ *   words are aligned as uint32_t is; state points to MCS_STATE_OCTETS octets, length, block, blocks, count, line, track and octet
+ *   to 1 word each, served to 3, counts to 4;
+ * - what a call writes (state, output, length, served, track, octet, the tables, counts and block of a card load, the card and blocks
+ *   of a card write, and starts, count and line of a cue sheet) overlaps nothing else lent to it;
  * - no other thread touches what is lent while the call runs. The library keeps nothing of its own and calls no function
  *   but its own and memcpy, memset, memmove.
  */
@@ -25,18 +26,20 @@
 extern "C" {
 #endif
 
-/* MCS_VERSION moves when a function of this file is added or changes its arguments or the numbers that it returns: it is 4 since
- * mcs_card_load refuses with 214 what it accepted before, a card with a block that is neither full nor the last of its kind.
+/* MCS_VERSION moves when a function of this file is added or changes its arguments or the numbers that it returns: it is 5 since
+ * every call that is lent the catalogue is also lent the two words of MCS_PLACE, for what 200 and 207 carry.
  * MCS_STATE_LAYOUT moves when the octets of a state change their number, place or meaning: a host that stores states stores it
  * with them. */
-#define MCS_VERSION 4u
+#define MCS_VERSION 5u
 #define MCS_STATE_LAYOUT 1u
 
 /* ---- Numbers that a call returns ------------------------------------------------------------------------------------------ */
 
 /* Accepted. */
 #define MCS_OK 0u
-/* A rule of the catalogue fails, or a table ends inside a record. */
+/* A rule of the catalogue fails, or a table ends inside a record. Where all that is wrong is titles that are not UTF-8, *track is the
+ * lowest track with such a title, and *octet the offset, within the title, of the first octet that does not start a whole valid
+ * character. Where anything else is wrong, a title over 128 octets or outside the text included, the two words stay as they were. */
 #define MCS_BAD_CATALOGUE 200u
 /* The lent output of a read or a take is under MCS_OUTPUT_OCTETS octets. */
 #define MCS_SMALL_OUTPUT 205u
@@ -70,7 +73,8 @@ extern "C" {
 #define MCS_BAD_ORDER 0x13u
 /* Eight results of the client wait (ATT: Insufficient Resources). */
 #define MCS_TOO_MANY_RESULTS 0x11u
-/* The name has over 128 octets or is not UTF-8. */
+/* The name has over 128 octets, and *octet is 128; or it is not UTF-8, and *octet is the offset, within the name, of the first octet
+ * that does not start a whole valid character. */
 #define MCS_BAD_NAME 207u
 /* The group is absent or has no tracks. */
 #define MCS_BAD_GROUP 208u
@@ -227,6 +231,9 @@ extern "C" {
     const uint32_t *groups, size_t groups_len, const uint32_t *tracks, size_t tracks_len, const uint32_t *segments,            \
         size_t segments_len, const uint8_t *text, size_t text_len
 
+/* Lent last to every call that is lent the catalogue: the two words for where a title or a name is wrong. */
+#define MCS_PLACE uint32_t *track, uint32_t *octet
+
 /* Card load: fills the front of each table with a card's records, and counts with the number of groups, tracks, segments and
  * text octets. The tables' lengths are their room, in words and in octets; the words behind the records stay as they were, so
  * a catalogue is the first 3 * counts[0], 6 * counts[1] and counts[2] words and counts[3] octets.
@@ -240,7 +247,7 @@ uint32_t mcs_card_load(const uint8_t *card, size_t card_len, uint32_t *groups, s
  * number of its blocks, at most MCS_CARD_BLOCKS. The octets behind them stay as they were. Loading what was written gives the tables
  * back, and writing what was loaded gives the card back, for every card that is accepted and whose tables pass 200.
  * Refusals: 200, 213. */
-uint32_t mcs_card_write(MCS_CATALOGUE, uint8_t *card, size_t card_len, uint32_t *blocks);
+uint32_t mcs_card_write(MCS_CATALOGUE, uint8_t *card, size_t card_len, uint32_t *blocks, MCS_PLACE);
 
 /* Cue sheet: fills the front of starts with the segment starts of one track, in hundredths of a second, and *count with their
  * number. A line `INDEX 01 mm:ss:ff`, with ss up to 59 and ff up to 74, gives a start of (60 mm + ss) 100 plus the whole part
@@ -255,43 +262,44 @@ uint32_t mcs_cue_sheet(const uint8_t *sheet, size_t sheet_len, uint32_t *starts,
 /* Start: a state with this name, opcode mask and Content Control ID, Inactive, order 3, speed 0, no client connected. What the
  * state's octets held before does not matter. Refusals: 200, 207. */
 uint32_t mcs_start(MCS_CATALOGUE, const uint8_t *name, size_t name_len, uint32_t mask, uint8_t ccid,
-                   uint8_t state[MCS_STATE_OCTETS]);
+                   uint8_t state[MCS_STATE_OCTETS], MCS_PLACE);
 
 /* Set name. Refusals: 200, 201, 207. */
-uint32_t mcs_set_name(MCS_CATALOGUE, uint8_t state[MCS_STATE_OCTETS], const uint8_t *name, size_t name_len);
+uint32_t mcs_set_name(MCS_CATALOGUE, uint8_t state[MCS_STATE_OCTETS], const uint8_t *name, size_t name_len, MCS_PLACE);
 
 /* Activate a group: its first track in the playing order, position 0, Paused. Refusals: 200, 201, 208. */
-uint32_t mcs_activate(MCS_CATALOGUE, uint8_t state[MCS_STATE_OCTETS], uint32_t group);
+uint32_t mcs_activate(MCS_CATALOGUE, uint8_t state[MCS_STATE_OCTETS], uint32_t group, MCS_PLACE);
 
 /* Deactivate: no current track. Refusals: 200, 201. */
-uint32_t mcs_deactivate(MCS_CATALOGUE, uint8_t state[MCS_STATE_OCTETS]);
+uint32_t mcs_deactivate(MCS_CATALOGUE, uint8_t state[MCS_STATE_OCTETS], MCS_PLACE);
 
 /* Advance: d hundredths of a second pass. Refusals: 200, 201. */
-uint32_t mcs_advance(MCS_CATALOGUE, uint8_t state[MCS_STATE_OCTETS], uint32_t d);
+uint32_t mcs_advance(MCS_CATALOGUE, uint8_t state[MCS_STATE_OCTETS], uint32_t d, MCS_PLACE);
 
 /* Connect; encrypted is 0 for no. Refusals: 200, 201, 202, 204, 206. */
-uint32_t mcs_connect(MCS_CATALOGUE, uint8_t state[MCS_STATE_OCTETS], uint32_t client, uint32_t mtu, uint8_t encrypted);
+uint32_t mcs_connect(MCS_CATALOGUE, uint8_t state[MCS_STATE_OCTETS], uint32_t client, uint32_t mtu, uint8_t encrypted,
+                     MCS_PLACE);
 
 /* Disconnect: the client's record is start's again. Refusals: 200, 201, 202, 203. */
-uint32_t mcs_disconnect(MCS_CATALOGUE, uint8_t state[MCS_STATE_OCTETS], uint32_t client);
+uint32_t mcs_disconnect(MCS_CATALOGUE, uint8_t state[MCS_STATE_OCTETS], uint32_t client, MCS_PLACE);
 
 /* Subscribe, unsubscribe: a client's Client Characteristic Configuration for notifications.
  * Refusals: 200, 201, 202, 203, 0x01, 209, 0x0F. */
-uint32_t mcs_subscribe(MCS_CATALOGUE, uint8_t state[MCS_STATE_OCTETS], uint32_t client, uint32_t characteristic);
-uint32_t mcs_unsubscribe(MCS_CATALOGUE, uint8_t state[MCS_STATE_OCTETS], uint32_t client, uint32_t characteristic);
+uint32_t mcs_subscribe(MCS_CATALOGUE, uint8_t state[MCS_STATE_OCTETS], uint32_t client, uint32_t characteristic, MCS_PLACE);
+uint32_t mcs_unsubscribe(MCS_CATALOGUE, uint8_t state[MCS_STATE_OCTETS], uint32_t client, uint32_t characteristic, MCS_PLACE);
 
 /* Read at an offset: the value's octets from there on, at most ATT_MTU - 1, over the front of out; their number in *length. The
  * octets of out behind them stay. Refusals: 200, 205, 201, 202, 203, 0x01, 0x02, 0x0F, 0x80, 0x07. */
 uint32_t mcs_read(MCS_CATALOGUE, uint8_t state[MCS_STATE_OCTETS], uint32_t client, uint32_t characteristic, uint32_t offset,
-                  uint8_t *out, size_t out_len, uint32_t *length);
+                  uint8_t *out, size_t out_len, uint32_t *length, MCS_PLACE);
 
 /* Write. Refusals: 200, 201, 202, 203, 0x01, 0x03, 0x0F, 0x0D, 0x13, 0x11. */
 uint32_t mcs_write(MCS_CATALOGUE, uint8_t state[MCS_STATE_OCTETS], uint32_t client, uint32_t characteristic,
-                   const uint8_t *value, size_t value_len);
+                   const uint8_t *value, size_t value_len, MCS_PLACE);
 
 /* Take: the next notification, to be sent now. served is the client, the characteristic and the number of octets over the front
  * of out; characteristic 0, with the other two 0, where nothing is owed to anyone. Refusals: 200, 205, 201. */
-uint32_t mcs_take(MCS_CATALOGUE, uint8_t state[MCS_STATE_OCTETS], uint8_t *out, size_t out_len, uint32_t served[3]);
+uint32_t mcs_take(MCS_CATALOGUE, uint8_t state[MCS_STATE_OCTETS], uint8_t *out, size_t out_len, uint32_t served[3], MCS_PLACE);
 
 #ifdef __cplusplus
 }

@@ -29,6 +29,9 @@
  *   number, words and block to whoever brought the card: the octets from MCS_BLOCK_OCTETS times the block on are to be looked at,
  *   or written again. By MCS_NOT_FULL all blocks from there on are, since the records of the next ones move up. The blocks before it
  *   are right; those behind it may be bad too.
+ * - Where a title or a name is not UTF-8, the host can show the place to whoever typed it: after every call desk.place holds the track
+ *   and the octet within its title that MCS_BAD_CATALOGUE carries, or the octet within the name that MCS_BAD_NAME carries, and
+ *   MCS_NOWHERE for what the call did not carry.
  */
 #ifndef MCS_DESK_H
 #define MCS_DESK_H
@@ -191,11 +194,28 @@ struct mcs_catalogue {
     (catalogue).groups, (catalogue).groups_len, (catalogue).tracks, (catalogue).tracks_len, (catalogue).segments,              \
         (catalogue).segments_len, (catalogue).text, (catalogue).text_len
 
-/* A desk: the catalogue that its calls are lent, and its state. The state may be stored and restored by its octets, together
- * with MCS_STATE_LAYOUT; it is checked by every call. */
+/* Where a text is wrong: of a bad title its track and the octet within it, of a bad name the octet within it and no track. No track
+ * and no octet is MCS_NOWHERE. */
+#define MCS_NOWHERE 0xFFFFFFFFu
+struct mcs_place {
+    uint32_t track, octet;
+};
+
+/* A place as the calls of mcs.h take it. It is nowhere before the call, so that afterwards it holds what the call carries. */
+#define MCS_CARRIED(place) &mcs_nowhere(place)->track, &(place)->octet
+static inline struct mcs_place *mcs_nowhere(struct mcs_place *place)
+{
+    place->track = MCS_NOWHERE;
+    place->octet = MCS_NOWHERE;
+    return place;
+}
+
+/* A desk: the catalogue that its calls are lent, its state, and what its last call carried. The state may be stored and restored by
+ * its octets, together with MCS_STATE_LAYOUT; it is checked by every call. */
 struct mcs_desk {
     struct mcs_catalogue catalogue;
     uint8_t state[MCS_STATE_OCTETS];
+    struct mcs_place place;
 };
 
 /* What a take served: so many octets of this characteristic to this client. */
@@ -246,11 +266,11 @@ static inline uint32_t mcs_catalogue_load(const uint8_t *card, size_t card_len, 
     return number;
 }
 
-/* Card write. */
+/* Card write; place is what it carries. */
 static inline uint32_t mcs_catalogue_write(const struct mcs_catalogue *catalogue, uint8_t *card, size_t card_len,
-                                           uint32_t *blocks)
+                                           uint32_t *blocks, struct mcs_place *place)
 {
-    return mcs_card_write(MCS_LENT(*catalogue), card, card_len, blocks);
+    return mcs_card_write(MCS_LENT(*catalogue), card, card_len, blocks, MCS_CARRIED(place));
 }
 
 /* Cue sheet; starts is the table that is filled, and starts_len its room. */
@@ -263,65 +283,67 @@ static inline uint32_t mcs_cue_load(const uint8_t *sheet, size_t sheet_len, uint
 /* Start. The desk's catalogue is there before it. */
 static inline uint32_t mcs_desk_start(struct mcs_desk *desk, const uint8_t *name, size_t name_len, uint32_t mask, uint8_t ccid)
 {
-    return mcs_start(MCS_LENT(desk->catalogue), name, name_len, mask, ccid, desk->state);
+    return mcs_start(MCS_LENT(desk->catalogue), name, name_len, mask, ccid, desk->state, MCS_CARRIED(&desk->place));
 }
 
 static inline uint32_t mcs_desk_set_name(struct mcs_desk *desk, const uint8_t *name, size_t name_len)
 {
-    return mcs_set_name(MCS_LENT(desk->catalogue), desk->state, name, name_len);
+    return mcs_set_name(MCS_LENT(desk->catalogue), desk->state, name, name_len, MCS_CARRIED(&desk->place));
 }
 
 static inline uint32_t mcs_desk_activate(struct mcs_desk *desk, uint32_t group)
 {
-    return mcs_activate(MCS_LENT(desk->catalogue), desk->state, group);
+    return mcs_activate(MCS_LENT(desk->catalogue), desk->state, group, MCS_CARRIED(&desk->place));
 }
 
 static inline uint32_t mcs_desk_deactivate(struct mcs_desk *desk)
 {
-    return mcs_deactivate(MCS_LENT(desk->catalogue), desk->state);
+    return mcs_deactivate(MCS_LENT(desk->catalogue), desk->state, MCS_CARRIED(&desk->place));
 }
 
 static inline uint32_t mcs_desk_advance(struct mcs_desk *desk, uint32_t hundredths)
 {
-    return mcs_advance(MCS_LENT(desk->catalogue), desk->state, hundredths);
+    return mcs_advance(MCS_LENT(desk->catalogue), desk->state, hundredths, MCS_CARRIED(&desk->place));
 }
 
 static inline uint32_t mcs_desk_connect(struct mcs_desk *desk, uint32_t client, uint32_t mtu, uint8_t encrypted)
 {
-    return mcs_connect(MCS_LENT(desk->catalogue), desk->state, client, mtu, encrypted);
+    return mcs_connect(MCS_LENT(desk->catalogue), desk->state, client, mtu, encrypted, MCS_CARRIED(&desk->place));
 }
 
 static inline uint32_t mcs_desk_disconnect(struct mcs_desk *desk, uint32_t client)
 {
-    return mcs_disconnect(MCS_LENT(desk->catalogue), desk->state, client);
+    return mcs_disconnect(MCS_LENT(desk->catalogue), desk->state, client, MCS_CARRIED(&desk->place));
 }
 
 static inline uint32_t mcs_desk_subscribe(struct mcs_desk *desk, uint32_t client, uint32_t characteristic)
 {
-    return mcs_subscribe(MCS_LENT(desk->catalogue), desk->state, client, characteristic);
+    return mcs_subscribe(MCS_LENT(desk->catalogue), desk->state, client, characteristic, MCS_CARRIED(&desk->place));
 }
 
 static inline uint32_t mcs_desk_unsubscribe(struct mcs_desk *desk, uint32_t client, uint32_t characteristic)
 {
-    return mcs_unsubscribe(MCS_LENT(desk->catalogue), desk->state, client, characteristic);
+    return mcs_unsubscribe(MCS_LENT(desk->catalogue), desk->state, client, characteristic, MCS_CARRIED(&desk->place));
 }
 
 static inline uint32_t mcs_desk_read(struct mcs_desk *desk, uint32_t client, uint32_t characteristic, uint32_t offset,
                                      uint8_t *out, size_t out_len, uint32_t *length)
 {
-    return mcs_read(MCS_LENT(desk->catalogue), desk->state, client, characteristic, offset, out, out_len, length);
+    return mcs_read(MCS_LENT(desk->catalogue), desk->state, client, characteristic, offset, out, out_len, length,
+                    MCS_CARRIED(&desk->place));
 }
 
 static inline uint32_t mcs_desk_write(struct mcs_desk *desk, uint32_t client, uint32_t characteristic, const uint8_t *value,
                                       size_t value_len)
 {
-    return mcs_write(MCS_LENT(desk->catalogue), desk->state, client, characteristic, value, value_len);
+    return mcs_write(MCS_LENT(desk->catalogue), desk->state, client, characteristic, value, value_len,
+                     MCS_CARRIED(&desk->place));
 }
 
 static inline uint32_t mcs_desk_take(struct mcs_desk *desk, uint8_t *out, size_t out_len, struct mcs_served *served)
 {
     uint32_t words[3] = {0, 0, 0};
-    uint32_t number = mcs_take(MCS_LENT(desk->catalogue), desk->state, out, out_len, words);
+    uint32_t number = mcs_take(MCS_LENT(desk->catalogue), desk->state, out, out_len, words, MCS_CARRIED(&desk->place));
     if (number == MCS_OK) {
         served->client = words[0];
         served->characteristic = words[1];

@@ -1,4 +1,4 @@
-/* The desk player core, written along document 01 and the requests of document 02 that have landed: W-201 to W-206, and W-212 for
+/* The desk player core, written along document 01 and the requests of document 02 that have landed: W-201 to W-207, and W-212 for
  * the cue sheet. A comment in quotation marks is a sentence of document 01; where a request is named, and in the cue sheet's
  * part, it is one of document 02. */
 #include "ref.h"
@@ -103,54 +103,65 @@ static uint32_t track_d(const catalogue *c, uint32_t t)
     return is_running(c, t) ? LONGEST_DURATION : track_duration_word(c, t);
 }
 
-/* "UTF-8 is RFC 3629": each character is decoded; overlong forms, surrogates and what lies above 10FFFF are none. */
-static int is_utf8(const uint8_t *s, size_t len)
+/* UTF8-tail of RFC 3629: each octet of a character but its first. */
+static int is_tail(uint8_t octet) { return (octet & 0xC0u) == 0x80u; }
+
+/* W-207: "The text check answers the offset, within the name or title, of the first octet that doesn't start a whole valid
+ * character, with all octets before it being whole valid characters." Where there is none, the answer is the length. "UTF-8 is RFC
+ * 3629": each character is decoded; overlong forms, surrogates and what lies above 10FFFF are none. */
+static size_t valid_front(const uint8_t *s, size_t len)
 {
     size_t at = 0;
     while (at < len) {
         uint32_t lead = s[at];
         uint32_t code, least;
-        size_t more, k;
-        if (lead < 0x80u) {
+        size_t octets;
+        /* Most characters are of one octet: on to the first that is not. */
+        while (lead < 0x80u) {
             at += 1;
-            continue;
+            if (at == len) {
+                return at;
+            }
+            lead = s[at];
         }
         if (lead >= 0xC0u && lead <= 0xDFu) {
-            more = 1;
-            code = lead & 0x1Fu;
+            if (len - at < 2 || !is_tail(s[at + 1])) {
+                return at;
+            }
+            octets = 2;
+            code = (lead & 0x1Fu) << 6 | (s[at + 1] & 0x3Fu);
             least = 0x80u;
         } else if (lead >= 0xE0u && lead <= 0xEFu) {
-            more = 2;
-            code = lead & 0x0Fu;
+            if (len - at < 3 || !is_tail(s[at + 1]) || !is_tail(s[at + 2])) {
+                return at;
+            }
+            octets = 3;
+            code = (lead & 0x0Fu) << 12 | (s[at + 1] & 0x3Fu) << 6 | (s[at + 2] & 0x3Fu);
             least = 0x800u;
         } else if (lead >= 0xF0u && lead <= 0xF7u) {
-            more = 3;
-            code = lead & 0x07u;
+            if (len - at < 4 || !is_tail(s[at + 1]) || !is_tail(s[at + 2]) || !is_tail(s[at + 3])) {
+                return at;
+            }
+            octets = 4;
+            code = (lead & 0x07u) << 18 | (s[at + 1] & 0x3Fu) << 12 | (s[at + 2] & 0x3Fu) << 6 | (s[at + 3] & 0x3Fu);
             least = 0x10000u;
         } else {
-            return 0;
-        }
-        if (len - at <= more) {
-            return 0;
-        }
-        for (k = 1; k <= more; k++) {
-            uint32_t next = s[at + k];
-            if ((next & 0xC0u) != 0x80u) {
-                return 0;
-            }
-            code = (code << 6) | (next & 0x3Fu);
+            return at;
         }
         if (code < least || code > 0x10FFFFu || (code >= 0xD800u && code <= 0xDFFFu)) {
-            return 0;
+            return at;
         }
-        at += 1 + more;
+        at += octets;
     }
-    return 1;
+    return at;
 }
 
-static int catalogue_stands(const catalogue *c)
+/* W-207: "Among the failures behind 200, a bad title carries the lowest such track and the offset; every other 200 carries neither
+ * and comes before." So the first bad title is kept until every other rule has been tried, and no title behind it is read. */
+static int catalogue_stands(const catalogue *c, REF_PLACE)
 {
-    uint32_t g, t, k, running;
+    uint32_t g, t, k, running, lowest = c->track_count;
+    size_t front = 0;
 
     /* "Group 0, if any, is its own parent; every other parent number is smaller than its child's." */
     for (g = 0; g < c->group_count; g++) {
@@ -205,15 +216,24 @@ static int catalogue_stands(const catalogue *c)
         if (track_title_len(c, t) > 128u) {
             return 0;
         }
-        if (track_title_len(c, t) > 0u && !is_utf8(c->text + track_title(c, t), track_title_len(c, t))) {
-            return 0;
+        /* An empty title is UTF-8, and a text of no octets need have no address. */
+        if (track_title_len(c, t) > 0u && lowest == c->track_count) {
+            front = valid_front(c->text + track_title(c, t), track_title_len(c, t));
+            if (front < track_title_len(c, t)) {
+                lowest = t;
+            }
         }
+    }
+    if (lowest < c->track_count) {
+        *bad_track = lowest;
+        *bad_offset = (uint32_t)front;
+        return 0;
     }
     return 1;
 }
 
 /* Refusal 200: "a catalogue rule above fails, or a lent table ends inside a record" */
-static int lend(catalogue *c, REF_CATALOGUE)
+static int lend(catalogue *c, REF_CATALOGUE, REF_PLACE)
 {
     if (groups_len % 3u != 0 || tracks_len % 6u != 0) {
         return 0;
@@ -230,10 +250,18 @@ static int lend(catalogue *c, REF_CATALOGUE)
     c->track_count = (uint32_t)(tracks_len / 6u);
     c->segment_count = (uint32_t)segments_len;
     c->text_count = (uint32_t)text_len;
-    return catalogue_stands(c);
+    return catalogue_stands(c, bad_track, bad_offset);
 }
 
-#define LEND(c) lend(&(c), groups, groups_len, tracks, tracks_len, segments, segments_len, text, text_len)
+#define LEND(c)                                                                                                        \
+    lend(&(c), groups, groups_len, tracks, tracks_len, segments, segments_len, text, text_len, bad_track, bad_offset)
+
+/* W-207, of 207: "for a name over 128 octets, 128, tested first". A name breaks 207 exactly where this is less than its length, and
+ * this is then the offset. */
+static size_t name_front(const uint8_t *name, size_t len)
+{
+    return len > REF_NAME_ROOM ? REF_NAME_ROOM : valid_front(name, len);
+}
 
 /* ---- The card */
 
@@ -404,7 +432,7 @@ static void fill_block(const catalogue *c, uint32_t number, uint32_t kind, uint3
 
 /* W-204: "From a catalogue the writer fills a lent buffer with blocks, every block but the last of its kind full, and
  * returns how many." "Octets behind the last block stay." */
-uint32_t ref_card_write(REF_CATALOGUE, uint8_t *card, size_t card_len, uint32_t *blocks)
+uint32_t ref_card_write(REF_CATALOGUE, uint8_t *card, size_t card_len, uint32_t *blocks, REF_PLACE)
 {
     catalogue c;
     uint32_t needed = 0, number = 0, kind, first, count;
@@ -1015,7 +1043,7 @@ static void start_record(ref_client *r)
 static int player_stands(const catalogue *c, const ref_state *s)
 {
     /* "its name breaks 207" */
-    if (s->name_len > REF_NAME_ROOM || !is_utf8(s->name, s->name_len)) {
+    if (name_front(s->name, s->name_len) < s->name_len) {
         return 0;
     }
     if (s->order < 1 || s->order > 8 || s->media > REF_SEEKING) {
@@ -1149,15 +1177,19 @@ static void make_owed(const catalogue *c, const ref_state *before, ref_state *s,
 
 /* ---- The calls */
 
-uint32_t ref_start(REF_CATALOGUE, const uint8_t *name, size_t name_len, uint32_t mask, uint8_t ccid, ref_state *state)
+uint32_t ref_start(REF_CATALOGUE, const uint8_t *name, size_t name_len, uint32_t mask, uint8_t ccid, ref_state *state,
+                   REF_PLACE)
 {
     catalogue c;
     uint32_t k;
+    size_t front;
 
     if (!LEND(c)) {
         return CATALOGUE_WRONG;
     }
-    if (name_len > REF_NAME_ROOM || !is_utf8(name, name_len)) {
+    front = name_front(name, name_len);
+    if (front < name_len) {
+        *bad_offset = (uint32_t)front;
         return NAME_WRONG;
     }
     /* "Start leaves Inactive, order 3, speed 0" */
@@ -1178,10 +1210,11 @@ uint32_t ref_start(REF_CATALOGUE, const uint8_t *name, size_t name_len, uint32_t
     return 0;
 }
 
-uint32_t ref_set_name(REF_CATALOGUE, ref_state *state, const uint8_t *name, size_t name_len)
+uint32_t ref_set_name(REF_CATALOGUE, ref_state *state, const uint8_t *name, size_t name_len, REF_PLACE)
 {
     catalogue c;
     ref_state before;
+    size_t front;
 
     if (!LEND(c)) {
         return CATALOGUE_WRONG;
@@ -1189,7 +1222,9 @@ uint32_t ref_set_name(REF_CATALOGUE, ref_state *state, const uint8_t *name, size
     if (!state_stands(&c, state)) {
         return STATE_WRONG;
     }
-    if (name_len > REF_NAME_ROOM || !is_utf8(name, name_len)) {
+    front = name_front(name, name_len);
+    if (front < name_len) {
+        *bad_offset = (uint32_t)front;
         return NAME_WRONG;
     }
     before = *state;
@@ -1202,7 +1237,7 @@ uint32_t ref_set_name(REF_CATALOGUE, ref_state *state, const uint8_t *name, size
     return 0;
 }
 
-uint32_t ref_activate(REF_CATALOGUE, ref_state *state, uint32_t group)
+uint32_t ref_activate(REF_CATALOGUE, ref_state *state, uint32_t group, REF_PLACE)
 {
     catalogue c;
     ref_state before;
@@ -1225,7 +1260,7 @@ uint32_t ref_activate(REF_CATALOGUE, ref_state *state, uint32_t group)
     return 0;
 }
 
-uint32_t ref_deactivate(REF_CATALOGUE, ref_state *state)
+uint32_t ref_deactivate(REF_CATALOGUE, ref_state *state, REF_PLACE)
 {
     catalogue c;
     ref_state before;
@@ -1243,7 +1278,7 @@ uint32_t ref_deactivate(REF_CATALOGUE, ref_state *state)
     return 0;
 }
 
-uint32_t ref_advance(REF_CATALOGUE, ref_state *state, uint32_t d)
+uint32_t ref_advance(REF_CATALOGUE, ref_state *state, uint32_t d, REF_PLACE)
 {
     catalogue c;
     ref_state before;
@@ -1278,7 +1313,7 @@ uint32_t ref_advance(REF_CATALOGUE, ref_state *state, uint32_t d)
     return 0;
 }
 
-uint32_t ref_connect(REF_CATALOGUE, ref_state *state, uint32_t client, uint32_t mtu, uint8_t encrypted)
+uint32_t ref_connect(REF_CATALOGUE, ref_state *state, uint32_t client, uint32_t mtu, uint8_t encrypted, REF_PLACE)
 {
     catalogue c;
     ref_client *r;
@@ -1322,7 +1357,7 @@ static uint32_t common_rows(const catalogue *c, const ref_state *state, uint32_t
     return 0;
 }
 
-uint32_t ref_disconnect(REF_CATALOGUE, ref_state *state, uint32_t client)
+uint32_t ref_disconnect(REF_CATALOGUE, ref_state *state, uint32_t client, REF_PLACE)
 {
     catalogue c;
     uint32_t refusal;
@@ -1354,7 +1389,7 @@ static uint32_t subscription_rows(const catalogue *c, const ref_state *state, ui
     return state->clients[client].encrypted ? 0 : ATT_NOT_ENCRYPTED;
 }
 
-uint32_t ref_subscribe(REF_CATALOGUE, ref_state *state, uint32_t client, uint32_t characteristic)
+uint32_t ref_subscribe(REF_CATALOGUE, ref_state *state, uint32_t client, uint32_t characteristic, REF_PLACE)
 {
     catalogue c;
     uint32_t refusal;
@@ -1371,7 +1406,7 @@ uint32_t ref_subscribe(REF_CATALOGUE, ref_state *state, uint32_t client, uint32_
     return 0;
 }
 
-uint32_t ref_unsubscribe(REF_CATALOGUE, ref_state *state, uint32_t client, uint32_t characteristic)
+uint32_t ref_unsubscribe(REF_CATALOGUE, ref_state *state, uint32_t client, uint32_t characteristic, REF_PLACE)
 {
     catalogue c;
     uint32_t refusal, bit;
@@ -1396,7 +1431,7 @@ uint32_t ref_unsubscribe(REF_CATALOGUE, ref_state *state, uint32_t client, uint3
 }
 
 uint32_t ref_read(REF_CATALOGUE, ref_state *state, uint32_t client, uint32_t characteristic, uint32_t offset,
-                  uint8_t *out, size_t out_len, uint32_t *length)
+                  uint8_t *out, size_t out_len, uint32_t *length, REF_PLACE)
 {
     catalogue c;
     uint32_t refusal, len, part;
@@ -1449,7 +1484,7 @@ uint32_t ref_read(REF_CATALOGUE, ref_state *state, uint32_t client, uint32_t cha
 }
 
 uint32_t ref_write(REF_CATALOGUE, ref_state *state, uint32_t client, uint32_t characteristic, const uint8_t *value,
-                   size_t value_len)
+                   size_t value_len, REF_PLACE)
 {
     catalogue c;
     ref_state before;
@@ -1523,7 +1558,7 @@ uint32_t ref_write(REF_CATALOGUE, ref_state *state, uint32_t client, uint32_t ch
     return 0;
 }
 
-uint32_t ref_take(REF_CATALOGUE, ref_state *state, uint8_t *out, size_t out_len, uint32_t served[3])
+uint32_t ref_take(REF_CATALOGUE, ref_state *state, uint8_t *out, size_t out_len, uint32_t served[3], REF_PLACE)
 {
     catalogue c;
     uint32_t k, j;

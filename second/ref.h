@@ -3,7 +3,7 @@
  * Every call returns 0, or the refusal number of document 01's table (ATT codes as 0x01 to 0x80), of a card load, a card write
  * and a cue sheet those of document 02's requests W-205 and W-206, W-204, and W-212.
  * "A refusal returns its number alone and alters nothing." W-205, of a bad block: "Demand 1 reads the number and the block as the
- * whole refusal."
+ * whole refusal." W-207 lets 200 and 207 carry the place of a bad text as well.
  */
 #ifndef REF_H
 #define REF_H
@@ -57,6 +57,11 @@ typedef struct {
     const uint32_t *groups, size_t groups_len, const uint32_t *tracks, size_t tracks_len, const uint32_t *segments,   \
         size_t segments_len, const uint8_t *text, size_t text_len
 
+/* Where a text is wrong, last in every call that is lent the catalogue. W-207: "a bad title carries the lowest such track and the
+ * offset": a 200 for a title that is not UTF-8 writes both. 207 writes the offset alone. Any other refusal, a 200 for another rule
+ * among them, and every success leave both as they were. */
+#define REF_PLACE uint32_t *bad_track, uint32_t *bad_offset
+
 /* counts: groups, tracks, segments, text octets; they are written where the card is accepted. block is written by 211 and 214
  * to 218 alone: the lowest bad block, by its place on the card from 0. */
 uint32_t ref_card_load(const uint8_t *card, size_t card_len, uint32_t *groups, size_t groups_len, uint32_t *tracks,
@@ -64,26 +69,27 @@ uint32_t ref_card_load(const uint8_t *card, size_t card_len, uint32_t *groups, s
                        uint32_t counts[4], uint32_t *block);
 
 /* The catalogue's card fills the front of the lent octets; blocks is how many it has. */
-uint32_t ref_card_write(REF_CATALOGUE, uint8_t *card, size_t card_len, uint32_t *blocks);
+uint32_t ref_card_write(REF_CATALOGUE, uint8_t *card, size_t card_len, uint32_t *blocks, REF_PLACE);
 
 /* The starts fill the front of the table; line is written by 226 and 227 alone, count where the sheet is accepted. */
 uint32_t ref_cue_sheet(const uint8_t *sheet, size_t sheet_len, uint32_t *starts, size_t starts_len, uint32_t *count,
                        uint32_t *line);
 
-uint32_t ref_start(REF_CATALOGUE, const uint8_t *name, size_t name_len, uint32_t mask, uint8_t ccid, ref_state *state);
-uint32_t ref_set_name(REF_CATALOGUE, ref_state *state, const uint8_t *name, size_t name_len);
-uint32_t ref_activate(REF_CATALOGUE, ref_state *state, uint32_t group);
-uint32_t ref_deactivate(REF_CATALOGUE, ref_state *state);
-uint32_t ref_advance(REF_CATALOGUE, ref_state *state, uint32_t d);
-uint32_t ref_connect(REF_CATALOGUE, ref_state *state, uint32_t client, uint32_t mtu, uint8_t encrypted);
-uint32_t ref_disconnect(REF_CATALOGUE, ref_state *state, uint32_t client);
-uint32_t ref_subscribe(REF_CATALOGUE, ref_state *state, uint32_t client, uint32_t characteristic);
-uint32_t ref_unsubscribe(REF_CATALOGUE, ref_state *state, uint32_t client, uint32_t characteristic);
+uint32_t ref_start(REF_CATALOGUE, const uint8_t *name, size_t name_len, uint32_t mask, uint8_t ccid, ref_state *state,
+                   REF_PLACE);
+uint32_t ref_set_name(REF_CATALOGUE, ref_state *state, const uint8_t *name, size_t name_len, REF_PLACE);
+uint32_t ref_activate(REF_CATALOGUE, ref_state *state, uint32_t group, REF_PLACE);
+uint32_t ref_deactivate(REF_CATALOGUE, ref_state *state, REF_PLACE);
+uint32_t ref_advance(REF_CATALOGUE, ref_state *state, uint32_t d, REF_PLACE);
+uint32_t ref_connect(REF_CATALOGUE, ref_state *state, uint32_t client, uint32_t mtu, uint8_t encrypted, REF_PLACE);
+uint32_t ref_disconnect(REF_CATALOGUE, ref_state *state, uint32_t client, REF_PLACE);
+uint32_t ref_subscribe(REF_CATALOGUE, ref_state *state, uint32_t client, uint32_t characteristic, REF_PLACE);
+uint32_t ref_unsubscribe(REF_CATALOGUE, ref_state *state, uint32_t client, uint32_t characteristic, REF_PLACE);
 uint32_t ref_read(REF_CATALOGUE, ref_state *state, uint32_t client, uint32_t characteristic, uint32_t offset,
-                  uint8_t *out, size_t out_len, uint32_t *length);
+                  uint8_t *out, size_t out_len, uint32_t *length, REF_PLACE);
 uint32_t ref_write(REF_CATALOGUE, ref_state *state, uint32_t client, uint32_t characteristic, const uint8_t *value,
-                   size_t value_len);
+                   size_t value_len, REF_PLACE);
 /* served: client, characteristic, length; three zeros where nothing is owed. */
-uint32_t ref_take(REF_CATALOGUE, ref_state *state, uint8_t *out, size_t out_len, uint32_t served[3]);
+uint32_t ref_take(REF_CATALOGUE, ref_state *state, uint8_t *out, size_t out_len, uint32_t served[3], REF_PLACE);
 
 #endif

@@ -1,5 +1,6 @@
 /* Tests of the second program: cases whose answers were worked out by hand from the documents, then random calls, which are
- * made for the sanitizers. That it gives the library's answers is not tried here; the comparison does that.
+ * made for the sanitizers, and whose 200 and 207 are worked out a second time. That it gives the library's answers is not tried
+ * here; the comparison does that.
  *
  * Usage: test [histories [seed]]. A comment in quotation marks is a sentence of document 01; among the cue sheets, and where it
  * names a request, one of document 02. */
@@ -62,6 +63,7 @@ static void lend_full(uint32_t first)
 }
 
 #define FILL 0xA5
+#define UNTOUCHED 0xA5A5A5A5u /* four of FILL */
 static int all_are(const void *octets, uint8_t octet, size_t len)
 {
     const uint8_t *p = octets;
@@ -79,6 +81,15 @@ enum { START, SET_NAME, ACTIVATE, DEACTIVATE, ADVANCE, CONNECT, DISCONNECT, SUBS
 
 static struct { uint8_t out[160]; uint32_t length, served[3]; } said;
 
+/* W-207: where the text is wrong. A 200 carries both or neither, 207 the offset alone; nothing else touches them. */
+static struct { uint32_t track, offset; } place;
+#define PLACE &place.track, &place.offset
+static int place_fits(uint32_t refusal)
+{
+    int has_track = place.track != UNTOUCHED, has_offset = place.offset != UNTOUCHED;
+    return refusal == 200 ? has_track == has_offset : !has_track && has_offset == (refusal == 207);
+}
+
 #define LENT(t) t##0, lent.len[0], t##1, lent.len[1], t##2, lent.len[2], t##3, lent.len[3]
 /* `what` is a characteristic, the Content Control ID of a start, or whether a connect is encrypted; `number` a mask, group,
  * time, ATT_MTU or offset; the octets are a name or a value; `room` is that of the output. */
@@ -90,28 +101,33 @@ static uint32_t makes(int call, uint32_t client, uint32_t what, uint32_t number,
     ref_state before;
 
     memset(&said, FILL, sizeof said);
+    memset(&place, FILL, sizeof place);
     out = exact(said.out, room);
     memcpy(&before, &s, sizeof s);
     switch (call) {
-    case START: refusal = ref_start(LENT(t), in, len, number, (uint8_t)what, &s); break;
-    case SET_NAME: refusal = ref_set_name(LENT(t), &s, in, len); break;
-    case ACTIVATE: refusal = ref_activate(LENT(t), &s, number); break;
-    case DEACTIVATE: refusal = ref_deactivate(LENT(t), &s); break;
-    case ADVANCE: refusal = ref_advance(LENT(t), &s, number); break;
-    case CONNECT: refusal = ref_connect(LENT(t), &s, client, number, (uint8_t)what); break;
-    case DISCONNECT: refusal = ref_disconnect(LENT(t), &s, client); break;
-    case SUBSCRIBE: refusal = ref_subscribe(LENT(t), &s, client, what); break;
-    case UNSUBSCRIBE: refusal = ref_unsubscribe(LENT(t), &s, client, what); break;
-    case READ: refusal = ref_read(LENT(t), &s, client, what, number, out, room, &said.length); answer = said.length; break;
-    case WRITE: refusal = ref_write(LENT(t), &s, client, what, in, len); break;
-    default: refusal = ref_take(LENT(t), &s, out, room, said.served); answer = said.served[2]; break;
+    case START: refusal = ref_start(LENT(t), in, len, number, (uint8_t)what, &s, PLACE); break;
+    case SET_NAME: refusal = ref_set_name(LENT(t), &s, in, len, PLACE); break;
+    case ACTIVATE: refusal = ref_activate(LENT(t), &s, number, PLACE); break;
+    case DEACTIVATE: refusal = ref_deactivate(LENT(t), &s, PLACE); break;
+    case ADVANCE: refusal = ref_advance(LENT(t), &s, number, PLACE); break;
+    case CONNECT: refusal = ref_connect(LENT(t), &s, client, number, (uint8_t)what, PLACE); break;
+    case DISCONNECT: refusal = ref_disconnect(LENT(t), &s, client, PLACE); break;
+    case SUBSCRIBE: refusal = ref_subscribe(LENT(t), &s, client, what, PLACE); break;
+    case UNSUBSCRIBE: refusal = ref_unsubscribe(LENT(t), &s, client, what, PLACE); break;
+    case READ:
+        refusal = ref_read(LENT(t), &s, client, what, number, out, room, &said.length, PLACE);
+        answer = said.length;
+        break;
+    case WRITE: refusal = ref_write(LENT(t), &s, client, what, in, len, PLACE); break;
+    default: refusal = ref_take(LENT(t), &s, out, room, said.served, PLACE); answer = said.served[2]; break;
     }
     memcpy(said.out, room == 0 ? said.out : out, room);
     /* "A refusal returns its number alone and alters nothing." */
     CHECK(refusal == 0 || (memcmp(&before, &s, sizeof s) == 0 && all_are(&said, FILL, sizeof said)));
     /* "lent octets behind the answer stay"; and the state that is left stands, since 202 comes behind 201. */
     CHECK(refusal != 0 || (answer <= room && all_are(said.out + answer, FILL, sizeof said.out - answer)));
-    CHECK(refusal != 0 || ref_disconnect(LENT(t), &s, 4) == 202);
+    CHECK(refusal != 0 || ref_disconnect(LENT(t), &s, 4, PLACE) == 202);
+    CHECK(place_fits(refusal));
     free(t0); free(t1); free(t2); free(t3); free(in); free(out);
     return refusal;
 }
@@ -426,9 +442,104 @@ static void take_cases(void)
     }
 }
 
+/* ---- W-207 a second time: UTF-8 by the table of RFC 3629, and each rule apart */
+
+/* The octets of a character: how many, the range of the first, and that of the second; all others are 80 to BF. */
+static const struct { uint32_t octets; uint8_t first[2], second[2]; } CHARACTER[9] = {
+    {1, {0x00, 0x7F}, {0x00, 0xFF}}, {2, {0xC2, 0xDF}, {0x80, 0xBF}}, {3, {0xE0, 0xE0}, {0xA0, 0xBF}}, {3, {0xE1, 0xEC}, {0x80, 0xBF}},
+    {3, {0xED, 0xED}, {0x80, 0x9F}}, {3, {0xEE, 0xEF}, {0x80, 0xBF}}, {4, {0xF0, 0xF0}, {0x90, 0xBF}}, {4, {0xF1, 0xF3}, {0x80, 0xBF}},
+    {4, {0xF4, 0xF4}, {0x80, 0x8F}}};
+
+static int is_character(uint32_t row, const uint8_t *p, uint32_t left)
+{
+    if (CHARACTER[row].octets > left || p[0] < CHARACTER[row].first[0] || p[0] > CHARACTER[row].first[1]) return 0;
+    EACH(1, CHARACTER[row].octets) {
+        if (p[k] < (k == 1 ? CHARACTER[row].second[0] : 0x80) || p[k] > (k == 1 ? CHARACTER[row].second[1] : 0xBF)) return 0;
+    }
+    return 1;
+}
+
+/* Marks the offsets to which whole valid characters lead; the farthest is the length, or where none starts. At most 128 octets. */
+static uint32_t farthest(const uint8_t *p, uint32_t len)
+{
+    uint8_t reached[129] = {1};
+    uint32_t far = 0;
+    for (uint32_t at = 0; at <= len; at++) {
+        if (!reached[at]) continue;
+        far = at;
+        EACH(0, 9) if (is_character(k, p + at, len - at)) reached[at + CHARACTER[k].octets] = 1;
+    }
+    return far;
+}
+
+/* What 200 is to carry for the lent catalogue, where `wrong`; and whether there is a bad title beside another rule that is broken. */
+static struct { int wrong, beside; uint32_t track, offset; } judged;
+static void judge(void)
+{
+    const uint32_t *g = lent.words[GROUPS], *t = lent.words[TRACKS], *starts = lent.words[SEGMENTS];
+    const size_t *len = lent.len;
+    uint64_t tracks = 0, segments = 0;
+    uint32_t lowest = UNTOUCHED, offset = UNTOUCHED;
+    int plain = len[0] > 192 || len[1] > 1536 || len[2] > 1024 || len[3] > 32768 || len[0] % 3 != 0 || len[1] % 6 != 0;
+
+    EACH(0, len[0] / 3) {
+        plain |= g[3 * k] > (k == 0 ? 0 : k - 1) || g[3 * k + 1] != tracks;
+        tracks += g[3 * k + 2];
+    }
+    plain |= tracks != len[1] / 6;
+    EACH(0, len[1] / 6) segments += t[6 * k + 3];
+    plain |= segments != len[2];
+    /* From the last track to the first, so that the bad title found last is the lowest. */
+    for (uint32_t k = (uint32_t)(len[1] / 6); k > 0; k--) {
+        const uint32_t *track = t + 6 * (k - 1), d = track[0] == UNKNOWN ? END : track[0];
+        uint64_t end = (uint64_t)track[4] + track[5];
+        segments -= track[3];
+        plain |= d > END || track[2] != segments || track[5] > 128 || end > len[3];
+        for (uint64_t at = segments; at < segments + track[3] && at < len[2]; at++) {
+            plain |= starts[at] >= d || (at == segments ? starts[at] != 0 : starts[at - 1] >= starts[at]);
+        }
+        if (track[5] <= 128 && end <= len[3] && farthest(lent.text + track[4], track[5]) < track[5]) {
+            lowest = k - 1;
+            offset = farthest(lent.text + track[4], track[5]);
+        }
+    }
+    judged.wrong = plain || lowest != UNTOUCHED;
+    judged.beside = plain && lowest != UNTOUCHED;
+    judged.track = plain ? UNTOUCHED : lowest;
+    judged.offset = plain ? UNTOUCHED : offset;
+}
+/* The lent catalogue was judged, and a call gave this. */
+#define AS_JUDGED(refusal)                                                                                                 \
+    CHECK(((refusal) == 200) == judged.wrong && ((refusal) != 200 || (place.track == judged.track && place.offset == judged.offset)))
+
 /* ---- Refusals: 200, 207, the order of the table, 201 */
 
-#define WRONG(edit) do { lend_sample(); edit; EQUAL(start(0), 200); } while (0)
+static uint32_t writes_card(size_t room);
+
+/* W-207: every call that is lent the catalogue gives 200 with that place, the card writer too. */
+static void all_give_200(int line, uint32_t track, uint32_t offset)
+{
+    EACH(0, CALLS + 1) {
+        equal_at(line, k < CALLS ? makes((int)k, 0, 1, 0, "a", 1, ROOM) : writes_card(65536), 200, "the refusal");
+        equal_at(line, place.track, track, "the track"); equal_at(line, place.offset, offset, "the offset");
+    }
+}
+
+/* Spoils no title, or every one that is not empty, or one: the sample's are at 0, 10 and 14, and the full catalogue's lowest and
+ * highest that are not empty at 128 and 32640. */
+#define SPOILS 7
+static void spoil_titles(uint32_t how)
+{
+    static const uint32_t AT[SPOILS] = {0, 0, 0, 10, 14, 128, 32640};
+    if (how == 1) memset(lent.text, 0x80, sizeof lent.text);
+    if (how > 1) lent.text[AT[how]] = 0x80;
+}
+
+/* A rule is broken that is not a title's UTF-8. W-207: "every other 200 carries neither and comes before", be a bad title before it,
+ * behind it, or of the same track. */
+#define WRONG(edit)                                                                                                        \
+    EACH(0, SPOILS) { lend_sample(); edit; spoil_titles(k); all_give_200(__LINE__, UNTOUCHED, UNTOUCHED); }
+#define TITLE(edit, track, offset) do { lend_sample(); edit; all_give_200(__LINE__, track, offset); } while (0)
 #define RIGHT(edit) do { lend_sample(); edit; EQUAL(start(0), 0); } while (0)
 static void catalogue_cases(void)
 {
@@ -451,31 +562,144 @@ static void catalogue_cases(void)
     WRONG(starts[0] = 1); WRONG(starts[1] = 0); WRONG(starts[2] = 1500); RIGHT(starts[2] = 5999); RIGHT(t[1] = 0xFFFFFFFFu);
     /* "Titles, also empty ones, lie in the text, have at most 128 octets and are UTF-8." What is no title may be anything. */
     RIGHT(t[16] = 18); WRONG(t[16] = 19); WRONG(t[16] = 0xFFFFFFFFu); WRONG(t[22] = 15); WRONG(t[23] = 5); WRONG(t[23] = 0xFFFFFFFFu);
-    WRONG(t[4] = 1); WRONG(t[5] = 1); RIGHT(t[5] = 0); WRONG(lent.text[17] = 0x80); RIGHT(t[23] = 3; lent.text[17] = 0xFF);
-    RIGHT(len[3] = 146; t[22] = 18; t[23] = 128); WRONG(len[3] = 147; t[22] = 18; t[23] = 129);
+    TITLE(t[4] = 1, 0, 0); TITLE(t[5] = 1, 0, 0); RIGHT(t[5] = 0); RIGHT(t[16] = 1); TITLE(lent.text[17] = 0x80, 3, 3);
+    RIGHT(t[23] = 3; lent.text[17] = 0xFF); RIGHT(len[3] = 146; t[22] = 18; t[23] = 128); WRONG(len[3] = 147; t[22] = 18; t[23] = 129);
     /* "At most 64 groups, 256 tracks, 1,024 segments, 32,768 text octets." */
     RIGHT(lend_full(193)); RIGHT(lend_full(256)); WRONG(lend_full(193); len[0] = 195; g[193] = 256); WRONG(lend_full(193); len[3] = 32769);
     WRONG(lend_full(193); len[1] = 1542; g[191] = 2; t[1538] = 1024); WRONG(lend_full(193); len[2] = 1025; starts[1024] = 399; t[1533] = 5);
 }
 
-/* "UTF-8 is RFC 3629": the bounds of its table of octets, and one beyond each. */
+/* All titles of the full catalogue have 128 octets, and use up the text. */
+static void lend_long_titles(void)
+{
+    lend_full(193);
+    EACH(0, 256) lent.words[TRACKS][6 * k + 5] = 128;
+}
+
+/* W-207: "a bad title carries the lowest such track and the offset". The sample's titles are C3 9C and "berfahrt", "Rast", none and
+ * "Ziel", of tracks 0 to 3. */
+static void title_cases(void)
+{
+    size_t *len = lent.len;
+    uint32_t *t = lent.words[TRACKS], *starts = lent.words[SEGMENTS];
+    uint8_t *text = lent.text;
+    /* At the front, in the middle, at the end. */
+    TITLE(text[0] = 0x9C, 0, 0); TITLE(text[10] = 0x80, 1, 0); TITLE(text[14] = 0xFF, 3, 0); TITLE(text[2] = 0x9C, 0, 2);
+    TITLE(text[12] = 0xFF, 1, 2); TITLE(text[9] = 0xF8, 0, 9); TITLE(text[13] = 0xBF, 1, 3); TITLE(text[17] = 0xC1, 3, 3);
+    /* A truncated end, at the offset of the character's first octet; what lies behind the title does not make it whole. */
+    TITLE(text[13] = 0xC3, 1, 3); TITLE(text[13] = 0xC3; text[14] = 0xA4; t[22] = 15; t[23] = 3, 1, 3); TITLE(text[17] = 0xC3, 3, 3);
+    TITLE(text[9] = 0xE2, 0, 9); TITLE(memcpy(text + 12, "\xE2\x82", 2), 1, 2); TITLE(memcpy(text + 12, "\xE2\x82\xAC", 3), 1, 2);
+    TITLE(memcpy(text + 11, "\xF0\x9F\x8E", 3), 1, 1); TITLE(memcpy(text + 14, "\xF0\x9F\x8E\xB5", 4); t[23] = 3, 3, 0);
+    RIGHT(memcpy(text + 14, "\xF0\x9F\x8E\xB5", 4));
+    /* A bad octet inside a character, likewise; and characters that are whole, but not valid. */
+    TITLE(text[1] = 'x', 0, 0); TITLE(text[1] = 0xC3, 0, 0); TITLE(memcpy(text + 10, "\xF0\x9F\x8Ex", 4), 1, 0);
+    TITLE(memcpy(text + 11, "\xE2\x82x", 3), 1, 1); TITLE(memcpy(text + 10, "a\xE2x\xAC", 4), 1, 1);
+    TITLE(memcpy(text + 11, "\xE0\x9F\xBF", 3), 1, 1); TITLE(memcpy(text + 15, "\xED\xA0\x80", 3), 3, 1);
+    TITLE(memcpy(text + 4, "\xF4\x90\x80\x80", 4), 0, 4); TITLE(memcpy(text + 12, "\xC0\x80", 2), 1, 2);
+    /* Two bad titles, of which the lower track's is bad further on, or lies further on in the text; and all of them. */
+    TITLE(text[10] = text[14] = 0x80, 1, 0); TITLE(text[13] = text[14] = 0x80, 1, 3); TITLE(text[9] = text[10] = 0x80, 0, 9);
+    TITLE(t[10] = 14; t[22] = 10; text[10] = text[17] = 0x80, 1, 3); TITLE(t[4] = 14; t[5] = 4; text[10] = text[16] = 0x80, 0, 2);
+    TITLE(memset(text, 0x80, 18), 0, 0); TITLE(memset(text, 0x80, 18); t[5] = 0, 1, 0);
+    TITLE(memset(text, 0x80, 18); t[5] = t[11] = 0, 3, 0);
+    /* Two octets in one title: the first. */
+    TITLE(text[11] = text[13] = 0xFF, 1, 1);
+    /* One title of two tracks. */
+    TITLE(t[22] = 10; text[12] = 0xFF, 1, 2); TITLE(t[22] = 0; t[23] = 10; text[9] = 0xC3, 0, 9);
+    TITLE(t[16] = 14; t[17] = 4; text[15] = 0x80, 2, 1);
+    /* Titles that overlap: the bad octet has an offset in each. One begins, and one ends, inside a character of another. */
+    TITLE(t[5] = 14; text[12] = 0xFF, 0, 12); TITLE(t[10] = 8; t[11] = 6; text[12] = 0xFF, 1, 4);
+    TITLE(t[22] = 11; t[23] = 3; text[12] = 0xFF, 1, 2); TITLE(t[11] = 2; t[22] = 10; text[12] = 0xFF, 3, 2);
+    TITLE(t[22] = 1; t[23] = 4, 3, 0); TITLE(t[22] = 0; t[23] = 1, 3, 0); TITLE(t[16] = 1; t[17] = 1, 2, 0);
+    TITLE(text[9] = 0xC3; text[10] = 0xA4, 0, 9); TITLE(t[5] = 9; text[9] = 0xC3; text[10] = 0xA4, 1, 0);
+    /* Over 128 octets, or outside the text, and not UTF-8 as well; and such as would not be UTF-8 if they were cut at 128, or where the
+     * text ends. */
+    WRONG(len[3] = 147; t[22] = 18; t[23] = 129; text[18] = 0x80); WRONG(len[3] = 147; t[22] = 18; t[23] = 129; text[146] = 0x80);
+    WRONG(len[3] = 147; t[22] = 18; t[23] = 129; text[145] = 0xC3; text[146] = 0xA4); WRONG(t[23] = 5; text[14] = 0x80);
+    WRONG(t[23] = 5; text[17] = 0xC3; text[18] = 0xA4); WRONG(t[22] = 19; text[18] = 0x80); WRONG(len[3] = 200; t[5] = 129; t[4] = 1);
+    /* Two rules of one track, and of two: a title that is bad at 0, and a later one that is too long or too far on. */
+    WRONG(t[4] = 1; t[0] = END + 1); WRONG(t[4] = 1; t[23] = 5); WRONG(len[3] = 200; t[4] = 1; t[23] = 129); WRONG(t[4] = 1; t[16] = 19);
+    /* The rules of duration and starts at the last track, behind every bad title, since above they are broken at track 0. */
+    WRONG(t[18] = END + 1); RIGHT(len[2] = 5; t[21] = 2; starts[4] = 899); WRONG(len[2] = 5; t[21] = 2; starts[4] = 900);
+    WRONG(len[2] = 5; t[21] = 2; starts[3] = 1; starts[4] = 2); WRONG(len[2] = 5; t[21] = 2); WRONG(t[21] = 1); WRONG(t[20] = 4);
+    /* 128 octets, of which the last, or the last character, is bad. */
+    TITLE(len[3] = 146; t[22] = 18; t[23] = 128; text[145] = 0x80, 3, 127);
+    TITLE(len[3] = 146; t[22] = 18; t[23] = 128; text[145] = 0xC3, 3, 127);
+    TITLE(len[3] = 146; t[22] = 18; t[23] = 128; memcpy(text + 144, "\xE2\x82", 2), 3, 126);
+    TITLE(len[3] = 146; t[22] = 18; t[23] = 128; memcpy(text + 143, "\xF0\x9F\x8E", 3), 3, 125);
+    RIGHT(len[3] = 146; t[22] = 18; t[23] = 128; memcpy(text + 142, "\xF0\x9F\x8E\xB5", 4));
+    /* The full catalogue: its last track, a character across two titles, and an octet at every 131st place. */
+    TITLE(lend_long_titles(); text[32767] = 0xC3, 255, 127); TITLE(lend_long_titles(); text[32640] = 0x80, 255, 0);
+    TITLE(lend_long_titles(); text[127] = 0xC3; text[128] = 0xA4, 0, 127); TITLE(lend_long_titles(); memset(text, 0xBF, 32768), 0, 0);
+    RIGHT(lend_long_titles()); RIGHT(lend_long_titles(); EACH(0, 16384) { text[2 * k] = 0xC3; text[2 * k + 1] = 0xA4; });
+    lend_long_titles();
+    EACH(0, 251) {
+        text[131 * k] = 0xFF; EQUAL(start(0), 200); EQUAL(place.track, 131 * k / 128); EQUAL(place.offset, 131 * k % 128);
+        text[131 * k] = 'a';
+    }
+}
+
+/* "UTF-8 is RFC 3629": the bounds of its table of octets, and one beyond each. W-207, of 207: "for a name over 128 octets, 128, tested
+ * first" */
+#define NAMED(len, refusal, at)                                                                                            \
+    do {                                                                                                                   \
+        EQUAL(makes(START, 0, 0, 0, name, len, 0), refusal); EQUAL(place.offset, at);                                      \
+        EQUAL(makes(SET_NAME, 0, 0, 0, name, len, 0), refusal); EQUAL(place.offset, at);                                   \
+    } while (0)
 static void name_cases(void)
 {
     static const char *const GOOD[] = {
         "", "\x01\x7F", "\xC2\x80", "\xDF\xBF", "\xE0\xA0\x80", "\xE0\xBF\xBF", "\xE1\x80\x80", "\xEC\xBF\xBF", "\xED\x80\x80",
         "\xED\x9F\xBF", "\xEE\x80\x80", "\xEF\xBF\xBF", "\xF0\x90\x80\x80", "\xF0\xBF\xBF\xBF", "\xF1\x80\x80\x80",
         "\xF3\xBF\xBF\xBF", "\xF4\x80\x80\x80", "\xF4\x8F\xBF\xBF", "a\xC3\xA4\xE2\x82\xAC\xF0\x9F\x8E\xB5z"};
-    static const char *const BAD[] = {
-        "\x80\x90\x80\x80", "\xBF\x80", "\xC0\x80", "\xC1\xBF", "\xC2\x7F", "\xC2\xC0", "a\xC2", "\xE0\x9F\xBF", "\xED\xA0\x80",
-        "\xED\xBF\xBF", "\xE1\x80", "\xE1\x7F\x80", "\xE1\x80\x7F", "\xE1\x80\xC0", "\xF0\x8F\xBF\xBF", "\xF4\x90\x80\x80", "\xF5\x80\x80\x80",
-        "\xF7\xBF\xBF\xBF", "\xF1\x80\x80", "\xF1\x80\x7F\x80", "\xF1\x80\x80\xC0", "\xF8\x90\x80\x80", "\xFF", "\xC3\xA4\xA4"};
-    uint8_t name[129];
+    static const struct { const char *name; uint32_t at; } BAD[] = {
+        {"\x80\x90\x80\x80", 0}, {"\xBF\x80", 0}, {"\xC0\x80", 0}, {"\xC1\xBF", 0}, {"\xC2\x7F", 0}, {"\xC2\xC0", 0}, {"a\xC2", 1},
+        {"\xE0\x9F\xBF", 0}, {"\xED\xA0\x80", 0}, {"\xED\xBF\xBF", 0}, {"\xE1\x80", 0}, {"\xE1\x7F\x80", 0}, {"\xE1\x80\x7F", 0},
+        {"\xE1\x80\xC0", 0}, {"\xF0\x8F\xBF\xBF", 0}, {"\xF4\x90\x80\x80", 0}, {"\xF5\x80\x80\x80", 0}, {"\xF7\xBF\xBF\xBF", 0},
+        {"\xF1\x80\x80", 0}, {"\xF1\x80\x7F\x80", 0}, {"\xF1\x80\x80\xC0", 0}, {"\xF8\x90\x80\x80", 0}, {"\xFF", 0}, {"\xC3\xA4\xA4", 2},
+        {"ab\xE2\x82", 2}, {"\xE2\x82\xAC\xE2\x82", 3}, {"\xF0\x9F\x8E\xB5\xF0\x9F\x8E", 4}, {"a\xC3\xA4\xF0\x9F\x8Ez", 3}};
+    static const uint8_t SECOND[10] = {0x00, 0x7F, 0x80, 0x8F, 0x90, 0x9F, 0xA0, 0xBF, 0xC0, 0xFF};
+    enum { GOODS = sizeof GOOD / sizeof GOOD[0] };
+    uint8_t name[1000];
     lend_sample(); EQUAL(start(0), 0);
-    EACH(0, sizeof GOOD / sizeof GOOD[0]) EQUAL(set_name(GOOD[k]), 0);
-    EACH(0, sizeof BAD / sizeof BAD[0]) EQUAL(set_name(BAD[k]), 207);
+    EACH(0, GOODS) EQUAL(set_name(GOOD[k]), 0);
+    /* Behind whole characters the offset is so much more, and what follows is no tail and does not matter. */
+    EACH(0, sizeof BAD / sizeof BAD[0]) {
+        EQUAL(set_name(BAD[k].name), 207); EQUAL(place.offset, BAD[k].at);
+        for (uint32_t j = 0; j < GOODS; j++) {
+            size_t len = (size_t)sprintf((char *)name, "%s%s%s", GOOD[j], BAD[k].name, GOOD[(j + k) % GOODS]);
+            NAMED(len, 207, strlen(GOOD[j]) + BAD[k].at);
+        }
+    }
+    /* No octets, 128 and more; zero is an octet as any other. */
     memset(name, 'x', sizeof name); name[7] = 0;
-    EQUAL(makes(START, 0, 0, 0, name, 128, 0), 0); EQUAL(s.name_len, 128); EQUAL(makes(START, 0, 0, 0, name, 129, 0), 207);
-    name[127] = 0xC3; EQUAL(makes(START, 0, 0, 0, name, 128, 0), 207); /* cut inside a character */
+    NAMED(0, 0, UNTOUCHED); NAMED(127, 0, UNTOUCHED); NAMED(128, 0, UNTOUCHED); EQUAL(s.name_len, 128);
+    NAMED(129, 207, 128); NAMED(1000, 207, 128);
+    /* Over 128 octets and not UTF-8 either, from the first octet on, or from the 128th, or from the one behind. */
+    name[0] = 0x80; NAMED(1, 207, 0); NAMED(128, 207, 0); NAMED(129, 207, 128); NAMED(1000, 207, 128); name[0] = 'x';
+    name[128] = 0xFF; NAMED(128, 0, UNTOUCHED); NAMED(129, 207, 128); name[128] = 'x';
+    /* Cut inside a character of two, three or four octets, which ends at 129 or at 128. */
+    name[127] = 0xC3; NAMED(128, 207, 127); NAMED(129, 207, 128); name[128] = 0xA4; NAMED(128, 207, 127); NAMED(129, 207, 128);
+    memcpy(name + 125, "\xE2\x82\xAC", 3); NAMED(128, 0, UNTOUCHED); NAMED(127, 207, 125); NAMED(126, 207, 125); NAMED(125, 0, UNTOUCHED);
+    memcpy(name + 124, "\xF0\x9F\x8E\xB5", 4); NAMED(128, 0, UNTOUCHED);
+    EACH(125, 128) NAMED(k, 207, 124);
+    name[127] = 'x'; NAMED(128, 207, 124); name[125] = 'x'; NAMED(128, 207, 124); name[124] = 'x'; NAMED(128, 207, 126);
+    memset(name, 'x', sizeof name);
+    EACH(0, 128) { name[k] = 0xFF; NAMED(128, 207, k); name[k] = 'x'; }
+    /* Every first octet, with the bounds of the second, cut behind each. */
+    for (uint32_t first = 0; first < 256; first++) {
+        EACH(0, 40) {
+            uint32_t len = 1 + k / 10;
+            const uint8_t octets[4] = {(uint8_t)first, SECOND[k % 10], 0x80, 0xBF};
+            uint32_t refusal = makes(START, 0, 0, 0, octets, len, 0), at = farthest(octets, len);
+            EQUAL(refusal, at < len ? 207 : 0); EQUAL(place.offset, at < len ? at : UNTOUCHED);
+        }
+    }
+    /* 200 comes before 207 and has its own place; 201 has none, also where it is for the name of the state. */
+    EQUAL(start(0), 0); lent.text[17] = 0x80; EQUAL(set_name("a\xFF"), 200); EQUAL(place.track, 3); EQUAL(place.offset, 3);
+    EQUAL(makes(START, 0, 0, 0, "\xFF", 1, 0), 200); EQUAL(place.track, 3); EQUAL(place.offset, 3); lent.len[TEXT] = 17;
+    EQUAL(set_name("a\xFF"), 200); EQUAL(place.track, UNTOUCHED); EQUAL(place.offset, UNTOUCHED);
+    lend_sample(); s.name[2] = 0xFF; EQUAL(set_name("a\xFF"), 201); EQUAL(place.offset, UNTOUCHED); EQUAL(deactivate(), 201);
+    EQUAL(place.offset, UNTOUCHED); s.name_len = 129; EQUAL(set_name("a\xFF"), 201); EQUAL(place.offset, UNTOUCHED);
 }
 
 /* Each refusal of each call, with every later one of the table that can apply as well. Client 0 is encrypted, has read the name
@@ -508,6 +732,7 @@ static void order_cases(void)
         s = good; EQUAL(MAKES(room), ROW[k].gives); s = good; EQUAL(MAKES(small), room > 0 ? 205 : ROW[k].gives);
         s = good; s.turn = 4; EQUAL(MAKES(small), room > 0 ? 205 : 201); EQUAL(MAKES(room), 201);
         lent.len[GROUPS] = 11; EQUAL(MAKES(small), 200); EQUAL(makes(START, 0, 0, 0, ZEROS, 129, 0), 200); lent.len[GROUPS] = 12;
+        lent.text[17] = 0xC3; EQUAL(MAKES(small), 200); EQUAL(place.track, 3); EQUAL(place.offset, 3); lent.text[17] = 'l';
     }
     EQUAL(start(0), 0); /* it is lent no state to look at */
     EQUAL(connects(2, 517), 0); EQUAL(writes(2, 15, 9), 0x13); EQUAL(writes(2, 15, 8) + writes(2, 15, 1), 0);
@@ -578,7 +803,6 @@ static uint8_t *add_block(uint32_t kind, uint32_t count, uint32_t octets)
     return block;
 }
 
-#define UNTOUCHED 0xA5A5A5A5u /* four of FILL */
 /* Into tables of that room. A refusal leaves them and the counts, a success what lies behind the records. W-205, W-206: 211 and
  * 214 to 218 give a block of the card; nothing else touches that word. */
 static uint32_t loads(size_t groups, size_t tracks, size_t segments, size_t text)
@@ -764,7 +988,7 @@ static void short_cases(void)
 }
 
 /* W-204: the lent catalogue into that room, and into `card` where it is written. A refusal leaves room and blocks as they were,
- * a success what lies behind the last block. */
+ * a success what lies behind the last block. W-207: its 200 carries what every 200 does. */
 static uint32_t writes_card(size_t room)
 {
     uint32_t *t0 = exact(lent.words[0], 4 * lent.len[0]), *t1 = exact(lent.words[1], 4 * lent.len[1]);
@@ -772,10 +996,12 @@ static uint32_t writes_card(size_t room)
     uint8_t *t3 = exact(lent.text, lent.len[3]), *out;
     memset(card, FILL, sizeof card);
     memset(&blocks, FILL, sizeof blocks);
+    memset(&place, FILL, sizeof place);
     out = exact(card, room);
-    refusal = ref_card_write(LENT(t), out, room, &blocks);
+    refusal = ref_card_write(LENT(t), out, room, &blocks, PLACE);
     card_len = refusal == 0 ? 512 * blocks : 0;
     CHECK(refusal == 0 || all_are(&blocks, FILL, sizeof blocks));
+    CHECK(place_fits(refusal));
     CHECK(card_len <= room && (room == 0 || all_are(out + card_len, FILL, room - card_len)));
     memcpy(card, room == 0 ? card : out, card_len);
     free(t0); free(t1); free(t2); free(t3); free(out);
@@ -814,6 +1040,7 @@ static void writer_cases(void)
     /* "Octets behind the last block stay.": rooms beside whole blocks; "200 first, then 213" */
     EQUAL(writes_card(2049), 0); EQUAL(writes_card(2559), 0); EQUAL(writes_card(2560), 0); EQUAL(writes_card(1536), 213);
     EQUAL(writes_card(511), 213); EQUAL(writes_card(0), 213); lent.len[GROUPS] = 11; EQUAL(writes_card(0), 200); EQUAL(writes_card(65536), 200);
+    lend_sample(); lent.text[12] = 0xE2; EQUAL(writes_card(0), 200); EQUAL(place.track, 1); EQUAL(place.offset, 2);
     lend_sample(); lent.words[TRACKS][0] = UNKNOWN; TAKES(4);
     /* Nothing; groups alone, and text alone: exactly full last blocks, and one record over. */
     lent = (tables){.len = {0}}; TAKES(0); EQUAL(writes_card(600), 0);
@@ -924,23 +1151,45 @@ static uint32_t any(void)
 static uint32_t below(uint32_t n) { return any() % n; }
 static int one_in(uint32_t n) { return below(n) == 0; }
 
+/* Whole characters, of which the last may be cut; one time in so many an octet of them becomes any other. */
+static void random_text(uint8_t *to, size_t len, uint32_t damage)
+{
+    static const char *const PIECE[8] = {"a", "r", "\xC2\x80", "\xC3\xA4",
+                                         "\xE2\x82\xAC", "\xED\x9F\xBF", "\xF0\x9F\x8E\xB5", "\xF4\x8F\xBF\xBF"};
+    for (size_t at = 0; at < len; at++) {
+        const char *piece = PIECE[one_in(2) ? 0 : below(8)];
+        if (at + strlen(piece) > len && !one_in(damage)) piece = "z";
+        for (to[at] = (uint8_t)*piece++; *piece != 0 && at + 1 < len; piece++) to[++at] = (uint8_t)*piece;
+    }
+    if (len > 0 && one_in(damage)) to[below((uint32_t)len)] = (uint8_t)any();
+}
+
 static unsigned long accepted[CALLS], refused[CALLS];
-static void random_call(void)
+static uint32_t random_call(void)
 {
     static const uint32_t WRITABLE[6] = {7, 8, 15, 18, 18, 18}, RANGE[CALLS] = {1, 1, 65, 1, 300, 600, 1, 1, 1, 140, 1, 1};
     uint32_t call = below(CALLS + 6), client = one_in(24) ? 4 : below(4), what = one_in(12) ? below(30) : SLOT[below(10)], number;
     uint8_t octets[140];
+    uint32_t refusal;
     size_t len = below(131), room = one_in(16) ? below(128) : 128 + below(20);
     call = call >= CALLS ? WRITE : call == START && !one_in(20) ? TAKE : call == DISCONNECT && !one_in(4) ? SUBSCRIBE : call;
     number = one_in(3) ? 0 : one_in(8) ? any() : below(RANGE[call]);
-    memset(octets, one_in(8) ? 0xC3 : 'n', sizeof octets);
+    memset(octets, 'n', sizeof octets);
+    random_text(octets, len, 4);
     if (call == WRITE) {
         what = one_in(8) ? what : WRITABLE[below(6)];
         octets[0] = what == 15 ? (uint8_t)below(10) : one_in(12) ? (uint8_t)any() : OPCODE[below(21)];
         put_number(octets + 1, one_in(4) ? (long)any() : (long)below(20) - 10);
         len = one_in(16) ? below(8) : what == 7 ? 4 : what == 18 && CARRIES_NUMBER(octets[0]) ? 5 : 1;
     }
-    (makes((int)call, client, what, number, octets, len, room) == 0 ? accepted : refused)[call]++;
+    refusal = makes((int)call, client, what, number, octets, len, room);
+    (refusal == 0 ? accepted : refused)[call]++;
+    /* W-207: 207 and its offset, where nothing comes before. */
+    if ((call == START || call == SET_NAME) && refusal != 200 && refusal != 201) {
+        uint32_t far = len > 128 ? 128 : farthest(octets, (uint32_t)len);
+        EQUAL(refusal, far < len ? 207 : 0); EQUAL(place.offset, far < len ? far : UNTOUCHED);
+    }
+    return refusal;
 }
 
 /* A call with an octet of the state, or a word, an octet and a length of the catalogue, changed and then changed back. */
@@ -948,7 +1197,7 @@ static void damaged_call(void)
 {
     static tables right;
     ref_state stood = s;
-    uint32_t table = below(3);
+    uint32_t table = below(3), refusal;
     right = lent;
     if (one_in(2)) {
         ((uint8_t *)&s)[below(sizeof s)] = (uint8_t)any();
@@ -957,9 +1206,49 @@ static void damaged_call(void)
         lent.text[below(18)] = one_in(8) ? (uint8_t)any() : 'b';
         lent.len[below(4)] -= one_in(4) ? below(4) : 0;
     }
-    random_call();
+    judge();
+    refusal = random_call();
+    AS_JUDGED(refusal);
     lent = right;
     s = stood;
+}
+
+/* A small catalogue that stands, but for a title that is cut or an octet of the text that is changed; sometimes a word or a length is
+ * then changed as well. */
+static void lend_random(void)
+{
+    uint32_t groups = below(5), tracks = groups == 0 ? 0 : below(9), octets = below(300), track = 0, segment = 0, table = below(3);
+    lent = (tables){.len = {3 * groups, 6 * tracks, 0, octets}};
+    random_text(lent.text, octets, 3);
+    EACH(0, groups) {
+        uint32_t count = k + 1 == groups ? tracks - track : below(tracks - track + 1);
+        const uint32_t record[3] = {k == 0 ? 0 : below(k), track, count};
+        memcpy(lent.words[GROUPS] + 3 * k, record, sizeof record); track += count;
+    }
+    EACH(0, tracks) {
+        uint32_t starts = below(4), last = 0, from = below(octets + 1), to = from + below(octets - from + 1);
+        int apart = one_in(8);
+        for (uint32_t j = 0; j < starts; j++) lent.words[SEGMENTS][segment + j] = last += j == 0 ? 0 : 1 + below(9);
+        /* Most titles begin and end between characters. */
+        while (!apart && from > 0 && from < octets && (lent.text[from] & 0xC0) == 0x80) from--;
+        if (to > from + 128 && !one_in(30)) to = from + 128;
+        while (!apart && to > from && to < octets && (lent.text[to] & 0xC0) == 0x80) to--;
+        const uint32_t record[6] = {one_in(4) ? UNKNOWN : last + 1, below(5), segment, starts, from, to - from};
+        memcpy(lent.words[TRACKS] + 6 * k, record, sizeof record); segment += starts;
+    }
+    lent.len[SEGMENTS] = segment;
+    if (one_in(4)) lent.words[table][below((uint32_t)lent.len[table] + 1)] = one_in(2) ? 0xFFFFFFFFu - below(3) : below(9);
+    if (one_in(16)) { table = below(4); lent.len[table] -= lent.len[table] > 0; }
+}
+
+/* How many random catalogues stand, have a bad title, break another rule, and do both. */
+static unsigned long kinds[4];
+static void random_catalogue(void)
+{
+    uint32_t refusal;
+    lend_random(); judge();
+    kinds[judged.beside ? 3 : judged.wrong ? judged.track == UNTOUCHED ? 2 : 1 : 0]++;
+    refusal = one_in(8) ? start(ALL_OPCODES) : one_in(8) ? writes_card(below(9) * 512) : random_call(); AS_JUDGED(refusal);
 }
 
 /* A card and a sheet with an octet changed and an end anywhere, into tables of any room. */
@@ -979,9 +1268,10 @@ static void history(void)
     lent.words[TRACKS][6 * below(4)] = one_in(3) ? UNKNOWN : END;
     EQUAL(start(one_in(3) ? any() : ALL_OPCODES), 0); (void)activate(below(2));
     EACH(0, 30) EQUAL((k % 10 == 0 ? connects(k / 10, 23 + below(200)) : 0) + subscribes(k / 10, SLOT[k % 10]), 0);
-    EACH(0, 150) { one_in(6) ? damaged_call() : random_call(); }
+    EACH(0, 150) { if (one_in(6)) damaged_call(); else (void)random_call(); }
     EACH(0, 30) damaged_octets();
     (void)writes_card(below(50000));
+    EACH(0, 150) random_catalogue();
 }
 
 int main(int argc, char **argv)
@@ -989,10 +1279,11 @@ int main(int argc, char **argv)
     unsigned long histories = argc > 1 ? strtoul(argv[1], NULL, 10) : 300, made = 0;
     seed += (argc > 2 ? strtoul(argv[2], NULL, 10) : 0) * 0x9E3779B97F4A7C15u;
     move_cases(); previous_segment_cases(); running_cases(); media_cases(); owed_cases(); take_cases();
-    catalogue_cases(); name_cases(); order_cases(); state_cases();
+    catalogue_cases(); title_cases(); name_cases(); order_cases(); state_cases();
     card_cases(); reason_cases(); short_cases(); writer_cases(); sheet_cases();
     for (unsigned long k = 0; k < histories; k++) history();
     EACH(0, CALLS) { CHECK(histories < 40 || (accepted[k] > 0 && refused[k] > 0)); made += accepted[k] + refused[k]; }
+    EACH(0, 4) CHECK(histories < 40 || kinds[k] > 5 * histories);
     printf("checks: %lu, failures: %lu; random histories: %lu, calls: %lu\n", checks, failures, histories, made);
     return failures == 0 ? 0 : 1;
 }

@@ -8,17 +8,22 @@ A line is the answer, the state of the player that the call leaves, and what is 
 
     media state, playing order, playback speed, seeking speed | group, track, position
 
-and stays as it is where a call is refused or is one that does not touch the player. What falls due is given as characteristics behind the client:
-'left 17 18; screen 17'. A line ends with each client, as 'ATT_MTU: subscribed; owed; waiting results', or '-' while it is unconnected. Of these only
-the sums are kept here: what fell due is added to what is owed, what a take hands out (or an unsubscribe drops) leaves it, and `seen` holds them to
-what was worked out by hand.
+and stays as it is where a call is refused or is one that does not touch the player. The answer of a refused call is 'refused', the number and, behind
+it, what 200 and 207 carry (W-207): 'refused 200 1 5' has the track and the offset of a bad title, 'refused 207 0' the offset within the name. A plain
+200 and every other refusal carry nothing.
+
+What falls due is given as characteristics behind the client: 'left 17 18; screen 17'. A line ends with each client, as 'ATT_MTU: subscribed; owed;
+waiting results', or '-' while it is unconnected. Of these only the sums are kept here: what fell due is added to what is owed, what a take hands out (or
+an unsubscribe drops) leaves it, and `seen` holds them to what was worked out by hand.
 """
 import struct
 
 # The catalogues of the program: document 01's sample; the same with long titles; one whose group 3 is its own parent; one whose groups end inside a
 # record; the sample with other segments in track 0, from 0, 200, 450 and 5800 on, of which the first two and the last are shorter than 300; the sample
-# with tracks 1, 2 and 3 still running, the first of them with segments from 0, 1500 and 8639999 on.
-SAMPLE, LONG, OWN_PARENT, CUT, CLOSE, RUNNING = range(6)
+# with tracks 1, 2 and 3 still running, the first of them with segments from 0, 1500 and 8639999 on; the sample with other titles, whose text is the 8
+# octets 'Pr\xC3\xA9lude', the 10 octets 'Inter\xC3ezzo' and the 4 octets 'Cod\xFF', so that the titles of tracks 1 and 3 are bad, at 5 and at 3, and
+# that of track 2 is empty; the same with group 3 its own parent.
+SAMPLE, LONG, OWN_PARENT, CUT, CLOSE, RUNNING, BAD_TITLES, BAD_AND_WRONG = range(8)
 
 (NOTE, START, SET_NAME, ACTIVATE, DEACTIVATE, ADVANCE, CONNECT, DISCONNECT, SUBSCRIBE, UNSUBSCRIBE, READ, WRITE, TAKE, DAMAGE) = range(14)
 

@@ -9,11 +9,12 @@
     crates/inspect/stdin    the card of the sample catalogue
 
 Each vector has its answer beside it, worked out by hand from document 01 and from these requests of document 02: W-205 for a
-card with a bad block, W-206 for one with a block that is not full, W-202 for a running recording, W-212 for a sheet, W-204 for
-a written card. Only three things are computed: the check numbers of the tables, from the tables that the vector was made of;
-those of written cards, from cards made by document 01's words on blocks; and the starts of the two sheets that have 1,024 and
-3,640 of them, by the request's formula. Many sheets and some cards are variants that a loop makes, with one answer set by hand
-for all of them or, of a card, with the number that REASONS sets for each reason. A comment in quotation marks is a sentence of
+card with a bad block, W-206 for one with a block that is not full, W-202 for a running recording, W-207 for a bad title, W-212
+for a sheet, W-204 for a written card. Only three things are computed: the check numbers of the tables, from the tables that the
+vector was made of; those of written cards, from cards made by document 01's words on blocks; and the starts of the two sheets
+that have 1,024 and 3,640 of them, by the request's formula. Many sheets, some cards and some catalogues are variants that a loop
+makes, with one answer set by hand for all of them or, of a card, with the number that REASONS sets for each reason. The refused
+catalogues of REFUSED_TITLES are also ones to be written, with the same answer. A comment in quotation marks is a sentence of
 document 01, and of document 02 where a request is named with it or it stands over sheets or written cards.
 """
 import struct
@@ -560,6 +561,7 @@ def lent_tables(tables):
 
 
 def tables_case(name, answer, tables):
+    """A catalogue vector: the answer is 'fine', or 200, and behind it the track and the offset of a bad title (W-207)."""
     add(CATALOGUE, name, lent_tables(tables), answer)
 
 
@@ -568,9 +570,9 @@ def catalogue(name, answer, groups=SAMPLE_GROUPS, tracks=SAMPLE_TRACKS, segments
     tables_case(name, answer, Tables(groups, tracks, segments, text))
 
 
-def cut(name, groups=(), tracks=()):
+def cut(name, groups=(), tracks=(), text=SAMPLE_TEXT):
     """The sample with words behind its last group and its last track."""
-    tables = Tables(SAMPLE_GROUPS, SAMPLE_TRACKS, SAMPLE_SEGMENTS, SAMPLE_TEXT)
+    tables = Tables(SAMPLE_GROUPS, SAMPLE_TRACKS, SAMPLE_SEGMENTS, text)
     tables.groups += groups
     tables.tracks += tracks
     tables_case(name, '200', tables)
@@ -729,22 +731,280 @@ title('title-128-at-1', 'fine', 1, 128, b't' * 129)
 title('title-wrap-offset', '200', WORD, 1)
 title('title-wrap-length', '200', 1, WORD)
 title('title-wrap-inside', '200', 0xFFFFFFFC, 8)
-# Octets 2 and 3 are one character.
-title('title-cuts-character', '200', 0, 3)
-title('title-begins-in-character', '200', 3, 5)
+# Octets 2 and 3 are one character. The title is that of track 3, and the offset is counted from where the title begins.
+title('title-cuts-character', '200 3 2', 0, 3)
+title('title-begins-in-character', '200 3 0', 3, 5)
 title('title-ends-before-character', 'fine', 0, 2)
 title('title-one-character', 'fine', 2, 2)
-title('title-not-utf-8', '200', 2, 2, b'ab\xC0\x80cd')
-title('title-bad-octet-last', '200', 0, 4, b'abc\xFF')
+title('title-not-utf-8', '200 3 0', 2, 2, b'ab\xC0\x80cd')
+title('title-bad-octet-last', '200 3 3', 0, 4, b'abc\xFF')
 title('title-bad-octets-outside', 'fine', 2, 2, b'\xFF\xC3ab\x80\xFF')
-title('title-character-behind-end', '200', 0, 1, b'\xC3\xA9')
-catalogue('title-bad-in-first-track', '200', text=b'Pr\xC3\xC3ludeIntermezzoCoda')
-catalogue('title-bad-in-second-track', '200', text=b'Pr\xC3\xA9lude\x80ntermezzoCoda')
+title('title-character-behind-end', '200 3 0', 0, 1, b'\xC3\xA9')
+catalogue('title-bad-in-first-track', '200 0 2', text=b'Pr\xC3\xC3ludeIntermezzoCoda')
+catalogue('title-bad-in-second-track', '200 1 0', text=b'Pr\xC3\xA9lude\x80ntermezzoCoda')
 catalogue('titles-share-octets', 'fine', tracks=put(SAMPLE_TRACKS, 3, (900, 5, 3, 0, 8, 14)))
 catalogue('titles-in-any-order', 'fine', tracks=put(put(SAMPLE_TRACKS, 1, (300, 10, 3, 0, 18, 4)), 3, (900, 5, 3, 0, 8, 10)))
 
+# W-207: the offset, within the title, "of the first octet that doesn't start a whole valid character, with all octets before it being
+# whole valid characters"
 
-# ---- Text: RFC 3629. The place is that of the first octet of the first bad character.
+# The catalogues from here on that are refused, each with its name, its answer and its records: the card writer gets them too.
+REFUSED_TITLES = []
+
+
+def titled(name, answer, groups=SAMPLE_GROUPS, tracks=SAMPLE_TRACKS, segments=SAMPLE_SEGMENTS, text=SAMPLE_TEXT):
+    """The sample, but for the tables that are given."""
+    catalogue(name, answer, groups, tracks, segments, text)
+    if answer != 'fine':
+        REFUSED_TITLES.append((name, answer, (groups, tracks, segments, text)))
+
+
+def parts(name, answer, text, *places):
+    """A group of tracks whose titles are these parts of the text, each by its offset and its length."""
+    titled(name, answer, [(0, 0, len(places))], [(100, 0, 0, 0, offset, length) for offset, length in places], [], text)
+
+
+def titles(name, answer, *octets):
+    """A group of tracks that have these titles, which follow each other in the text."""
+    places, text = [], b''
+    for each in octets:
+        places.append((len(text), len(each)))
+        text += each
+    parts(name, answer, text, *places)
+
+
+titles('bad-title-at-0', '200 0 0', b'\xFFabcdef')
+titles('bad-title-middle', '200 0 3', b'abc\xFFdef')
+titles('bad-title-last-octet', '200 0 6', b'abcdef\xFF')
+titles('bad-title-one-octet', '200 0 0', b'\x80')
+titles('bad-title-every-octet', '200 0 0', b'\xFF' * 7)
+titles('bad-title-two-places', '200 0 2', b'ab\xFFcd\xFFef')
+titles('bad-title-cut-behind-bad-octet', '200 0 1', b'a\xFFbcd\xC3')
+# Octets are counted, not characters: one of two, one of three, one of four and one of one stand before the bad one.
+titles('bad-title-behind-characters', '200 0 10', b'\xC3\xA9\xE2\x82\xAC\xF0\x9D\x84\x9Ea\xFF')
+titles('bad-title-tail-too-many', '200 0 2', b'\xC3\xA9\xA9')
+# Within the title, not within the text.
+titles('bad-title-behind-titles', '200 2 1', b'abcdefgh', b'ijkl', b'm\xFFn')
+parts('bad-title-far-into-text', '200 0 2', b'x' * 1000 + b'ab\xFFc', (1000, 4))
+parts('bad-title-from-inside-text', '200 0 4', b'ab\xC3\xA9cd\xFFef', (2, 7))
+
+# A title of 128 octets.
+titles('bad-title-128-at-0', '200 0 0', b'\xFF' + b't' * 127)
+titles('bad-title-128-at-64', '200 0 64', b't' * 64 + b'\xFF' + b't' * 63)
+titles('bad-title-128-at-126', '200 0 126', b't' * 126 + b'\xFFt')
+titles('bad-title-128-at-127', '200 0 127', b't' * 127 + b'\xFF')
+titles('bad-title-128-tail-at-127', '200 0 127', b't' * 127 + b'\x80')
+titles('bad-title-128-cut-2', '200 0 127', b't' * 127 + b'\xC3')
+titles('bad-title-128-cut-3', '200 0 126', b't' * 126 + b'\xE2\x82')
+titles('bad-title-128-cut-4', '200 0 125', b't' * 125 + b'\xF0\x9D\x84')
+titles('bad-title-128-octet-127-in-2', '200 0 126', b't' * 126 + b'\xC3t')
+titles('bad-title-128-octet-127-in-3', '200 0 125', b't' * 125 + b'\xE2\x82t')
+titles('bad-title-128-octet-127-in-4', '200 0 124', b't' * 124 + b'\xF0\x9D\x84t')
+parts('bad-title-128-tail-behind-end', '200 0 127', b't' * 127 + b'\xC3\xA9', (0, 128))
+titles('bad-title-128-in-second', '200 1 127', b't' * 128, b't' * 127 + b'\xFF', b't' * 128)
+
+# The title ends inside a character. The text ends there too, or goes on behind the title: with something else, or with the rest of the
+# character, which may be the title of the next track or of the one before. The offset is that of the character's first octet.
+for character, kept in ((b'\xC3\xA9', 1), (b'\xE2\x82\xAC', 1), (b'\xE2\x82\xAC', 2), (b'\xF0\x9D\x84\x9E', 1), (b'\xF0\x9D\x84\x9E', 2),
+                        (b'\xF0\x9D\x84\x9E', 3)):
+    name = 'bad-title-cut-%d-after-%d' % (len(character), kept)
+    front, rest = (0, 2 + kept), (2 + kept, len(character) - kept)
+    parts(name, '200 0 2', b'ab' + character[:kept], front)
+    parts(name + '-alone', '200 0 0', character[:kept], (0, kept))
+    parts(name + '-text-goes-on', '200 0 2', b'ab' + character + b'cd', front)
+    parts(name + '-other-text-goes-on', '200 0 2', b'ab' + character[:kept] + b'cd', front)
+    parts(name + '-then-rest', '200 0 2', b'ab' + character, front, rest)
+    parts(name + '-behind-rest', '200 0 0', b'ab' + character, rest, front)
+    parts(name + '-behind-whole', '200 1 2', b'ab' + character, (0, 2 + len(character)), front)
+
+# Something else in place of a tail of a character of two, three or four octets. The offset is that of the character's first octet, and
+# not that of the octet that is no tail.
+for other, octet in (('letter', b'A'), ('7F', b'\x7F'), ('C3', b'\xC3'), ('FF', b'\xFF')):
+    titles('bad-title-%s-in-2' % other, '200 0 3', b'abc\xC3' + octet + b'd')
+    titles('bad-title-%s-in-3-second' % other, '200 0 3', b'abc\xE2' + octet + b'\xACd')
+    titles('bad-title-%s-in-3-third' % other, '200 0 3', b'abc\xE2\x82' + octet + b'd')
+    titles('bad-title-%s-in-4-second' % other, '200 0 3', b'abc\xF0' + octet + b'\x84\x9Ed')
+    titles('bad-title-%s-in-4-third' % other, '200 0 3', b'abc\xF0\x9D' + octet + b'\x9Ed')
+    titles('bad-title-%s-in-4-fourth' % other, '200 0 3', b'abc\xF0\x9D\x84' + octet + b'd')
+# A whole character in place of the last tail, or of all tails.
+titles('bad-title-character-in-3', '200 0 3', b'abc\xE2\x82\xC3\xA9')
+titles('bad-title-character-in-4', '200 0 3', b'abc\xF0\xE2\x82\xAC')
+# Overlong forms, surrogates, and what lies above U+10FFFF.
+for form in ('C080', 'C1BF', 'E09FBF', 'EDA080', 'EDBFBF', 'F08FBFBF', 'F4908080', 'F5808080'):
+    titles('bad-title-form-' + form, '200 0 3', b'abc' + bytes.fromhex(form) + b'd')
+
+# W-207: "a bad title carries the lowest such track and the offset"
+titles('bad-titles-lower-track', '200 0 6', b'abcdef\xFF', b'\xFFabcdef')
+titles('bad-titles-lower-track-lower-offset', '200 0 0', b'\xFFabcdef', b'abcdef\xFF')
+titles('bad-titles-equal', '200 0 1', b'a\xFF', b'a\xFF')
+titles('bad-titles-behind-good-ones', '200 2 4', b'ab', b'', b'abcd\xFF', b'cd', b'\xFF')
+titles('bad-titles-all', '200 0 3', b'abc\xFF', b'ab\xFF', b'a\xFF', b'\xFF')
+titles('bad-title-second', '200 1 2', b'ab', b'ab\xFF')
+titles('bad-title-last', '200 3 2', b'ab', b'ab', b'ab', b'ab\xFF')
+# The titles of tracks 1 and 3 of the sample are bad, at 5 and at 3. Track 3 has the lower stamp.
+titled('bad-titles-sample', '200 1 5', text=b'Pr\xC3\xA9ludeInter\xC3ezzoCod\xFF')
+# The lowest track, not the one whose title lies first in the text.
+parts('bad-titles-lower-track-behind-in-text', '200 0 5', b'\xFFabcde\x80', (1, 6), (0, 1))
+parts('bad-titles-from-behind', '200 1 3', b'\xFFa\xFFab\xFFabc\xFFabcd', (10, 4), (6, 4), (3, 3), (1, 2), (0, 1))
+# Tracks that share a bad title.
+parts('bad-title-shared', '200 0 3', b'abc\xFF', (0, 4), (0, 4))
+parts('bad-title-shared-behind-good-one', '200 1 3', b'abc\xFFde', (4, 2), (0, 4), (0, 4), (4, 2))
+# Titles that overlap. The bad octet is at another offset in each title that has it.
+parts('bad-titles-overlap-shorter-first', '200 0 1', b'abc\xFFde', (2, 3), (0, 6))
+parts('bad-titles-overlap-longer-first', '200 0 3', b'abc\xFFde', (0, 6), (2, 3))
+parts('bad-titles-overlap-octet-alone', '200 0 3', b'abc\xFFde', (0, 6), (3, 1))
+parts('bad-title-overlaps-good-one', '200 1 3', b'abc\xFFde', (0, 3), (0, 4))
+parts('bad-title-overlaps-good-one-behind', '200 0 3', b'abc\xFFde', (0, 4), (0, 3))
+parts('bad-title-begins-in-good-one', '200 1 0', b'ab\xC3\xA9cd', (0, 4), (3, 3))
+parts('bad-title-ends-in-good-one', '200 1 1', b'ab\xC3\xA9cd', (0, 6), (1, 2))
+parts('bad-titles-cut-one-character', '200 0 2', b'ab\xC3\xA9cd', (0, 3), (3, 3))
+parts('bad-titles-cut-one-character-turned', '200 0 0', b'ab\xC3\xA9cd', (3, 3), (0, 3))
+
+# The last of 256 tracks. Its title in the full catalogue ends with a character of four octets at 124 to 127, and the text with it.
+# Octet 4 of each title there begins a character of two octets, and octet 66 one of three.
+tables_case('bad-title-full-last', '200 255 124', Tables(FULL_GROUPS, FULL_TRACKS, FULL_SEGMENTS, spoiled(FULL_TEXT, 32767, 0x41)))
+tables_case('bad-title-full-last-at-4', '200 255 4', Tables(FULL_GROUPS, FULL_TRACKS, FULL_SEGMENTS, spoiled(FULL_TEXT, 32645, 0x41)))
+tables_case('bad-title-full-last-at-0', '200 255 0', Tables(FULL_GROUPS, FULL_TRACKS, FULL_SEGMENTS, spoiled(FULL_TEXT, 32640, 0x80)))
+tables_case('bad-titles-full-last-two', '200 254 66',
+            Tables(FULL_GROUPS, FULL_TRACKS, FULL_SEGMENTS, spoiled(spoiled(FULL_TEXT, 32580, 0x41), 32640, 0x80)))
+tables_case('bad-titles-full-first-and-last', '200 0 124',
+            Tables(FULL_GROUPS, FULL_TRACKS, FULL_SEGMENTS, spoiled(spoiled(FULL_TEXT, 127, 0x41), 32640, 0x80)))
+# The title of the last track goes beyond the text by one octet, that of the first is bad.
+tables_case('bad-title-full-first-and-last-out', '200',
+            Tables(FULL_GROUPS, put(FULL_TRACKS, 255, (556, 0, 1020, 4, 32641, 128)), FULL_SEGMENTS, spoiled(FULL_TEXT, 127, 0x41)))
+# A track whose title is the first octet of the text.
+FIRST_OCTET = (100, 0, 0, 0, 0, 1)
+titled('bad-title-last-of-256', '200 255 0', [(0, 0, 256)], [PLAIN] * 255 + [FIRST_OCTET], [], b'\xFF')
+titled('bad-title-first-of-256', '200 0 0', [(0, 0, 256)], [FIRST_OCTET] + [PLAIN] * 255, [], b'\xFF')
+titled('bad-title-128-of-256', '200 128 0', [(0, 0, 256)], [PLAIN] * 128 + [FIRST_OCTET] * 128, [], b'\xFF')
+titled('bad-title-all-of-256', '200 0 0', [(0, 0, 256)], [FIRST_OCTET] * 256, [], b'\xFF')
+
+# W-207: "every other 200 carries neither and comes before". The title of track 1 of the sample is bad at 5, and another rule is broken
+# too: before it, in its own track or group, or behind it.
+BAD_TEXT = b'Pr\xC3\xA9ludeInter\xC3ezzoCoda'
+
+
+def plain(name, groups=SAMPLE_GROUPS, tracks=SAMPLE_TRACKS, segments=SAMPLE_SEGMENTS, text=BAD_TEXT):
+    """The sample with the bad title, but for the tables that are given: 200 carries nothing."""
+    titled('bad-title-and-' + name, '200', groups, tracks, segments, text)
+
+
+titled('bad-title-and-nothing-else', '200 1 5', text=BAD_TEXT)
+# ".. or a lent table ends inside a record"
+cut('bad-title-and-cut-groups-1-word', groups=[0], text=BAD_TEXT)
+cut('bad-title-and-cut-groups-2-words', groups=[0, 4], text=BAD_TEXT)
+cut('bad-title-and-cut-tracks-1-word', tracks=[100], text=BAD_TEXT)
+cut('bad-title-and-cut-tracks-5-words', tracks=[100, 0, 3, 0, 0], text=BAD_TEXT)
+# "At most 64 groups, 256 tracks, 1,024 segments, 32,768 text octets."
+titled('bad-title-in-64-groups', '200 1 5', SAMPLE_GROUPS + [(0, 4, 0)] * 60, text=BAD_TEXT)
+plain('65-groups', SAMPLE_GROUPS + [(0, 4, 0)] * 61)
+plain('257-tracks-first', [(0, 0, 257)], [FIRST_OCTET] + [PLAIN] * 256, [], b'\xFF')
+plain('257-tracks-middle', [(0, 0, 257)], [PLAIN] * 128 + [FIRST_OCTET] + [PLAIN] * 128, [], b'\xFF')
+plain('257-tracks-last', [(0, 0, 257)], [PLAIN] * 256 + [FIRST_OCTET], [], b'\xFF')
+titled('bad-title-and-1024-segments', '200 0 0', [(0, 0, 1)], [(8640000, 0, 0, 1024, 0, 1)], range(1024), b'\xFF')
+plain('1025-segments', [(0, 0, 1)], [(8640000, 0, 0, 1025, 0, 1)], range(1025), b'\xFF')
+plain('1025-segments-behind', [(0, 0, 2)], [FIRST_OCTET, (8640000, 0, 0, 1025, 0, 0)], range(1025), b'\xFF')
+plain('1025-segments-before', [(0, 0, 2)], [(8640000, 0, 0, 1025, 0, 0), (100, 0, 1025, 0, 0, 1)], range(1025), b'\xFF')
+parts('bad-title-at-end-of-32768', '200 0 0', b'y' * 32767 + b'\xFF', (32767, 1))
+parts('bad-title-and-32769-text-last', '200', b'y' * 32768 + b'\xFF', (32768, 1))
+parts('bad-title-and-32769-text-first', '200', b'\xFF' + b'y' * 32768, (0, 1))
+# "Group 0, if any, is its own parent; every other parent number is smaller than its child's." Track 1 is in group 1.
+plain('parent-of-0-is-1', put(SAMPLE_GROUPS, 0, (1, 0, 0)))
+plain('parent-of-1-is-1', put(SAMPLE_GROUPS, 1, (1, 0, 3)))
+plain('parent-of-2-is-3', put(SAMPLE_GROUPS, 2, (3, 3, 0)))
+plain('parent-of-3-is-3', put(SAMPLE_GROUPS, 3, (3, 3, 1)))
+plain('parent-of-3-is-greatest', put(SAMPLE_GROUPS, 3, (WORD, 3, 1)))
+# "The groups' track runs follow each other from 0 in group order and use up all tracks"
+plain('track-run-of-0-off', put(SAMPLE_GROUPS, 0, (0, 1, 0)))
+plain('track-run-of-1-off', put(SAMPLE_GROUPS, 1, (0, 1, 2)))
+plain('track-run-of-2-off', put(SAMPLE_GROUPS, 2, (0, 2, 0)))
+plain('track-run-of-3-off', put(SAMPLE_GROUPS, 3, (0, 2, 2)))
+plain('track-runs-not-used-up', put(SAMPLE_GROUPS, 3, (0, 3, 0)))
+plain('track-runs-beyond', put(SAMPLE_GROUPS, 3, (0, 3, 2)))
+plain('track-in-no-group', [(0, 0, 1)])
+plain('no-groups', [])
+# "the tracks' segment runs likewise"
+plain('segment-run-of-0-off', tracks=put(SAMPLE_TRACKS, 0, (6000, 30, 1, 2, 0, 8)))
+plain('segment-run-of-0-short', tracks=put(SAMPLE_TRACKS, 0, (6000, 30, 0, 2, 0, 8)))
+plain('segment-run-of-1-off', tracks=put(SAMPLE_TRACKS, 1, (300, 10, 2, 0, 8, 10)))
+plain('segment-run-of-2-off', tracks=put(SAMPLE_TRACKS, 2, (0, 10, 4, 0, 18, 0)))
+plain('segment-run-of-3-off', tracks=put(SAMPLE_TRACKS, 3, (900, 5, 0, 0, 18, 4)))
+plain('segment-run-of-3-beyond', tracks=put(SAMPLE_TRACKS, 3, (900, 5, 3, 1, 18, 4)))
+plain('segments-not-used-up', segments=[0, 1500, 4000, 0])
+plain('segments-too-few', segments=[0, 1500])
+# "Duration is 0 to 8,640,000 hundredths of a second."; "Duration word 0xFFFFFFFF means not yet known" (W-202)
+plain('duration-of-0', tracks=put(SAMPLE_TRACKS, 0, (8640001, 30, 0, 3, 0, 8)))
+plain('duration-of-1', tracks=put(SAMPLE_TRACKS, 1, (8640001, 10, 3, 0, 8, 10)))
+plain('duration-of-2', tracks=put(SAMPLE_TRACKS, 2, (WORD - 1, 10, 3, 0, 18, 0)))
+plain('duration-of-3', tracks=put(SAMPLE_TRACKS, 3, (8640001, 5, 3, 0, 18, 4)))
+titled('bad-title-of-a-running-recording', '200 1 5', tracks=put(SAMPLE_TRACKS, 1, (WORD, 10, 3, 0, 8, 10)), text=BAD_TEXT)
+# "Segment starts begin at 0, rise strictly and lie below the duration."
+plain('starts-of-0-begin-at-1', segments=[1, 1500, 4000])
+plain('starts-of-0-equal', segments=[0, 1500, 1500])
+plain('starts-of-0-fall', segments=[0, 4000, 1500])
+plain('starts-of-0-at-duration', segments=[0, 1500, 6000])
+# Two segments in track 1, which lasts 300, and two in track 3, which lasts 900.
+TWO_AND_TWO = [(6000, 30, 0, 0, 0, 8), (300, 10, 0, 2, 8, 10), (0, 10, 2, 0, 18, 0), (900, 5, 2, 2, 18, 4)]
+titled('bad-title-of-segments', '200 1 5', tracks=TWO_AND_TWO, segments=[0, 299, 0, 899], text=BAD_TEXT)
+plain('starts-of-1-begin-at-1', tracks=TWO_AND_TWO, segments=[1, 299, 0, 899])
+plain('starts-of-1-equal', tracks=TWO_AND_TWO, segments=[0, 0, 0, 899])
+plain('starts-of-1-at-duration', tracks=TWO_AND_TWO, segments=[0, 300, 0, 899])
+plain('starts-of-3-begin-at-1', tracks=TWO_AND_TWO, segments=[0, 299, 1, 899])
+plain('starts-of-3-equal', tracks=TWO_AND_TWO, segments=[0, 299, 0, 0])
+plain('starts-of-3-at-duration', tracks=TWO_AND_TWO, segments=[0, 299, 0, 900])
+# "Titles, also empty ones, lie in the text, have at most 128 octets": those of other tracks.
+plain('title-of-0-out', tracks=put(SAMPLE_TRACKS, 0, (6000, 30, 0, 3, 15, 8)))
+plain('title-of-2-out', tracks=put(SAMPLE_TRACKS, 2, (0, 10, 3, 0, 23, 0)))
+plain('title-of-3-out', tracks=put(SAMPLE_TRACKS, 3, (900, 5, 3, 0, 18, 5)))
+plain('title-of-3-wraps', tracks=put(SAMPLE_TRACKS, 3, (900, 5, 3, 0, 0xFFFFFFFC, 8)))
+titles('bad-title-before-128', '200 0 0', b'\xFF', b't' * 128)
+titles('bad-title-behind-128', '200 1 0', b't' * 128, b'\xFF')
+titles('bad-title-before-129', '200', b'\xFF', b't' * 129)
+titles('bad-title-behind-129', '200', b't' * 129, b'\xFF')
+titles('bad-title-far-before-129', '200', b'\xFF', b'', b'ab', b't' * 129)
+# Rules that are broken before it and behind it at once.
+plain('others-on-both-sides', put(SAMPLE_GROUPS, 3, (3, 3, 1)), segments=[1, 1500, 4000])
+# The bad title is in the first track or in the last one.
+plain('duration-behind-first', tracks=put(SAMPLE_TRACKS, 3, (8640001, 5, 3, 0, 18, 4)), text=b'\xFFr\xC3\xA9ludeIntermezzoCoda')
+plain('duration-before-last', tracks=put(SAMPLE_TRACKS, 0, (8640001, 30, 0, 3, 0, 8)), text=b'Pr\xC3\xA9ludeIntermezzoCod\xFF')
+plain('duration-between-two', tracks=put(SAMPLE_TRACKS, 1, (8640001, 10, 3, 0, 8, 10)), text=b'\xFFr\xC3\xA9ludeIntermezzoCod\xFF')
+
+# A title that is not UTF-8 and is over 128 octets, or does not lie in the text: 200 carries nothing.
+titles('long-title-bad-at-0', '200', b'\xFF' + b't' * 128)
+titles('long-title-bad-at-64', '200', b't' * 64 + b'\xFF' + b't' * 64)
+titles('long-title-bad-at-127', '200', b't' * 127 + b'\xFFt')
+titles('long-title-bad-at-128', '200', b't' * 128 + b'\xFF')
+titles('long-title-cut-at-128', '200', b't' * 128 + b'\xC3')
+titles('long-title-character-at-127', '200', b't' * 127 + b'\xC3\xA9')
+titles('long-title-bad-behind-bad-title', '200', b'a\xFF', b'\xFF' * 129)
+titles('long-title-bad-before-bad-title', '200', b'\xFF' * 129, b'a\xFF')
+parts('title-out-bad-at-0', '200', b'\xFFab', (0, 4))
+parts('title-out-bad-at-2', '200', b'ab\xFF', (0, 4))
+parts('title-out-bad-alone', '200', b'ab\xFF', (2, 2))
+parts('title-out-cut-by-end-of-text', '200', b'ab\xC3', (0, 4))
+parts('title-out-behind-bad-text', '200', b'ab\xFF', (3, 1))
+parts('title-out-empty-behind-bad-text', '200', b'ab\xFF', (4, 0))
+parts('title-out-wraps-to-bad-text', '200', b'\xFFab', (WORD, 2))
+parts('title-out-and-long-and-bad', '200', b'\xFF' * 129, (0, 130))
+parts('title-out-greatest-length-and-bad', '200', b'\xFFab', (0, WORD))
+parts('title-out-behind-bad-title', '200', b'ab\xFF', (0, 3), (0, 4))
+parts('title-out-before-bad-title', '200', b'ab\xFF', (0, 4), (0, 3))
+
+# Text that is in no title need not be UTF-8.
+parts('titles-around-bad-text', 'fine', b'ab\xFF\xC3cd', (0, 2), (4, 2))
+parts('titles-around-bad-text-next-to-it', 'fine', b'\xC3\xA9\x80\xE2\x82\xAC', (0, 2), (3, 3))
+parts('titles-empty-in-bad-text', 'fine', b'\xFF\xFF', (0, 0), (1, 0), (2, 0))
+parts('titles-empty-inside-a-character', 'fine', b'\xE2\x82\xAC', (1, 0), (2, 0))
+parts('title-128-up-to-bad-text', 'fine', b't' * 128 + b'\xFF', (0, 128))
+parts('title-128-behind-bad-text', 'fine', b'\xFF' + b't' * 128, (1, 128))
+parts('title-behind-cut-character', 'fine', b'\xF0\x9D\x84ab', (3, 2))
+parts('titles-around-bad-title', '200 1 0', b'ab\xFF\xC3cd', (0, 2), (2, 2), (4, 2))
+catalogue('catalogue-bad-text-alone', 'fine', [], [], [], b'\xFF\xC0\x80')
+catalogue('catalogue-bad-text-behind-titles', 'fine', text=SAMPLE_TEXT + b'\xC3\xFF')
+
+
+# ---- Text: RFC 3629. "The text check answers the offset .. of the first octet that doesn't start a whole valid character, with all
+# ---- octets before it being whole valid characters" (W-207).
 
 GOOD = b'a\xC3\xA9\xE2\x82\xAC\xF0\x9D\x84\x9E'  # characters of one, two, three and four octets: ten octets
 
@@ -835,6 +1095,17 @@ text('text-C0-for-third', 'bad at 0', b'\xE1\x80\xC0')
 text('text-C0-for-fourth', 'bad at 0', b'\xF1\x80\x80\xC0')
 text('text-first-for-tail', 'bad at 0', b'\xC3\xC3\xA9')
 text('text-first-of-two-bad', 'bad at 1', b'a\xFF\xC0\x80')
+text('text-ascii-in-2-behind-good', 'bad at 10', GOOD + b'\xC3A')
+text('text-ascii-in-4-behind-good', 'bad at 10', GOOD + b'\xF0\x9D\x84A')
+text('text-character-in-4', 'bad at 1', b'a\xF0\x9D\xC3\xA9')
+text('text-cut-behind-bad', 'bad at 11', GOOD + b'a\xFF' + GOOD + b'\xC3')
+
+# No length is too long for the text check itself.
+text('text-128-bad-last', 'bad at 127', b'a' * 127 + b'\xFF')
+text('text-128-cut-4', 'bad at 125', b'a' * 125 + b'\xF0\x9D\x84')
+text('text-129', 'fine', b'a' * 127 + b'\xC3\xA9')
+text('text-129-bad-first', 'bad at 0', b'\xFF' + b'a' * 128)
+text('text-129-bad-last', 'bad at 128', b'a' * 128 + b'\xFF')
 
 
 # ---- Sheets: the number of starts, or the refusal and its line. The starts are hundredths of a second.
@@ -1249,7 +1520,7 @@ sheet('sheet-65536-octets-226-in-last', '226 65536', b'\n' * 65535 + b'x')
 sheet('sheet-65537-octets-226-in-line-1', '225', b'x' * 65537, room=0)
 
 
-# ---- Written cards: how many blocks there are, or the refusal; and the lent card, which was 0xA5 in each octet.
+# ---- Written cards: how many blocks there are, or the refusal and what it carries; and the lent card, which was 0xA5 in each octet.
 
 def write(name, answer, room, groups=(), tracks=(), segments=(), text=b'', written=True):
     """A catalogue that is written into a card of so many octets. "Octets behind the last block stay." """
@@ -1326,6 +1597,47 @@ no_write('write-tracks-alone', '200', 512, tracks=[PLAIN])
 no_write('write-segments-alone', '200', 512, segments=[0])
 no_write('write-65-groups', '200', 1024, bare_groups(65))
 no_write('write-text-32769', '200', 65536, text=b'a' * 32769)
+
+# W-207: "a bad title carries the lowest such track and the offset". With room for the blocks and without: 200 comes before 213.
+FINALE = [(6000, 30, 0, 3, 0, 8), (300, 10, 3, 0, 8, 10), (0, 10, 3, 0, 18, 0), (900, 5, 3, 0, 18, 6)]
+for room in (0, 512, 2047, 2048, 2049):
+    no_write('write-bad-title-of-3-room-%d' % room, '200 3 5', room, SAMPLE_GROUPS, FINALE, SAMPLE_SEGMENTS,
+             b'Pr\xC3\xA9ludeIntermezzoFinal\xFF')
+    no_write('write-bad-title-of-1-room-%d' % room, '200 1 5', room, SAMPLE_GROUPS, SAMPLE_TRACKS, SAMPLE_SEGMENTS, BAD_TEXT)
+    no_write('write-bad-titles-of-1-and-3-room-%d' % room, '200 1 5', room, SAMPLE_GROUPS, SAMPLE_TRACKS, SAMPLE_SEGMENTS,
+             b'Pr\xC3\xA9ludeInter\xC3ezzoCod\xFF')
+    # "every other 200 carries neither and comes before": the starts of track 0 and the parent of group 3.
+    no_write('write-bad-title-and-starts-room-%d' % room, '200', room, SAMPLE_GROUPS, SAMPLE_TRACKS, [0, 1500, 1500], BAD_TEXT)
+    no_write('write-bad-title-and-parent-room-%d' % room, '200', room, put(SAMPLE_GROUPS, 3, (3, 3, 1)), SAMPLE_TRACKS, SAMPLE_SEGMENTS,
+             BAD_TEXT)
+
+
+def one_title(octets, length=None):
+    """A group of one track, whose title is the front of the text or, without a length, all of it."""
+    return [(0, 0, 1)], [(100, 0, 0, 0, 0, len(octets) if length is None else length)], [], octets
+
+
+# Groups, tracks and text: three blocks.
+no_write('write-bad-title-at-0', '200 0 0', 1536, *one_title(b'\xFFabc'))
+no_write('write-bad-title-at-127', '200 0 127', 1536, *one_title(b't' * 127 + b'\xFF'))
+no_write('write-bad-title-in-4', '200 0 2', 1536, *one_title(b'ab\xF0\x9D\x84Acd'))
+no_write('write-bad-title-cut', '200 0 2', 1536, *one_title(b'ab\xE2\x82'))
+no_write('write-bad-title-cut-text-goes-on', '200 0 2', 1536, *one_title(b'ab\xE2\x82\xAC', 4))
+no_write('write-bad-title-cut-no-room', '200 0 2', 1535, *one_title(b'ab\xE2\x82\xAC', 4))
+no_write('write-bad-title-of-129', '200', 1536, *one_title(b'\xFF' * 129))
+no_write('write-bad-title-out', '200', 1536, *one_title(b'ab\xFF', 4))
+write('write-title-before-bad-text', '3', 1536, *one_title(b'ab\xC3\xFF', 2))
+no_write('write-title-before-bad-text-no-room', '213', 1535, *one_title(b'ab\xC3\xFF', 2))
+# Every catalogue of REFUSED_TITLES has three blocks or more: it is refused as it is above, and not for the room of one block.
+for name, answer, records in REFUSED_TITLES:
+    no_write('write-' + name + '-one-block', answer, 512, *records)
+no_write('write-bad-title-and-cut-groups', '200', 512, SAMPLE_GROUPS + [(0,)], SAMPLE_TRACKS, SAMPLE_SEGMENTS, BAD_TEXT)
+no_write('write-bad-title-and-cut-tracks', '200', 512, SAMPLE_GROUPS, SAMPLE_TRACKS + [(100, 0, 3)], SAMPLE_SEGMENTS, BAD_TEXT)
+# The last of 256 tracks, and 255 good titles before it.
+BAD_AT_LAST = (FULL_GROUPS, FULL_TRACKS, FULL_SEGMENTS, spoiled(FULL_TEXT, 32767, 0x41))
+no_write('write-full-bad-title', '200 255 124', 45568, *BAD_AT_LAST)
+no_write('write-full-bad-title-room-one-short', '200 255 124', 45567, *BAD_AT_LAST)
+no_write('write-full-bad-title-no-room', '200 255 124', 0, *BAD_AT_LAST)
 
 
 # ---- Files

@@ -6,10 +6,10 @@ Each call has its answer, the state of the player that it leaves and what falls 
 A comment in quotation marks is a sentence of document 01, or of the request of document 02 that it names.
 """
 from calls import (
-    ALL, CODE, CONNECTED, CUT, ENCRYPTED, ENCRYPTION, FIRST_GROUP, FIRST_SEGMENT, FIRST_TRACK, FORWARD, FRESH, GOTO_GROUP, GOTO_SEGMENT, GOTO_TRACK,
-    GROUP, HEADSET, LAST_GROUP, LAST_SEGMENT, LAST_TRACK, LEFT, LONG, LONGEST, MARK, MEDIA, MTU, NAME_LENGTH, NEXT_GROUP, NEXT_SEGMENT, NEXT_TRACK,
-    OPEN, OWED, OWN_PARENT, PAUSE, PLACE, PLAY, PLAYING_ORDER, PREVIOUS_GROUP, PREVIOUS_SEGMENT, PREVIOUS_TRACK, RELATIVE, REWIND, RIGHT, RUNNING, SAMPLE,
-    SCREEN, SEEKING_SPEED, STOP, SUBSCRIBED, TRACK, TURN, WAITING,
+    ALL, BAD_AND_WRONG, BAD_TITLES, CODE, CONNECTED, CUT, ENCRYPTED, ENCRYPTION, FIRST_GROUP, FIRST_SEGMENT, FIRST_TRACK, FORWARD, FRESH, GOTO_GROUP,
+    GOTO_SEGMENT, GOTO_TRACK, GROUP, HEADSET, LAST_GROUP, LAST_SEGMENT, LAST_TRACK, LEFT, LONG, LONGEST, MARK, MEDIA, MTU, NAME_FIRST, NAME_LENGTH,
+    NEXT_GROUP, NEXT_SEGMENT, NEXT_TRACK, OPEN, OWED, OWN_PARENT, PAUSE, PLACE, PLAY, PLAYING_ORDER, PREVIOUS_GROUP, PREVIOUS_SEGMENT, PREVIOUS_TRACK,
+    RELATIVE, REWIND, RIGHT, RUNNING, SAMPLE, SCREEN, SEEKING_SPEED, STOP, SUBSCRIBED, TRACK, TURN, WAITING,
     activate, advance, case, connect, control, damage, deactivate, disconnect, octets, read, seen, set_name, start, subscribe, take, unsubscribe, word,
     write,
 )
@@ -1053,7 +1053,7 @@ read(SCREEN, 1, 1, 'refused 0x80')
 read(LEFT, 5, 2, 'read' + octets(b'berfahrt'))
 # The same name again, or a refused one, is no change.
 set_name(b'Desk', 'done')
-set_name(b'\xFF', 'refused 207')
+set_name(b'\xFF', 'refused 207 0')
 read(LEFT, 1, 2, 'read 73 6b')
 # "since connecting"
 disconnect(LEFT, 'done')
@@ -1110,7 +1110,7 @@ read(LEFT, 8, 1, 'read')
 read(LEFT, 8, 2, 'refused 0x07')
 
 
-# ---- Refusals: "A refusal returns its number alone and alters nothing."; "Several at once: the first in the table."
+# ---- Refusals: "A refusal .. alters nothing."; "Several at once: the first in the table." W-207: 200 with a bad title and 207 carry a place.
 
 # "All but 4 and 18 may be read; 7, 8, 15, 18 may be written."
 case('what may be read, written and subscribed to')
@@ -1261,12 +1261,13 @@ for who in (RIGHT, HEADSET, SCREEN):
     write(who, 17, [], 'refused 203')
     write(who, 15, [9], 'refused 203')
 
-# "name over 128 octets or not UTF-8"; "group absent or without tracks"
+# "name over 128 octets or not UTF-8"; "group absent or without tracks"; W-207: "207 carries it (for a name over 128 octets, 128, tested first)."
 case('names and groups')
 office('1 4')
-for name in (b'a' * 129, b'a' * 255, b'\xFF', b'a\xC3', b'\xC0\x80', b'\xED\xA0\x80', b'\xF4\x90\x80\x80'):
-    set_name(name, 'refused 207')
-    start(name, ALL, 7, 'refused 207')
+for name, offset in ((b'a' * 129, 128), (b'a' * 255, 128), (b'\xFF', 0), (b'a\xC3', 1), (b'\xC0\x80', 0), (b'\xED\xA0\x80', 0), (b'\xF4\x90\x80\x80', 0),
+                     (b'\xFF' + b'a' * 128, 128), (b'a' * 127 + b'\xFF', 127), (LONG_NAME[:21], 20), (LONG_NAME + b'!', 128)):
+    set_name(name, 'refused 207 %d' % offset)
+    start(name, ALL, 7, 'refused 207 %d' % offset)
 for group in (0, 2, 4, 64, LONGEST):
     activate(group, 'refused 208')
 take('nothing')
@@ -1294,43 +1295,159 @@ take('refused 205', 127)
 take('nothing')
 read(LEFT, 1, 0, 'read 41')
 
-# "a catalogue rule above fails, or a lent table ends inside a record"
-for catalogue in (OWN_PARENT, CUT):
+# "a catalogue rule above fails, or a lent table ends inside a record"; W-207: "a bad title carries the lowest such track and the offset; every other
+# 200 carries neither and comes before". Each call is lent the catalogue, and each tells the same.
+for catalogue, answer in ((OWN_PARENT, 'refused 200'), (CUT, 'refused 200'), (BAD_TITLES, 'refused 200 1 5'), (BAD_AND_WRONG, 'refused 200')):
     case('a wrong catalogue')
     office('1 17 18')
     set_name(b'A', 'done', 'left 1')
-    start(b'Desk', ALL, 7, 'refused 200', catalogue=catalogue)
-    set_name(b'B', 'refused 200', catalogue=catalogue)
-    activate(1, 'refused 200', catalogue=catalogue)
-    deactivate('refused 200', catalogue=catalogue)
-    advance(10, 'refused 200', catalogue=catalogue)
-    connect(RIGHT, 23, ENCRYPTED, 'refused 200', catalogue=catalogue)
-    disconnect(LEFT, 'refused 200', catalogue=catalogue)
-    subscribe(LEFT, 4, 'refused 200', catalogue=catalogue)
-    unsubscribe(LEFT, 1, 'refused 200', catalogue=catalogue)
-    read(LEFT, 1, 0, 'refused 200', catalogue=catalogue)
-    write(LEFT, 18, [PLAY], 'refused 200', catalogue=catalogue)
-    take('refused 200', catalogue=catalogue)
+    start(b'Desk', ALL, 7, answer, catalogue=catalogue)
+    set_name(b'B', answer, catalogue=catalogue)
+    activate(1, answer, catalogue=catalogue)
+    deactivate(answer, catalogue=catalogue)
+    advance(10, answer, catalogue=catalogue)
+    connect(RIGHT, 23, ENCRYPTED, answer, catalogue=catalogue)
+    disconnect(LEFT, answer, catalogue=catalogue)
+    subscribe(LEFT, 4, answer, catalogue=catalogue)
+    unsubscribe(LEFT, 1, answer, catalogue=catalogue)
+    read(LEFT, 1, 0, answer, catalogue=catalogue)
+    write(LEFT, 18, [PLAY], answer, catalogue=catalogue)
+    take(answer, catalogue=catalogue)
     # 200 before whatever else there is.
-    start(b'\xFF', ALL, 7, 'refused 200', catalogue=catalogue)
-    set_name(b'\xFF', 'refused 200', catalogue=catalogue)
-    activate(2, 'refused 200', catalogue=catalogue)
-    connect(4, 23, ENCRYPTED, 'refused 200', catalogue=catalogue)
-    connect(LEFT, 22, ENCRYPTED, 'refused 200', catalogue=catalogue)
-    disconnect(RIGHT, 'refused 200', catalogue=catalogue)
-    subscribe(LEFT, 3, 'refused 200', catalogue=catalogue)
-    unsubscribe(RIGHT, 16, 'refused 200', catalogue=catalogue)
-    read(LEFT, 1, 0, 'refused 200', 127, catalogue)
-    read(LEFT, 1, 1, 'refused 200', catalogue=catalogue)
-    write(LEFT, 15, [9], 'refused 200', catalogue=catalogue)
-    take('refused 200', 127, catalogue)
+    start(b'\xFF', ALL, 7, answer, catalogue=catalogue)
+    set_name(b'\xFF', answer, catalogue=catalogue)
+    activate(2, answer, catalogue=catalogue)
+    connect(4, 23, ENCRYPTED, answer, catalogue=catalogue)
+    connect(LEFT, 22, ENCRYPTED, answer, catalogue=catalogue)
+    disconnect(RIGHT, answer, catalogue=catalogue)
+    subscribe(LEFT, 3, answer, catalogue=catalogue)
+    unsubscribe(RIGHT, 16, answer, catalogue=catalogue)
+    read(LEFT, 1, 0, answer, 127, catalogue)
+    read(LEFT, 1, 1, answer, catalogue=catalogue)
+    write(LEFT, 15, [9], answer, catalogue=catalogue)
+    take(answer, 127, catalogue)
     damage(TURN, 4)
-    take('refused 200', catalogue=catalogue)
-    take('refused 200', 127, catalogue)
-    connect(RIGHT, 23, ENCRYPTED, 'refused 200', catalogue=catalogue)
+    take(answer, catalogue=catalogue)
+    take(answer, 127, catalogue)
+    connect(RIGHT, 23, ENCRYPTED, answer, catalogue=catalogue)
     damage(TURN, 3)
     take('left 1 41')
     read(LEFT, 1, 1, 'refused 0x80')
+    seen('23: 1 17 18;; 0', '-', '-', '-')
+    take(answer, catalogue=catalogue)
+    take('nothing')
+
+
+def before_the_others(catalogue, answer):
+    """200 comes before every refusal behind it, and carries what it carries without them."""
+    def before(other, call, *arguments, **room):
+        """A call with the wrong catalogue, and then the same with the sample, which meets the other refusal."""
+        call(*arguments, answer, catalogue=catalogue, **room)
+        call(*arguments, other, **room)
+
+    case('a wrong catalogue before the other refusals')
+    office('1 17', None, '18', None)
+    connect(SCREEN, 517, OPEN, 'done')
+    set_name(b'A', 'done', 'left 1')
+    for _ in range(8):
+        control(HEADSET, PREVIOUS_TRACK, 'Paused 3 0 0 | 1 0 0', 'headset 18')
+    read(LEFT, 5, 0, 'read' + octets(UEBERFAHRT))
+    seen('23: 1 17; 1; 0', '-', '64: 18; 18; 8', '517:;; 0')
+    before('refused 205', read, LEFT, 1, 0, room=127)
+    before('refused 205', take, room=127)
+    before('refused 205', take, room=0)
+    before('refused 202', connect, 4, 23, ENCRYPTED)
+    before('refused 202', disconnect, 4)
+    before('refused 202', subscribe, 4, 17)
+    before('refused 202', unsubscribe, 4, 17)
+    before('refused 202', read, 4, 1, 0)
+    before('refused 202', write, 255, 18, [PLAY])
+    before('refused 203', disconnect, RIGHT)
+    before('refused 203', subscribe, RIGHT, 17)
+    before('refused 203', unsubscribe, RIGHT, 17)
+    before('refused 203', read, RIGHT, 1, 0)
+    before('refused 203', write, RIGHT, 18, [PLAY])
+    before('refused 204', connect, LEFT, 23, ENCRYPTED)
+    before('refused 206', connect, RIGHT, 22, ENCRYPTED)
+    before('refused 206', connect, RIGHT, 518, OPEN)
+    before('refused 0x01', subscribe, LEFT, 3)
+    before('refused 0x01', unsubscribe, LEFT, 3)
+    before('refused 0x01', read, LEFT, 3, 0)
+    before('refused 0x01', write, LEFT, 3, [1])
+    before('refused 209', subscribe, LEFT, 16)
+    before('refused 209', unsubscribe, LEFT, 22)
+    before('refused 0x02', read, LEFT, 4, 0)
+    before('refused 0x03', write, LEFT, 17, [1])
+    before('refused 0x0F', read, SCREEN, 5, 0)
+    before('refused 0x0F', write, SCREEN, 18, [PLAY])
+    before('refused 0x0F', subscribe, SCREEN, 17)
+    before('refused 0x0F', unsubscribe, SCREEN, 17)
+    before('refused 0x80', read, LEFT, 1, 1)
+    before('refused 0x07', read, LEFT, 5, 11)
+    before('refused 0x0D', write, LEFT, 7, [1])
+    before('refused 0x0D', write, LEFT, 18, [])
+    before('refused 0x13', write, LEFT, 15, [9])
+    before('refused 0x11', write, HEADSET, 18, [PLAY])
+    before('refused 207 0', start, b'\xFF', ALL, 7)
+    before('refused 207 0', set_name, b'\xFF')
+    before('refused 207 128', start, b'a' * 129, ALL, 7)
+    before('refused 207 128', set_name, b'a' * 129)
+    before('refused 208', activate, 0)
+    before('refused 208', activate, 2)
+    before('refused 208', activate, 4)
+    seen('23: 1 17; 1; 0', '-', '64: 18; 18; 8', '517:;; 0')
+    # A position beyond the end of the track, a name that is not UTF-8, and a client served last that there is not.
+    for part, wrong, right in ((PLACE, 6001, 0), (NAME_FIRST, 0xFF, 0x41), (TURN, 4, 3)):
+        damage(part, wrong, state='Paused 3 0 0 | 1 0 6001' if part == PLACE else None)
+        before('refused 201', set_name, b'B')
+        before('refused 201', set_name, b'\xFF')
+        before('refused 201', activate, 1)
+        before('refused 201', deactivate)
+        before('refused 201', advance, 10)
+        before('refused 201', connect, RIGHT, 23, ENCRYPTED)
+        before('refused 201', disconnect, LEFT)
+        before('refused 201', subscribe, LEFT, 4)
+        before('refused 201', unsubscribe, LEFT, 1)
+        before('refused 201', read, LEFT, 1, 0)
+        before('refused 201', write, LEFT, 18, [PLAY])
+        before('refused 201', take)
+        before('refused 205', take, room=127)
+        # Start takes no state.
+        start(b'Desk', ALL, 7, answer, catalogue=catalogue)
+        before('refused 207 1', start, b'a\xFF', ALL, 7)
+        damage(part, right, state='Paused 3 0 0 | 1 0 0')
+    take('left 1 41')
+    take('headset 18 30 04')
+
+
+before_the_others(BAD_TITLES, 'refused 200 1 5')
+before_the_others(BAD_AND_WRONG, 'refused 200')
+
+# W-207: 200 with a bad title comes whatever the call would do: where it would change nothing, and where no track is current.
+case('a bad title while nothing would happen')
+start(b'Desk', ALL, 7, 'done', 'Inactive 3 0 0 | 0 0 0')
+take('refused 200 1 5', catalogue=BAD_TITLES)
+deactivate('refused 200 1 5', catalogue=BAD_TITLES)
+advance(0, 'refused 200 1 5', catalogue=BAD_TITLES)
+set_name(b'Desk', 'refused 200 1 5', catalogue=BAD_TITLES)
+connect(LEFT, 23, ENCRYPTED, 'refused 200 1 5', catalogue=BAD_TITLES)
+connect(LEFT, 23, ENCRYPTED, 'done')
+subscribe(LEFT, 5, 'done')
+subscribe(LEFT, 5, 'refused 200 1 5', catalogue=BAD_TITLES)
+unsubscribe(LEFT, 17, 'refused 200 1 5', catalogue=BAD_TITLES)
+write(LEFT, 7, word(1500), 'refused 200 1 5', catalogue=BAD_TITLES)
+read(LEFT, 5, 0, 'refused 200 1 5', catalogue=BAD_TITLES)
+read(LEFT, 5, 0, 'read')
+# The title that is owed is good in one catalogue, and the other one is refused. It stays owed.
+activate(1, 'done', 'Paused 3 0 0 | 1 0 0', 'left 5')
+take('refused 200 1 5', catalogue=BAD_TITLES)
+take('refused 200', catalogue=BAD_AND_WRONG)
+seen('23: 5; 5; 0', '-', '-', '-')
+take('left 5' + octets(UEBERFAHRT))
+take('nothing')
+disconnect(LEFT, 'refused 200 1 5', catalogue=BAD_TITLES)
+disconnect(LEFT, 'done')
+seen('-', '-', '-', '-')
 
 
 # ---- Wrong states: 201
@@ -1396,6 +1513,31 @@ for part, number, state, right in (
     connect(RIGHT, 23, ENCRYPTED, 'refused 201')
     damage(part, right, state='Paused 3 0 0 | 1 0 0')
     take('nothing')
+
+# "its name breaks 207": the name of the state, of which 201 says nothing. It is too long, bad at its first octet, and cut inside its last character.
+case('a damaged name')
+office('1')
+set_name('Café'.encode(), 'done', 'left 1')
+for part, number, right in ((NAME_LENGTH, 129, 5), (NAME_FIRST, 0xFF, 0x43), (NAME_LENGTH, 4, 5)):
+    damage(part, number)
+    set_name(b'B', 'refused 201')
+    set_name(b'B\xFF', 'refused 201')
+    set_name(b'B' * 129, 'refused 201')
+    activate(1, 'refused 201')
+    deactivate('refused 201')
+    advance(10, 'refused 201')
+    connect(RIGHT, 23, ENCRYPTED, 'refused 201')
+    disconnect(LEFT, 'refused 201')
+    subscribe(LEFT, 4, 'refused 201')
+    unsubscribe(LEFT, 1, 'refused 201')
+    read(LEFT, 1, 0, 'refused 201')
+    write(LEFT, 18, [PLAY], 'refused 201')
+    take('refused 201')
+    # A start takes no state, and its own name is told.
+    start(b'B\xFF', ALL, 7, 'refused 207 1')
+    damage(part, right)
+take('left 1' + octets('Café'.encode()))
+take('nothing')
 
 
 def two_results():

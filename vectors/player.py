@@ -8,10 +8,11 @@ A comment in quotation marks is a sentence of document 01, or of the request of 
 """
 import calls
 from calls import (
-    ALL, CASES, CLOSE, CUT, ENCRYPTED, FIRST_GROUP, FIRST_SEGMENT, FIRST_TRACK, FORWARD, GOTO_GROUP, GOTO_SEGMENT, GOTO_TRACK, GROUP, LAST_GROUP,
-    LAST_SEGMENT, LAST_TRACK, LEFT, LONGEST, MEDIA, NAME_FIRST, NAME_LENGTH, NEXT_GROUP, NEXT_SEGMENT, NEXT_TRACK, OWN_PARENT, PAUSE, PLACE, PLAY,
-    PLAYER, PLAYING_ORDER, PREVIOUS_GROUP, PREVIOUS_SEGMENT, PREVIOUS_TRACK, RELATIVE, REWIND, RUNNING, SAMPLE, SEEKING_SPEED, STOP, TRACK,
-    activate, advance, case, connect, deactivate, read, start, subscribe, take, word, write,
+    ALL, BAD_AND_WRONG, BAD_TITLES, CASES, CLOSE, CUT, ENCRYPTED, FIRST_GROUP, FIRST_SEGMENT, FIRST_TRACK, FORWARD, GOTO_GROUP, GOTO_SEGMENT,
+    GOTO_TRACK, GROUP, LAST_GROUP, LAST_SEGMENT, LAST_TRACK, LEFT, LONGEST, MEDIA, NAME_FIRST, NAME_LENGTH, NEXT_GROUP, NEXT_SEGMENT, NEXT_TRACK,
+    OWN_PARENT, PAUSE, PLACE, PLAY, PLAYER, PLAYING_ORDER, PREVIOUS_GROUP, PREVIOUS_SEGMENT, PREVIOUS_TRACK, RELATIVE, REWIND, RUNNING, SAMPLE,
+    SEEKING_SPEED, STOP, TRACK,
+    activate, advance, case, connect, deactivate, octets, read, start, subscribe, take, word, write,
 )
 
 # "0x01 Play (0), 0x02 Pause (1), 0x03 Fast Rewind (2), 0x04 Fast Forward (3), 0x05 Stop (4), 0x10 Move Relative (5), 0x20–0x24 Previous, Next, First,
@@ -1107,17 +1108,17 @@ start(b'Radio', ALL, 7, 'done', 'Inactive 3 0 0 | 0 0 0')
 connect(LEFT, 517, ENCRYPTED, 'done')
 set_name(b'a' * 128, 'done', 'Inactive 3 0 0 | 0 0 0')
 value(1, 'read' + ' 61' * 128, 'Inactive 3 0 0 | 0 0 0')
-set_name(b'a' * 129, 'refused 207', 'Inactive 3 0 0 | 0 0 0')
-set_name(b'a' * 255, 'refused 207', 'Inactive 3 0 0 | 0 0 0')
+set_name(b'a' * 129, 'refused 207 128', 'Inactive 3 0 0 | 0 0 0')
+set_name(b'a' * 255, 'refused 207 128', 'Inactive 3 0 0 | 0 0 0')
 value(1, 'read' + ' 61' * 128, 'Inactive 3 0 0 | 0 0 0')
 set_name(b'\xC3\xA9', 'done', 'Inactive 3 0 0 | 0 0 0')
 value(1, 'read c3 a9', 'Inactive 3 0 0 | 0 0 0')
-set_name(b'\xC3\xA9' * 64 + b'a', 'refused 207', 'Inactive 3 0 0 | 0 0 0')
-set_name(b'a\xFF', 'refused 207', 'Inactive 3 0 0 | 0 0 0')
-set_name(b'a\xC3', 'refused 207', 'Inactive 3 0 0 | 0 0 0')
-set_name(b'\xC0\x80', 'refused 207', 'Inactive 3 0 0 | 0 0 0')
-set_name(b'\xED\xA0\x80', 'refused 207', 'Inactive 3 0 0 | 0 0 0')
-set_name(b'\xF4\x90\x80\x80', 'refused 207', 'Inactive 3 0 0 | 0 0 0')
+set_name(b'\xC3\xA9' * 64 + b'a', 'refused 207 128', 'Inactive 3 0 0 | 0 0 0')
+set_name(b'a\xFF', 'refused 207 1', 'Inactive 3 0 0 | 0 0 0')
+set_name(b'a\xC3', 'refused 207 1', 'Inactive 3 0 0 | 0 0 0')
+set_name(b'\xC0\x80', 'refused 207 0', 'Inactive 3 0 0 | 0 0 0')
+set_name(b'\xED\xA0\x80', 'refused 207 0', 'Inactive 3 0 0 | 0 0 0')
+set_name(b'\xF4\x90\x80\x80', 'refused 207 0', 'Inactive 3 0 0 | 0 0 0')
 value(1, 'read c3 a9', 'Inactive 3 0 0 | 0 0 0')
 set_name(b'\xC3\xA9' * 64, 'done', 'Inactive 3 0 0 | 0 0 0')
 value(1, 'read' + ' c3 a9' * 64, 'Inactive 3 0 0 | 0 0 0')
@@ -1129,7 +1130,7 @@ stand(7, 1, 100)
 speed(3, 'done', 'Paused 7 3 0 | 1 1 100')
 control(FORWARD, 'result 1', 'Seeking 7 3 4 | 1 1 100')
 set_name(b'Box', 'done', 'Seeking 7 3 4 | 1 1 100')
-set_name(b'\x80', 'refused 207', 'Seeking 7 3 4 | 1 1 100')
+set_name(b'\x80', 'refused 207 0', 'Seeking 7 3 4 | 1 1 100')
 control(NEXT_GROUP, 'result 1', 'Playing 7 3 0 | 3 3 0')
 deactivate('done', 'Inactive 7 3 0 | 0 0 0')
 value(1, 'read 42 6f 78', 'Inactive 7 3 0 | 0 0 0')
@@ -1137,44 +1138,142 @@ value(1, 'read 42 6f 78', 'Inactive 7 3 0 | 0 0 0')
 # A refused start leaves the state that there was.
 case('a start with a wrong name')
 stand(7, 1, 100)
-start(b'a' * 129, ALL, 7, 'refused 207', 'Paused 7 0 0 | 1 1 100')
-start(b'\xE2\x82', ALL, 7, 'refused 207', 'Paused 7 0 0 | 1 1 100')
+start(b'a' * 129, ALL, 7, 'refused 207 128', 'Paused 7 0 0 | 1 1 100')
+start(b'\xE2\x82', ALL, 7, 'refused 207 0', 'Paused 7 0 0 | 1 1 100')
 start(b'a' * 128, ALL, 9, 'done', 'Inactive 3 0 0 | 0 0 0')
 connect(LEFT, 517, ENCRYPTED, 'done')
 value(1, 'read' + ' 61' * 128, 'Inactive 3 0 0 | 0 0 0')
 value(22, 'read 09', 'Inactive 3 0 0 | 0 0 0')
 
+# W-207: "the offset, within the name or title, of the first octet that doesn't start a whole valid character, with all octets before it being whole
+# valid characters". A name is that of a start, or one that is set.
+case('where a name is wrong')
+stand(7, 1, 100)
+for name, offset in (
+        # Bad at 0.
+        (b'\xFF', 0),
+        (b'\x80', 0),
+        (b'\xFFabc', 0),
+        (b'\xC3abc', 0),
+        (b'\xFF' + b'a' * 127, 0),
+        # In the middle. Octets are counted, not characters.
+        (b'abc\xFFdef', 3),
+        (b'\xC3\xA9\xE2\x82\xAC\xF0\x9D\x84\x9Ea\xFFb', 10),
+        (b'a' * 64 + b'\xFF' + b'a' * 63, 64),
+        # The first of two places.
+        (b'ab\xFFcd\xFF', 2),
+        (b'ab\xFFcd\xC3', 2),
+        # Something else in place of a tail, in a character of two, three and four octets.
+        (b'ab\xC3cd', 2),
+        (b'ab\xE2\x82cd', 2),
+        (b'ab\xF0\x9D\x84cd', 2),
+        (b'ab\xF0\x9D\x84\xC3\xA9', 2),
+        # The name ends inside a character.
+        (b'ab\xC3', 2),
+        (b'ab\xE2', 2),
+        (b'ab\xE2\x82', 2),
+        (b'ab\xF0', 2),
+        (b'ab\xF0\x9D', 2),
+        (b'ab\xF0\x9D\x84', 2),
+        # 128 octets that end inside a character, and those whose last octet or last character is bad.
+        (b'a' * 127 + b'\xC3', 127),
+        (b'a' * 126 + b'\xE2\x82', 126),
+        (b'a' * 125 + b'\xF0\x9D\x84', 125),
+        (b'a' * 127 + b'\xFF', 127),
+        (b'a' * 127 + b'\x80', 127),
+        (b'a' * 126 + b'\xC3a', 126),
+        (b'a' * 124 + b'\xF0\x9D\x84a', 124),
+        (b'\xC3\xA9' * 63 + b'a\xC3', 127)):
+    set_name(name, 'refused 207 %d' % offset, 'Paused 7 0 0 | 1 1 100')
+    start(name, ALL, 9, 'refused 207 %d' % offset, 'Paused 7 0 0 | 1 1 100')
+value(1, 'read 52 61 64 69 6f', 'Paused 7 0 0 | 1 1 100')
+value(22, 'read 07', 'Paused 7 0 0 | 1 1 100')
 
-# ---- Refusals: "A refusal returns its number alone and alters nothing."; "Several at once: the first in the table."
+# W-207: "for a name over 128 octets, 128, tested first"
+case('names over 128 octets, bad ones among them')
+stand(7, 1, 100)
+for name in (
+        b'a' * 129,
+        b'a' * 130,
+        b'a' * 255,
+        b'\xFF' + b'a' * 128,
+        b'a' * 64 + b'\xFF' + b'a' * 64,
+        b'a' * 127 + b'\xFFa',
+        b'a' * 128 + b'\xFF',
+        b'a' * 127 + b'\xC3\xA9',
+        b'a' * 126 + b'\xE2\x82\xAC',
+        b'a' * 126 + b'\xE2\x82a',
+        b'a' * 128 + b'\xC3\xA9',
+        b'\xC3\xA9' * 65,
+        b'\xFF' * 129,
+        b'\xFF' * 255):
+    set_name(name, 'refused 207 128', 'Paused 7 0 0 | 1 1 100')
+    start(name, ALL, 9, 'refused 207 128', 'Paused 7 0 0 | 1 1 100')
+value(1, 'read 52 61 64 69 6f', 'Paused 7 0 0 | 1 1 100')
+value(22, 'read 07', 'Paused 7 0 0 | 1 1 100')
 
-# "a catalogue rule above fails, or a lent table ends inside a record"
-for catalogue in (OWN_PARENT, CUT):
+# No octets, and 128 of which the last are a character of one, two, three and four.
+case('names of 0 and of 128 octets')
+for name in (b'', b'a' * 128, b'a' * 126 + b'\xC3\xA9', b'a' * 125 + b'\xE2\x82\xAC', b'a' * 124 + b'\xF0\x9D\x84\x9E'):
+    start(name, ALL, 9, 'done', 'Inactive 3 0 0 | 0 0 0')
+    connect(LEFT, 517, ENCRYPTED, 'done')
+    value(1, 'read' + octets(name), 'Inactive 3 0 0 | 0 0 0')
+    set_name(b'Box', 'done', 'Inactive 3 0 0 | 0 0 0')
+    value(1, 'read 42 6f 78', 'Inactive 3 0 0 | 0 0 0')
+    set_name(name, 'done', 'Inactive 3 0 0 | 0 0 0')
+    value(1, 'read' + octets(name), 'Inactive 3 0 0 | 0 0 0')
+
+
+# ---- Refusals: "A refusal .. alters nothing."; "Several at once: the first in the table." W-207: 200 with a bad title and 207 carry a place.
+
+# "a catalogue rule above fails, or a lent table ends inside a record"; W-207: "a bad title carries the lowest such track and the offset; every other
+# 200 carries neither and comes before"
+for catalogue, answer in ((OWN_PARENT, 'refused 200'), (CUT, 'refused 200'), (BAD_TITLES, 'refused 200 1 5'), (BAD_AND_WRONG, 'refused 200')):
     case('a wrong catalogue')
     stand(3, 1, 100)
     control(PLAY, 'result 1', 'Playing 3 0 0 | 1 1 100')
-    start(b'Radio', ALL, 7, 'refused 200', 'Playing 3 0 0 | 1 1 100', catalogue)
-    set_name(b'Box', 'refused 200', 'Playing 3 0 0 | 1 1 100', catalogue)
-    activate(1, 'refused 200', 'Playing 3 0 0 | 1 1 100', catalogue=catalogue)
-    deactivate('refused 200', 'Playing 3 0 0 | 1 1 100', catalogue=catalogue)
-    advance(10, 'refused 200', 'Playing 3 0 0 | 1 1 100', catalogue=catalogue)
-    position(10, 'refused 200', 'Playing 3 0 0 | 1 1 100', catalogue)
-    speed(10, 'refused 200', 'Playing 3 0 0 | 1 1 100', catalogue)
-    order(4, 'refused 200', 'Playing 3 0 0 | 1 1 100', catalogue)
-    control(PAUSE, 'refused 200', 'Playing 3 0 0 | 1 1 100', catalogue=catalogue)
-    value(7, 'refused 200', 'Playing 3 0 0 | 1 1 100', catalogue=catalogue)
-    check('refused 200', 'Playing 3 0 0 | 1 1 100', catalogue)
+    start(b'Radio', ALL, 7, answer, 'Playing 3 0 0 | 1 1 100', catalogue)
+    set_name(b'Box', answer, 'Playing 3 0 0 | 1 1 100', catalogue)
+    activate(1, answer, 'Playing 3 0 0 | 1 1 100', catalogue=catalogue)
+    deactivate(answer, 'Playing 3 0 0 | 1 1 100', catalogue=catalogue)
+    advance(10, answer, 'Playing 3 0 0 | 1 1 100', catalogue=catalogue)
+    position(10, answer, 'Playing 3 0 0 | 1 1 100', catalogue)
+    speed(10, answer, 'Playing 3 0 0 | 1 1 100', catalogue)
+    order(4, answer, 'Playing 3 0 0 | 1 1 100', catalogue)
+    control(PAUSE, answer, 'Playing 3 0 0 | 1 1 100', catalogue=catalogue)
+    value(7, answer, 'Playing 3 0 0 | 1 1 100', catalogue=catalogue)
+    check(answer, 'Playing 3 0 0 | 1 1 100', catalogue)
     # 200 before 205, 207, 208, 0x13.
-    value(7, 'refused 200', 'Playing 3 0 0 | 1 1 100', 127, catalogue)
-    start(b'\xFF', ALL, 7, 'refused 200', 'Playing 3 0 0 | 1 1 100', catalogue)
-    set_name(b'\xFF', 'refused 200', 'Playing 3 0 0 | 1 1 100', catalogue)
-    activate(9, 'refused 200', 'Playing 3 0 0 | 1 1 100', catalogue=catalogue)
-    order(0, 'refused 200', 'Playing 3 0 0 | 1 1 100', catalogue)
-    control(0xFF, 'refused 200', 'Playing 3 0 0 | 1 1 100', catalogue=catalogue)
+    value(7, answer, 'Playing 3 0 0 | 1 1 100', 127, catalogue)
+    start(b'\xFF', ALL, 7, answer, 'Playing 3 0 0 | 1 1 100', catalogue)
+    set_name(b'\xFF', answer, 'Playing 3 0 0 | 1 1 100', catalogue)
+    activate(9, answer, 'Playing 3 0 0 | 1 1 100', catalogue=catalogue)
+    order(0, answer, 'Playing 3 0 0 | 1 1 100', catalogue)
+    control(0xFF, answer, 'Playing 3 0 0 | 1 1 100', catalogue=catalogue)
     # 200 before 201.
     damage(TRACK, 3, 'Playing 3 0 0 | 1 3 100')
-    check('refused 200', 'Playing 3 0 0 | 1 3 100', catalogue)
-    value(7, 'refused 200', 'Playing 3 0 0 | 1 3 100', 127, catalogue)
+    check(answer, 'Playing 3 0 0 | 1 3 100', catalogue)
+    value(7, answer, 'Playing 3 0 0 | 1 3 100', 127, catalogue)
     check('refused 201', 'Playing 3 0 0 | 1 3 100')
+
+# The titles of tracks 1 and 3 are bad in that catalogue, those of tracks 0 and 2 are not. The lowest bad one is told, whatever track is current.
+case('a bad title, and any track current')
+for track in (0, 1, 2):
+    stand(3, track, 0)
+    value(5, 'refused 200 1 5', 'Paused 3 0 0 | 1 %d 0' % track, catalogue=BAD_TITLES)
+    control(PLAY, 'refused 200 1 5', 'Paused 3 0 0 | 1 %d 0' % track, catalogue=BAD_TITLES)
+    value(5, 'refused 200', 'Paused 3 0 0 | 1 %d 0' % track, catalogue=BAD_AND_WRONG)
+stand_in_3(3, 256)
+value(5, 'refused 200 1 5', 'Paused 3 0 0 | 3 3 256', catalogue=BAD_TITLES)
+advance(0, 'refused 200 1 5', 'Paused 3 0 0 | 3 3 256', catalogue=BAD_TITLES)
+value(5, 'refused 200', 'Paused 3 0 0 | 3 3 256', catalogue=BAD_AND_WRONG)
+deactivate('done', 'Inactive 3 0 0 | 0 0 0')
+value(5, 'refused 200 1 5', 'Inactive 3 0 0 | 0 0 0', catalogue=BAD_TITLES)
+position(10, 'refused 200 1 5', 'Inactive 3 0 0 | 0 0 0', BAD_TITLES)
+activate(3, 'refused 200 1 5', 'Inactive 3 0 0 | 0 0 0', catalogue=BAD_TITLES)
+check('refused 200 1 5', 'Inactive 3 0 0 | 0 0 0', BAD_TITLES)
+check('refused 200', 'Inactive 3 0 0 | 0 0 0', BAD_AND_WRONG)
+check('nothing', 'Inactive 3 0 0 | 0 0 0')
 
 # "the state breaks a player rule above for this catalogue (group, track in it, position, state, seeking speed, order), its name breaks 207"
 case('every call refuses a wrong state')
@@ -1290,7 +1389,7 @@ start(b'Radio', ALL, 7, 'done', 'Inactive 3 0 0 | 0 0 0')
 damage(PLAYING_ORDER, 0, 'Inactive 0 0 0 | 0 0 0')
 check('refused 201', 'Inactive 0 0 0 | 0 0 0')
 
-# The octets behind the length of a name are no part of it.
+# The octets behind the length of a name are no part of it. 201 does not tell where the name of a state is wrong.
 case('a wrong name')
 stand(3, 0, 0)
 damage(NAME_LENGTH, 128, 'Paused 3 0 0 | 1 0 0')

@@ -5,7 +5,7 @@ use mathlib.Core.List.{[], _∷_}
 use Prim.Native.Nat.{ℕ, _≤_}
 use native.Mathlib.Omega.{arith}
 use lib.ListN.{length}
-use Rattle.ground.specs.Refusals.{Said, granted, refused, saidThrough}
+use Rattle.ground.specs.Refusals.{Said, granted, saidThrough}
 use Rattle.ground.proofs.Cases.{past}
 use Rattle.ground.proofs.Rows.{shut}
 use Rattle.catalogue_tables.specs.Tables.{Tables, groupCount, trackCount}
@@ -27,7 +27,7 @@ module _ (k : Tables) (room : ℕ) where
   -- where the catalogue is right, the room decides
   pub says-behind : Right k → (said : Said) → said ≡ saidThrough (roomRow k room ∷ []) (granted (blocksTaken k ∷ [])) → said ≡ writeSaid k room
   unfolding writeSaid
-  says-behind right said e = past (refused 200) (ap not (passed k right)) e
+  says-behind right said e = past _ (ap not (passed k right)) e
 
 module _ (k : Tables) (right : Right k) where
   pub right-sized : Sized k (groupCount (k .groups)) (trackCount (k .tracks)) (length (k .segments)) (length (k .text))

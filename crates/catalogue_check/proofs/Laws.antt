@@ -2,9 +2,9 @@
 -- Assumes nothing.
 use mathlib.Core.Path.{_≡_, refl, ap}
 use mathlib.Core.Bool.{Bool, true, false, _&&_, _||_, not}
-use mathlib.Core.List.{[]}
+use mathlib.Core.List.{List, []}
 use mathlib.Core.Logic.{⊎-elim}
-use Prim.Native.Nat.{ℕ, zero, suc, _+_, _*_, _<_, _≤_}
+use Prim.Native.Nat.{ℕ, zero, suc, _+_, _*_, _<_, _≤_, zero-le}
 use native.Mathlib.Nat.{not-suc-le-zero, eq-or-lt-of-le}
 use native.Mathlib.Numerals.{add-one}
 use native.Mathlib.Omega.{arith}
@@ -12,7 +12,7 @@ use borrow.Author.Tests.{leb-true}
 use lib.Dec.{leb}
 use lib.ListN.{length, getD, length-take, length-drop}
 use Rattle.ground.specs.Cases.{pick}
-use Rattle.ground.specs.Refusals.{Said, granted, refused}
+use Rattle.ground.specs.Refusals.{Said, granted, refusedWith}
 use Rattle.ground.specs.Limits.{mostGroups, mostTracks, mostSegments, mostText, mostDuration, mostTitle, groupWords, trackWords}
 use Rattle.ground.proofs.Bounded.{all-at}
 use Rattle.ground.proofs.Cases.{and-left, and-right, clash, true-or}
@@ -22,26 +22,27 @@ use Rattle.text.specs.declared.Checked.{Checked}
 use Rattle.text.specs.declared.Checked.the-variants.{Fine, BadAt}
 use Rattle.text.proofs.Law.{fine-is-text}
 use Rattle.catalogue_tables.specs.Tables.{Tables, groupCount, trackCount, parentOf, firstTrackOf, tracksIn, durationOf, isUnknown, endBy, endOf, firstSegmentOf, segmentsIn, titleOffsetOf, titleLengthOf, startsOf, titleOf}
-use Rattle.catalogue_rules.specs.Rules.{sizesRule, parentsRule, trackRunsRule, segmentRunsRule, durationsRule, startsRule, titlesPlacedRule, titlesTextRule}
-use Rattle.catalogue_check.specs.Catalogue.{catalogueRule, checkSaid, Right}
+use Rattle.catalogue_rules.specs.Rules.{sizesRule, parentsRule, trackRunsRule, segmentRunsRule, durationsRule, startsRule, titlesPlacedRule, titlesTextRule, badTitle}
+use Rattle.catalogue_check.specs.Catalogue.{plainRule, catalogueRule, catalogueCarries, checkSaid, Right}
 use Rattle.catalogue_rules.proofs.Runs.{inside, apart}
 use Rattle.catalogue_rules.proofs.Checked as rule
+use Rattle.catalogue_rules.proofs.BadTitles.{told-small}
 
-passes : (t : Bool) → pick (not t) (refused 200) (granted []) ≡ granted [] → t ≡ true
-passes true e = refl
-passes false e = clash (ap (λ (s : Said). s .isGranted) e)
+passes : (t : Bool) (values : List ℕ) → pick (not t) (refusedWith 200 values) (granted []) ≡ granted [] → t ≡ true
+passes true values e = refl
+passes false values e = clash (ap (λ (s : Said). s .isGranted) e)
 
 -- the check passes exactly when every rule is kept
 pub passed : (k : Tables) → Right k → catalogueRule k ≡ true
 unfolding checkSaid
-passed k right = passes (catalogueRule k) right
+passed k right = passes (catalogueRule k) (catalogueCarries k) right
 
 pub is-right : (k : Tables) → catalogueRule k ≡ true → Right k
 unfolding checkSaid
 is-right k e = rw e
 
 -- the rules one by one
-pub record Rules (k : Tables) : Type 0 where
+pub record Plain (k : Tables) : Type 0 where
   pub sizes : sizesRule (length (k .groups)) (length (k .tracks)) (length (k .segments)) (length (k .text)) ≡ true
   pub parents : parentsRule (k .groups) ≡ true
   pub track-runs : trackRunsRule (k .groups) (trackCount (k .tracks)) ≡ true
@@ -49,20 +50,16 @@ pub record Rules (k : Tables) : Type 0 where
   pub durations : durationsRule (k .tracks) ≡ true
   pub starts : startsRule (k .tracks) (k .segments) ≡ true
   pub placed : titlesPlacedRule (k .tracks) (length (k .text)) ≡ true
-  pub utf8 : titlesTextRule (k .tracks) (k .text) ≡ true
 
-kept : (k : Tables) → Right k → Rules k
-unfolding catalogueRule
-kept k right =
+pub plain-kept : (k : Tables) → plainRule k ≡ true → Plain k
+unfolding plainRule
+plain-kept k p7 =
     let r1 = sizesRule (length (k .groups)) (length (k .tracks)) (length (k .segments)) (length (k .text)) in
     let r2 = r1 && parentsRule (k .groups) in
     let r3 = r2 && trackRunsRule (k .groups) (trackCount (k .tracks)) in
     let r4 = r3 && segmentRunsRule (k .tracks) (length (k .segments)) in
     let r5 = r4 && durationsRule (k .tracks) in
     let r6 = r5 && startsRule (k .tracks) (k .segments) in
-    let r7 = r6 && titlesPlacedRule (k .tracks) (length (k .text)) in
-    let p8 = passed k right in
-    let p7 = and-left r7 (titlesTextRule (k .tracks) (k .text)) p8 in
     let p6 = and-left r6 (titlesPlacedRule (k .tracks) (length (k .text))) p7 in
     let p5 = and-left r5 (startsRule (k .tracks) (k .segments)) p6 in
     let p4 = and-left r4 (durationsRule (k .tracks)) p5 in
@@ -76,8 +73,27 @@ kept k right =
       durations = and-right r4 (durationsRule (k .tracks)) p5;
       starts = and-right r5 (startsRule (k .tracks) (k .segments)) p6;
       placed = and-right r6 (titlesPlacedRule (k .tracks) (length (k .text))) p7;
-      utf8 = and-right r7 (titlesTextRule (k .tracks) (k .text)) p8;
     }
+
+-- what 200 carries is small
+pub carries-small : (k : Tables) (i : ℕ) → getD (catalogueCarries k) i 0 ≤ mostTracks + mostText
+unfolding catalogueCarries
+carries-small k i = at (plainRule k) refl
+  where
+    at : (t : Bool) → plainRule k ≡ t → getD (pick t (badTitle (k .tracks) (k .text)) []) i 0 ≤ mostTracks + mostText
+    at true e =
+        let sizes = plain-kept k e .sizes in
+        omega (arith, told-small (k .tracks) (k .text) i, rule.few-tracks _ _ _ _ sizes, rule.few-text _ _ _ _ sizes)
+    at false e = zero-le
+
+-- those of a catalogue that passes
+kept : (k : Tables) → Right k → Plain k
+unfolding catalogueRule
+kept k right = plain-kept k (and-left (plainRule k) (titlesTextRule (k .tracks) (k .text)) (passed k right))
+
+utf8 : (k : Tables) → Right k → titlesTextRule (k .tracks) (k .text) ≡ true
+unfolding catalogueRule
+utf8 k right = and-right (plainRule k) (titlesTextRule (k .tracks) (k .text)) (passed k right)
 
 fine : (c : Checked) → isFine c ≡ true → c ≡ Fine
 fine Fine e = refl
@@ -186,7 +202,7 @@ module _ (k : Tables) (right : Right k) where
 
     pub title-fine : textOf (titleOf (k .tracks) (k .text) t) ≡ Fine
     unfolding titlesTextRule
-    title-fine = fine _ (all-at _ (trackCount (k .tracks)) (kept k right .utf8) t exists)
+    title-fine = fine _ (all-at _ (trackCount (k .tracks)) (utf8 k right) t exists)
 
     pub title-valid : Text (titleOf (k .tracks) (k .text) t)
     title-valid = fine-is-text (titleOf (k .tracks) (k .text) t) .0 title-fine

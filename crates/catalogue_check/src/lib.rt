@@ -1,17 +1,17 @@
 // The catalogue check.
 ghost use mathlib.Core.Path.{_≡_};
 ghost use Rattle.catalogue_tables.specs.Tables.{tables};
-ghost use Rattle.catalogue_check.specs.Catalogue.{catalogueRule, saidOf, checkSaid};
+ghost use Rattle.catalogue_check.specs.Catalogue.{plainRule, saidOf, checkSaid};
 
 pub enum Catalogue {
     Fine,
-    // 200: a rule fails, or a table ends inside a record.
+    // 200: a rule fails, or a table ends inside a record. A title that is not UTF-8 is told with its track and the offset.
     Refused(ground::Refusal),
 }
 
-// Whether every rule is kept. That titles are UTF-8 is asked last.
-fn rules_right(groups: &[u32], tracks: &[u32], segments: &[u32], text: &[u8]) -> bool
-    ensures { λ r. ⌜ r ≡ catalogueRule (tables (now (groups .entry)) (now (tracks .entry)) (now (segments .entry)) (now (text .entry))) ⌝ }
+// Whether every rule is kept but that titles are UTF-8.
+fn plain_right(groups: &[u32], tracks: &[u32], segments: &[u32], text: &[u8]) -> bool
+    ensures { λ r. ⌜ r ≡ plainRule (tables (now (groups .entry)) (now (tracks .entry)) (now (segments .entry)) (now (text .entry))) ⌝ }
 {
     if !catalogue_rules::sizes_right(groups.len(), tracks.len(), segments.len(), text.len()) {
         return false;
@@ -35,19 +35,23 @@ fn rules_right(groups: &[u32], tracks: &[u32], segments: &[u32], text: &[u8]) ->
     if !catalogue_rules::titles_placed(tracks, text.len()) {
         return false;
     }
-    if !catalogue_rules::titles_text(tracks, text) {
-        return false;
-    }
     true
 }
 
-// The catalogue check: fine, or 200.
+// The catalogue check: fine, or 200. That titles are UTF-8 is asked last.
 pub fn check(groups: &[u32], tracks: &[u32], segments: &[u32], text: &[u8]) -> Catalogue
     ensures { λ r. ⌜ saidOf r ≡ checkSaid (tables (now (groups .entry)) (now (tracks .entry)) (now (segments .entry)) (now (text .entry))) ⌝ }
 {
-    if rules_right(groups, tracks, segments, text) {
-        return Catalogue::Fine;
+    if !plain_right(groups, tracks, segments, text) {
+        let r = ground::refuse(ground::BAD_CATALOGUE);
+        return Catalogue::Refused(r);
     }
-    let r = ground::refuse(ground::BAD_CATALOGUE);
-    Catalogue::Refused(r)
+    let titles = catalogue_rules::titles_text(tracks, text);
+    match titles {
+        catalogue_rules::Titles::AllText => Catalogue::Fine,
+        catalogue_rules::Titles::BadAt(track, offset) => {
+            let r = ground::refuse_with(ground::BAD_CATALOGUE, track, offset);
+            Catalogue::Refused(r)
+        }
+    }
 }

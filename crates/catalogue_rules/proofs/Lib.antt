@@ -1,3 +1,4 @@
 -- The laws that belong to no one function.
 pub mod Runs
 pub mod Checked
+pub mod BadTitles

@@ -2,15 +2,17 @@
 -- (W-202).
 -- Assumes nothing.
 use mathlib.Core.Bool.{Bool, _&&_, _||_}
-use mathlib.Core.List.{List}
-use Prim.Native.Nat.{ℕ, _+_, _-_, _/_, _%_, _<_, _≤_}
+use mathlib.Core.List.{List, [], _∷_}
+use Prim.Native.Nat.{ℕ, zero, suc, _+_, _-_, _/_, _%_, _<_, _≤_}
 use lib.Dec.{eqb, ltb, leb}
 use lib.ListN.{length, getD}
 use Rattle.ground.specs.Cases.{pick}
 use Rattle.ground.specs.Limits.{mostGroups, mostTracks, mostSegments, mostText, groupWords, trackWords, mostDuration, mostTitle}
 use Rattle.ground.specs.Lists.{allBelow, sumBelow}
-use Rattle.text.specs.Utf8.{textOf, isFine}
+use Rattle.text.specs.Utf8.{textOf, textSaid, isFine}
 use Rattle.catalogue_tables.specs.Tables.{groupCount, trackCount, parentOf, firstTrackOf, tracksIn, durationOf, isRunning, endOf, firstSegmentOf, segmentsIn, titleOffsetOf, titleLengthOf, startsOf, titleOf}
+use Rattle.catalogue_rules.specs.declared.Titles.{Titles}
+use Rattle.catalogue_rules.specs.declared.Titles.the-variants.{AllText, BadAt}
 
 -- of tables of these lengths: none "ends inside a record", and the limits
 unfoldable pub sizesRule : ℕ → ℕ → ℕ → ℕ → Bool
@@ -71,6 +73,20 @@ titlesPlacedRule tracks text =
 -- "and are UTF-8"
 unfoldable pub titlesTextRule : List ℕ → List ℕ → Bool
 titlesTextRule tracks text = allBelow (trackCount tracks) (λ t. isFine (textOf (titleOf tracks text t)))
+
+-- "a bad title carries the lowest such track and the offset" (document 02, W-207): of n tracks from the track t on
+unfoldable pub badTitleFrom : List ℕ → List ℕ → ℕ → ℕ → List ℕ
+badTitleFrom tracks text zero t = []
+badTitleFrom tracks text (suc n) t =
+    pick (textSaid (titleOf tracks text t) .isGranted) (badTitleFrom tracks text n (suc t)) (t ∷ textSaid (titleOf tracks text t) .values)
+
+abbrev pub badTitle : List ℕ → List ℕ → List ℕ
+badTitle tracks text = badTitleFrom tracks text (trackCount tracks) 0
+
+-- the values of what is said of the titles
+abbrev pub titlesOf : Titles → List ℕ
+titlesOf AllText = []
+titlesOf (BadAt track offset) = track ∷ offset ∷ []
 
 -- each run, and each title, lies within its table
 abbrev pub RunsInside : List ℕ → ℕ → Type 0

@@ -1,9 +1,19 @@
 // The rules of a catalogue, a function for each. Loops have no early exit: they are vector code, or at least branch-free.
 ghost use mathlib.Core.Path.{_≡_};
+ghost use mathlib.Core.List.{_∷_};
 ghost use Prim.Native.Nat.{ℕ, _+_, _*_, _<_, _≤_};
 ghost use lib.ListN.{length};
+ghost use Rattle.ground.specs.Cases.{pick};
+ghost use Rattle.text.specs.Utf8.{saidOf as textSaidOf};
 ghost use Rattle.catalogue_tables.specs.Tables.{wordIn};
-ghost use Rattle.catalogue_rules.specs.Rules.{sizesRule, parentRight, parentsRule, follow, durationsRule, riseRule, belowRule, startsRight, startsRule, titlesPlacedRule, titlesTextRule, RunsInside, TitlesInside};
+ghost use Rattle.catalogue_rules.specs.Rules.{sizesRule, parentRight, parentsRule, follow, durationsRule, riseRule, belowRule, startsRight, startsRule, titlesPlacedRule, badTitle, titlesOf, RunsInside, TitlesInside};
+
+// What is said of all titles.
+pub enum Titles {
+    AllText,
+    // The lowest track whose title is not UTF-8, and the offset of the octet where it is not.
+    BadAt(usize, usize),
+}
 
 pub fn sizes_right(groups: usize, tracks: usize, segments: usize, text: usize) -> bool
     ensures { λ r. ⌜ r ≡ sizesRule groups tracks segments text ⌝ }
@@ -151,21 +161,32 @@ pub fn titles_placed(tracks: &[u32], text: usize) -> bool
     good
 }
 
-pub fn titles_text(tracks: &[u32], text: &[u8]) -> bool
-    requires { ⌜ TitlesInside (now tracks) (length (now text)) ⌝ }
-    ensures { λ r. ⌜ r ≡ titlesTextRule (now (tracks .entry)) (now (text .entry)) ⌝ }
+// What is said of the titles behind one more, which has the lower number.
+fn with_title(behind: Titles, track: usize, title: text::Checked) -> Titles
+    ensures { λ r. ⌜ titlesOf r ≡ pick (textSaidOf title .isGranted) (titlesOf behind) (track ∷ textSaidOf title .values) ⌝ }
 {
-    let n = tracks.len() / catalogue_tables::TRACK_WORDS;
-    let mut good = true;
-    let mut i: usize = 0;
-    while i < n {
+    match title {
+        text::Checked::Fine => behind,
+        text::Checked::BadAt(offset) => Titles::BadAt(track, offset),
+    }
+}
+
+// Whether all titles are UTF-8, or the lowest track whose title is not, and where it is not. From the last track to the first, the one that is kept is the
+// lowest, and every title is looked at once.
+pub fn titles_text(tracks: &[u32], text: &[u8]) -> Titles
+    requires { ⌜ TitlesInside (now tracks) (length (now text)) ⌝ }
+    ensures { λ r. ⌜ titlesOf r ≡ badTitle (now (tracks .entry)) (now (text .entry)) ⌝ }
+{
+    let mut found = Titles::AllText;
+    let mut i = tracks.len() / catalogue_tables::TRACK_WORDS;
+    while 0 < i {
+        i -= 1;
         let base = i * catalogue_tables::TRACK_WORDS;
         let offset = ground::wide_word(tracks[base + catalogue_tables::TITLE_OFFSET_AT]);
         let len = ground::wide_word(tracks[base + catalogue_tables::TITLE_LENGTH_AT]);
         let end = offset + len;
-        let right = text::is_text(&text[offset..end]);
-        good = good & right;
-        i += 1;
+        let title = text::check(&text[offset..end]);
+        found = with_title(found, i, title);
     }
-    good
+    found
 }

@@ -1,12 +1,27 @@
 // The calls of the desk itself, as the clients see them. Each checks catalogue and state itself, and refuses by document 01's numbers.
 ghost use mathlib.Core.Path.{_≡_};
-ghost use mathlib.Core.List.{[]};
+ghost use mathlib.Core.List.{_∷_, []};
 ghost use Rattle.ground.specs.Refusals.{granted, leaves};
 ghost use Rattle.catalogue_tables.specs.Tables.{tables};
 ghost use Rattle.desk_notices.specs.Owed.{settled, noWriter};
-ghost use Rattle.desk_replies.specs.Replies.{leftBy};
+ghost use Rattle.player_check.specs.Standing.{nameRow};
+ghost use Rattle.desk_replies.specs.Replies.{leftBy, Gated};
 ghost use Rattle.player_values.specs.Values.{source};
 ghost use Rattle.desk_console.specs.Console.{startCall, nameCall, activateCall, deactivateCall, quietAdvance, advanceCall};
+
+// 207: a name that is handed in, and where it is wrong.
+fn name_gate(name: &[u8]) -> desk_replies::Gate
+    ensures { λ r. ⌜ Gated (nameRow (now (name .entry)) ∷ []) r ⌝ }
+{
+    let c = player_check::check_name(name);
+    match c {
+        text::Checked::Fine => desk_replies::gate_open(),
+        text::Checked::BadAt(offset) => {
+            let r = ground::refuse_at(ground::BAD_NAME, offset);
+            desk_replies::gate_with(r)
+        }
+    }
+}
 
 // Start: a fresh player, and nobody connected.
 pub fn start(
@@ -27,8 +42,9 @@ pub fn start(
     if !g.passes {
         return desk_replies::shut(g, blank);
     }
-    if !player_check::text_right(name) {
-        return desk_replies::refuse(ground::BAD_NAME, blank);
+    let n = name_gate(name);
+    if !n.passes {
+        return desk_replies::shut(n, blank);
     }
     let q = player_state::start(name, mask, ccid);
     let d = desk_state::fresh_desk(q);
@@ -65,8 +81,9 @@ pub fn set_name(
     if !g.passes {
         return desk_replies::shut(g, d);
     }
-    if !player_check::text_right(name) {
-        return desk_replies::refuse(ground::BAD_NAME, d);
+    let n = name_gate(name);
+    if !n.passes {
+        return desk_replies::shut(n, d);
     }
     let p = d.player;
     let q = player_state::set_name(p, name);

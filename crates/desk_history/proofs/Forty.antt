@@ -15,7 +15,7 @@ use Rattle.ground.specs.Refusals.{accepted}
 use Rattle.ground.proofs.Cases.{and-left, and-right}
 use Rattle.catalogue_tables.specs.Tables.{Tables, startsOf, titleOf}
 use Rattle.catalogue_rules.specs.Rules.{sizesRule, parentsRule, follow, trackRunsRule, segmentRunsRule, durationsRule, beginRule, riseRule, belowRule, startsRule, titlesPlacedRule, titlesTextRule}
-use Rattle.catalogue_check.specs.Catalogue.{catalogueRule}
+use Rattle.catalogue_check.specs.Catalogue.{plainRule, catalogueRule}
 use Rattle.player_orders.specs.Order.{ordered, tracksInOrder}
 use Rattle.player_state.specs.Player.{renamed, startedPlayer}
 use Rattle.player_state.specs.Modes.{forwarded}
@@ -282,7 +282,7 @@ ledger-is =
     (sure-onward oneTrack [] everyOpcode 0 once-more h3 (servedAll oneTrack (round 0) owing) ledger-3 name-changes)
 
 pub one-track-right : catalogueRule oneTrack ≡ true
-unfolding catalogueRule sizesRule parentsRule trackRunsRule follow segmentRunsRule durationsRule startsRule beginRule riseRule belowRule titlesPlacedRule titlesTextRule allBelow sumBelow startsOf titleOf textOf textFrom charOf
+unfolding catalogueRule plainRule sizesRule parentsRule trackRunsRule follow segmentRunsRule durationsRule startsRule beginRule riseRule belowRule titlesPlacedRule titlesTextRule allBelow sumBelow startsOf titleOf textOf textFrom charOf
 one-track-right = refl
 
 pub no-name-right : textRule [] ≡ true

@@ -14,13 +14,13 @@ use lib.ListN.{length, getD, set, length-set, take as firsts}
 use lib.Seq.{getD-set-same, getD-set-other}
 use Rattle.ground.specs.Cases.{pick, has}
 use Rattle.ground.specs.Limits.{leastOutput}
-use Rattle.ground.specs.Refusals.{Said, granted, Row, row, saidBy, leaves}
+use Rattle.ground.specs.Refusals.{Said, granted, Row, row, rowWith, saidBy, leaves}
 use Rattle.ground.proofs.Rows.{said-of}
 use Rattle.desk_replies.specs.Replies.{stateRight, fronted, caller}
 use Rattle.ground.proofs.Bounded.{all-intro}
 use Rattle.ground.proofs.Cases.{past, here, clash, true-or, and-both}
 use Rattle.catalogue_tables.specs.Tables.{Tables}
-use Rattle.catalogue_check.specs.Catalogue.{catalogueRule}
+use Rattle.catalogue_check.specs.Catalogue.{catalogueRule, catalogueCarries}
 use Rattle.player_state.specs.declared.Player.{Player}
 use Rattle.player_values.specs.Values.{sourceOf, valueOf}
 use Rattle.desk_slots.specs.Slots.{placeCount, clientCount, owing, slotOf, characteristicOf}
@@ -218,12 +218,12 @@ module _ (k : Tables) (right : catalogueRule k ≡ true) (L : Ledger) (d : Desk)
       ok-call k right L d ok (ltb room leastOutput) (mayTake room) [] _ (taking L (nextIn L)) refl
       (λ e. subst (λ (n : ℕ). Ok k (taking L (nextIn L)) (takenBy k d n .state)) (sym next-agrees) taken-ok)
 
-  -- the refusals of a take carry nothing
-  no-values : (right small stands : Bool) → saidBy (row 200 right ∷ row 205 small ∷ row 201 stands ∷ []) .values ≡ []
-  no-values true small stands = refl
-  no-values false true stands = refl
-  no-values false false true = refl
-  no-values false false false = refl
+  -- the refusals of a take carry nothing where the catalogue is right
+  no-values : (carried : List ℕ) (wrong small fallen : Bool) → wrong ≡ false → saidBy (rowWith 200 carried wrong ∷ row 205 small ∷ row 201 fallen ∷ []) .values ≡ []
+  no-values carried true small fallen e = clash (sym e)
+  no-values carried false true fallen e = refl
+  no-values carried false false true e = refl
+  no-values carried false false false e = refl
 
   -- what the desk says of a take, and what it hands out
   pub take-agrees : (room : ℕ) → spoken (takeCall k d room .said .values) (takeOctets k d) ≡ pick (mayTake room) (pick (leb clientCount (nextIn L)) none (some (answerIn k L (nextIn L)))) none
@@ -252,4 +252,4 @@ module _ (k : Tables) (right : catalogueRule k ≡ true) (L : Ledger) (d : Desk)
       enough : (t : Bool) → spoken (pick t (takenBy k d (nextIn L) .said) (saidBy rows) .values) (octets (nextClient d))
           ≡ pick t (pick (leb clientCount (nextIn L)) none (some (answerIn k L (nextIn L)))) none
       enough true = (λ i. spoken (takenBy k d (nextIn L) .said .values) (octets (next-agrees i))) ∙ serves (leb clientCount (nextIn L)) refl
-      enough false = ap (λ (v : List ℕ). spoken v (octets (nextClient d))) (no-values (not (catalogueRule k)) (ltb room leastOutput) (not (stateRight k d)))
+      enough false = ap (λ (v : List ℕ). spoken v (octets (nextClient d))) (no-values (catalogueCarries k) (not (catalogueRule k)) (ltb room leastOutput) (not (stateRight k d)) (ap not right))

@@ -5,7 +5,7 @@ use mathlib.Core.List.{List, [], _∷_}
 use Prim.Native.Nat.{ℕ}
 use mathlib.Core.Bool.{false}
 use Rattle.ground.specs.declared.Carried.{Carried}
-use Rattle.ground.specs.declared.Carried.the-variants.{Nothing, One}
+use Rattle.ground.specs.declared.Carried.the-variants.{Nothing, One, Two}
 use Rattle.ground.specs.declared.Refusal.{Refusal}
 use Rattle.ground.specs.Refusals.{Said, carriedOf, refusalOf}
 use Rattle.ground.specs.Lists.{tableAfter}
@@ -27,7 +27,8 @@ table-kept said front old t h e = rw h at e
 -- a refusal, back from what it says
 carriedAs : List ℕ → Carried
 carriedAs [] = Nothing
-carriedAs (a ∷ l) = One a
+carriedAs (a ∷ []) = One a
+carriedAs (a ∷ b ∷ l) = Two a b
 
 pub refusalAs : Said → Refusal
 refusalAs said = record { number = said .number; carried = carriedAs (said .values) }
@@ -36,6 +37,7 @@ carried-back : (c : Carried) → carriedAs (carriedOf c) ≡ c
 unfolding carriedAs
 carried-back Nothing = refl
 carried-back (One a) = refl
+carried-back (Two a b) = refl
 
 pub refusal-back : (r : Refusal) → refusalAs (refusalOf r) ≡ r
 unfolding refusalAs

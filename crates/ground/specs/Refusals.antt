@@ -6,7 +6,7 @@ use Prim.Native.Nat.{ℕ}
 use lib.Dec.{eqb}
 use Rattle.ground.specs.Cases.{pick}
 use Rattle.ground.specs.declared.Carried.{Carried}
-use Rattle.ground.specs.declared.Carried.the-variants.{Nothing, One}
+use Rattle.ground.specs.declared.Carried.the-variants.{Nothing, One, Two}
 use Rattle.ground.specs.declared.Refusal.{Refusal}
 
 -- What a call says in document 01's terms: granted, with 0 and its values; or the number of a refusal and what it carries.
@@ -29,6 +29,7 @@ refused number = refusedWith number []
 abbrev pub carriedOf : Carried → List ℕ
 carriedOf Nothing = []
 carriedOf (One a) = a ∷ []
+carriedOf (Two a b) = a ∷ b ∷ []
 
 abbrev pub refusalOf : Refusal → Said
 refusalOf r = refusedWith (r .number) (carriedOf (r .carried))

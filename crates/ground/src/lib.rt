@@ -90,6 +90,7 @@ pub const MANY_STARTS: u32 = 228;
 pub enum Carried {
     Nothing,
     One(usize),
+    Two(usize, usize),
 }
 
 pub struct Refusal {
@@ -114,6 +115,16 @@ pub fn refuse_at(number: u32, place: usize) -> Refusal
     Refusal {
         number: number,
         carried: Carried::One(place),
+    }
+}
+
+// A refusal that carries two numbers besides.
+pub fn refuse_with(number: u32, first: usize, second: usize) -> Refusal
+    ensures { λ r. ⌜ refusalOf r ≡ refusedWith number (first ∷ second ∷ []) ⌝ }
+{
+    Refusal {
+        number: number,
+        carried: Carried::Two(first, second),
     }
 }
 

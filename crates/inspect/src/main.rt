@@ -1,6 +1,6 @@
 // Reads a card from standard input, loads it into tables at the limits, and checks the catalogue that it holds.
-// Writes the counts and "catalogue fine"; of a card with a bad block the refusal number, the block and what is wrong with it, in words; or the refusal number
-// alone.
+// Writes the counts and "catalogue fine"; of a card with a bad block the refusal number, the block and what is wrong with it, in words; of a title that is not
+// UTF-8 the refusal number, its track and the octet; or the refusal number alone.
 ghost use Prim.Native.Nat.{_≤_};
 use card_load::Counts;
 use card_load::Loaded;
@@ -49,6 +49,12 @@ fn refuse(r: ground::Refusal) {
             write_number(block);
             io::write_all(1, b", ");
             write_reason(number);
+        }
+        ground::Carried::Two(track, offset) => {
+            io::write_all(1, b": title of track ");
+            write_number(track);
+            io::write_all(1, b", octet ");
+            write_number(offset);
         }
     }
     io::write_all(1, b"\n");

@@ -1,4 +1,4 @@
--- `Leaves` follows an equation, and settles number and octets; and a call that changes nothing leaves every octet as it was. Assumes nothing.
+-- `Ends` follows an equation, and settles number, octets and words; and a call that changes nothing leaves every octet as it was. Assumes nothing.
 use mathlib.Core.Path.{_≡_, refl, sym, ap, subst, _∙_}
 use mathlib.Core.Bool.{Bool, true, false}
 use mathlib.Core.List.{List, _++_}
@@ -14,13 +14,23 @@ use Rattle.desk_state.specs.declared.Desk.{Desk}
 use Rattle.desk_replies.specs.Replies.{stateRight, fronted, asked}
 use Rattle.mcs_state.specs.Codec.{deskOf, deskOctets}
 use Rattle.mcs_state.proofs.Plain.{Octets, plain}
-use Rattle.mcs.specs.Calls.{stateAfter, Leaves}
+use Rattle.mcs.specs.Calls.{AllWords, stateAfter, Leaves, Ends}
 
-pub follow : {l m : Left Desk} {old new : List ℕ} {number : ℕ} → l ≡ m → Leaves l old number new → Leaves m old number new
-follow {l} {m} {old} {new} {number} e h = subst (λ (x : Left Desk). Leaves x old number new) e h
+pub follow : {l m : Left Desk} {old track offset new track′ offset′ : List ℕ} {number : ℕ} → l ≡ m
+    → Ends l old track offset number new track′ offset′ → Ends m old track offset number new track′ offset′
+follow {l} {m} {old} {track} {offset} {new} {track′} {offset′} {number} e h = subst (λ (x : Left Desk). Ends x old track offset number new track′ offset′) e h
 
-pub leaves-settled : {l : Left Desk} {old new₁ new₂ : List ℕ} {n₁ n₂ : ℕ} → Leaves l old n₁ new₁ → Leaves l old n₂ new₂ → (n₁ ≡ n₂) × (new₁ ≡ new₂)
-leaves-settled a b = (a .told ∙ sym (b .told), a .octets ∙ sym (b .octets))
+pub ends-settled : {l : Left Desk} {old track offset new₁ new₂ t₁ t₂ o₁ o₂ : List ℕ} {n₁ n₂ : ℕ}
+    → Ends l old track offset n₁ new₁ t₁ o₁ → Ends l old track offset n₂ new₂ t₂ o₂ → ((n₁ ≡ n₂) × (new₁ ≡ new₂)) × (t₁ ≡ t₂) × (o₁ ≡ o₂)
+ends-settled a b = (
+  (a .leaves .told ∙ sym (b .leaves .told), a .leaves .octets ∙ sym (b .leaves .octets)),
+  a .track-told ∙ sym (b .track-told),
+  a .offset-told ∙ sym (b .offset-told),
+)
+
+-- what a call leaves says small numbers, as the call that it follows does
+pub small-left : {l m : Left Desk} → l ≡ m → AllWords (m .said .values) → AllWords (l .said .values)
+small-left e h = subst (λ (x : Left Desk). AllWords (x .said .values)) (sym e) h
 
 -- a call that is accepted found a state that stands
 stood : (k : Tables) (small : Bool) (d : Desk) (rows : List Row) (work : Left Desk) → asked k small d rows work .said .isGranted ≡ true → stateRight k d ≡ true

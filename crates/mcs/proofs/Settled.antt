@@ -5,7 +5,7 @@ use mathlib.Core.List.{List}
 use Prim.Native.Nat.{ℕ}
 use contract.Lifetimes.{Lfts}
 use denote.Ref.{RefT, at-last}
-use Rattle.mcs.proofs.Leaving.{leaves-settled}
+use Rattle.mcs.proofs.Leaving.{ends-settled}
 use Rattle.mcs.proofs.mcs_card_load.Reads as card-load
 use Rattle.mcs.proofs.mcs_card_write.Reads as card-write
 use Rattle.mcs.proofs.mcs_cue_sheet.Reads as cue-sheet
@@ -22,59 +22,70 @@ use Rattle.mcs.proofs.mcs_read.Reads as read
 use Rattle.mcs.proofs.mcs_write.Reads as write
 use Rattle.mcs.proofs.mcs_take.Reads as take
 
--- no two numbers and no two states
-abbrev Settles : (ℕ → List ℕ → Type 0) → Type 0
-Settles Met = (n₁ n₂ : ℕ) (new₁ new₂ : List ℕ) → Met n₁ new₁ → Met n₂ new₂ → (n₁ ≡ n₂) × (new₁ ≡ new₂)
+-- no two numbers, no two states, and no two words for where a text is wrong
+abbrev Settles : (ℕ → List ℕ → List ℕ → List ℕ → Type 0) → Type 0
+Settles Met =
+    (n₁ n₂ : ℕ) (new₁ new₂ t₁ t₂ o₁ o₂ : List ℕ) → Met n₁ new₁ t₁ o₁ → Met n₂ new₂ t₂ o₂ → ((n₁ ≡ n₂) × (new₁ ≡ new₂)) × (t₁ ≡ t₂) × (o₁ ≡ o₂)
 
-module _ (groups tracks segments text state : RefT (List ℕ)) where
-  -- the catalogue before the other arguments
+module _ (groups tracks segments text state track octet : RefT (List ℕ)) where
+  -- the catalogue before the other arguments, and the words for where a text is wrong behind them
   abbrev lent : {A : Type 0} → A → RefT (List ℕ) × (RefT (List ℕ) × (RefT (List ℕ) × (RefT (List ℕ) × A)))
   lent rest = (groups, (tracks, (segments, (text, rest))))
 
-  module _ (κs : Lfts 5) where
-    pub activate-settled : (group : ℕ) → Settles (λ n new. activate.Post κs (lent (state, (group, tt))) n (lent (at-last state new, (group, tt))))
-    activate-settled group n₁ n₂ new₁ new₂ = leaves-settled
+  abbrev words : RefT (List ℕ) × (RefT (List ℕ) × Unit {0})
+  words = (track, (octet, tt))
 
-    pub deactivate-settled : Settles (λ n new. deactivate.Post κs (lent (state, tt)) n (lent (at-last state new, tt)))
-    deactivate-settled n₁ n₂ new₁ new₂ = leaves-settled
+  abbrev told : List ℕ → List ℕ → RefT (List ℕ) × (RefT (List ℕ) × Unit {0})
+  told t o = (at-last track t, (at-last octet o, tt))
 
-    pub advance-settled : (step : ℕ) → Settles (λ n new. advance.Post κs (lent (state, (step, tt))) n (lent (at-last state new, (step, tt))))
-    advance-settled step n₁ n₂ new₁ new₂ = leaves-settled
+  module _ (κs : Lfts 7) where
+    pub activate-settled : (group : ℕ) → Settles (λ n new t o. activate.Post κs (lent (state, (group, words))) n (lent (at-last state new, (group, told t o))))
+    activate-settled group n₁ n₂ new₁ new₂ t₁ t₂ o₁ o₂ = ends-settled
 
-    pub connect-settled : (client mtu encrypted : ℕ) → Settles (λ n new. connect.Post κs (lent (state, (client, (mtu, (encrypted, tt))))) n (lent (at-last state new, (client, (mtu, (encrypted, tt))))))
-    connect-settled client mtu encrypted n₁ n₂ new₁ new₂ = leaves-settled
+    pub deactivate-settled : Settles (λ n new t o. deactivate.Post κs (lent (state, words)) n (lent (at-last state new, told t o)))
+    deactivate-settled n₁ n₂ new₁ new₂ t₁ t₂ o₁ o₂ = ends-settled
 
-    pub disconnect-settled : (client : ℕ) → Settles (λ n new. disconnect.Post κs (lent (state, (client, tt))) n (lent (at-last state new, (client, tt))))
-    disconnect-settled client n₁ n₂ new₁ new₂ = leaves-settled
+    pub advance-settled : (step : ℕ) → Settles (λ n new t o. advance.Post κs (lent (state, (step, words))) n (lent (at-last state new, (step, told t o))))
+    advance-settled step n₁ n₂ new₁ new₂ t₁ t₂ o₁ o₂ = ends-settled
 
-    pub subscribe-settled : (client x : ℕ) → Settles (λ n new. subscribe.Post κs (lent (state, (client, (x, tt)))) n (lent (at-last state new, (client, (x, tt)))))
-    subscribe-settled client x n₁ n₂ new₁ new₂ = leaves-settled
+    pub connect-settled : (client mtu encrypted : ℕ)
+        → Settles (λ n new t o. connect.Post κs (lent (state, (client, (mtu, (encrypted, words))))) n (lent (at-last state new, (client, (mtu, (encrypted, told t o))))))
+    connect-settled client mtu encrypted n₁ n₂ new₁ new₂ t₁ t₂ o₁ o₂ = ends-settled
 
-    pub unsubscribe-settled : (client x : ℕ) → Settles (λ n new. unsubscribe.Post κs (lent (state, (client, (x, tt)))) n (lent (at-last state new, (client, (x, tt)))))
-    unsubscribe-settled client x n₁ n₂ new₁ new₂ = leaves-settled
+    pub disconnect-settled : (client : ℕ) → Settles (λ n new t o. disconnect.Post κs (lent (state, (client, words))) n (lent (at-last state new, (client, told t o))))
+    disconnect-settled client n₁ n₂ new₁ new₂ t₁ t₂ o₁ o₂ = ends-settled
 
-  module _ (κs : Lfts 6) where
-    pub start-settled : (name : RefT (List ℕ)) (mask ccid : ℕ) → Settles (λ n new. start.Post κs (lent (name, (mask, (ccid, (state, tt))))) n (lent (name, (mask, (ccid, (at-last state new, tt))))))
-    start-settled name mask ccid n₁ n₂ new₁ new₂ = leaves-settled
+    pub subscribe-settled : (client x : ℕ) → Settles (λ n new t o. subscribe.Post κs (lent (state, (client, (x, words)))) n (lent (at-last state new, (client, (x, told t o)))))
+    subscribe-settled client x n₁ n₂ new₁ new₂ t₁ t₂ o₁ o₂ = ends-settled
 
-    pub set-name-settled : (name : RefT (List ℕ)) → Settles (λ n new. set-name.Post κs (lent (state, (name, tt))) n (lent (at-last state new, (name, tt))))
-    set-name-settled name n₁ n₂ new₁ new₂ = leaves-settled
+    pub unsubscribe-settled : (client x : ℕ) → Settles (λ n new t o. unsubscribe.Post κs (lent (state, (client, (x, words)))) n (lent (at-last state new, (client, (x, told t o)))))
+    unsubscribe-settled client x n₁ n₂ new₁ new₂ t₁ t₂ o₁ o₂ = ends-settled
 
-    pub write-settled : (client x : ℕ) (value : RefT (List ℕ)) → Settles (λ n new. write.Post κs (lent (state, (client, (x, (value, tt))))) n (lent (at-last state new, (client, (x, (value, tt))))))
-    write-settled client x value n₁ n₂ new₁ new₂ = leaves-settled
+  module _ (κs : Lfts 8) where
+    pub start-settled : (name : RefT (List ℕ)) (mask ccid : ℕ)
+        → Settles (λ n new t o. start.Post κs (lent (name, (mask, (ccid, (state, words))))) n (lent (name, (mask, (ccid, (at-last state new, told t o))))))
+    start-settled name mask ccid n₁ n₂ new₁ new₂ t₁ t₂ o₁ o₂ = ends-settled
+
+    pub set-name-settled : (name : RefT (List ℕ)) → Settles (λ n new t o. set-name.Post κs (lent (state, (name, words))) n (lent (at-last state new, (name, told t o))))
+    set-name-settled name n₁ n₂ new₁ new₂ t₁ t₂ o₁ o₂ = ends-settled
+
+    pub write-settled : (client x : ℕ) (value : RefT (List ℕ))
+        → Settles (λ n new t o. write.Post κs (lent (state, (client, (x, (value, words))))) n (lent (at-last state new, (client, (x, (value, told t o))))))
+    write-settled client x value n₁ n₂ new₁ new₂ t₁ t₂ o₁ o₂ = ends-settled
 
   -- the lent output and the words for what is said too
-  module _ (κs : Lfts 7) (out told : RefT (List ℕ)) (n₁ n₂ : ℕ) (new₁ new₂ out₁ out₂ told₁ told₂ : List ℕ) where
-    pub read-settled : (client x offset : ℕ)
-        → read.Post κs (lent (state, (client, (x, (offset, (out, (told, tt))))))) n₁ (lent (at-last state new₁, (client, (x, (offset, (at-last out out₁, (at-last told told₁, tt)))))))
-        → read.Post κs (lent (state, (client, (x, (offset, (out, (told, tt))))))) n₂ (lent (at-last state new₂, (client, (x, (offset, (at-last out out₂, (at-last told told₂, tt)))))))
-        → ((n₁ ≡ n₂) × (new₁ ≡ new₂)) × (out₁ ≡ out₂) × (told₁ ≡ told₂)
-    read-settled client x offset p q = (leaves-settled (p .0) (q .0), p .1 .0 ∙ sym (q .1 .0), p .1 .1 ∙ sym (q .1 .1))
+  module _ (κs : Lfts 9) (out said : RefT (List ℕ)) (out₁ out₂ said₁ said₂ : List ℕ) where
+    pub read-settled : (client x offset : ℕ) (n₁ n₂ : ℕ) (new₁ new₂ t₁ t₂ o₁ o₂ : List ℕ)
+        → read.Post κs (lent (state, (client, (x, (offset, (out, (said, words))))))) n₁ (lent (at-last state new₁, (client, (x, (offset, (at-last out out₁, (at-last said said₁, told t₁ o₁)))))))
+        → read.Post κs (lent (state, (client, (x, (offset, (out, (said, words))))))) n₂ (lent (at-last state new₂, (client, (x, (offset, (at-last out out₂, (at-last said said₂, told t₂ o₂)))))))
+        → (((n₁ ≡ n₂) × (new₁ ≡ new₂)) × (t₁ ≡ t₂) × (o₁ ≡ o₂)) × (out₁ ≡ out₂) × (said₁ ≡ said₂)
+    read-settled client x offset n₁ n₂ new₁ new₂ t₁ t₂ o₁ o₂ p q = (ends-settled (p .0) (q .0), p .1 .0 ∙ sym (q .1 .0), p .1 .1 ∙ sym (q .1 .1))
 
-    pub take-settled : take.Post κs (lent (state, (out, (told, tt)))) n₁ (lent (at-last state new₁, (at-last out out₁, (at-last told told₁, tt))))
-        → take.Post κs (lent (state, (out, (told, tt)))) n₂ (lent (at-last state new₂, (at-last out out₂, (at-last told told₂, tt))))
-        → ((n₁ ≡ n₂) × (new₁ ≡ new₂)) × (out₁ ≡ out₂) × (told₁ ≡ told₂)
-    take-settled p q = (leaves-settled (p .0) (q .0), p .1 .0 ∙ sym (q .1 .0), p .1 .1 ∙ sym (q .1 .1))
+    pub take-settled : (n₁ n₂ : ℕ) (new₁ new₂ t₁ t₂ o₁ o₂ : List ℕ)
+        → take.Post κs (lent (state, (out, (said, words)))) n₁ (lent (at-last state new₁, (at-last out out₁, (at-last said said₁, told t₁ o₁))))
+        → take.Post κs (lent (state, (out, (said, words)))) n₂ (lent (at-last state new₂, (at-last out out₂, (at-last said said₂, told t₂ o₂))))
+        → (((n₁ ≡ n₂) × (new₁ ≡ new₂)) × (t₁ ≡ t₂) × (o₁ ≡ o₂)) × (out₁ ≡ out₂) × (said₁ ≡ said₂)
+    take-settled n₁ n₂ new₁ new₂ t₁ t₂ o₁ o₂ p q = (ends-settled (p .0) (q .0), p .1 .0 ∙ sym (q .1 .0), p .1 .1 ∙ sym (q .1 .1))
 
 -- a card load's four tables, its counts and its block
 module _ (κs : Lfts 7) (card groups tracks segments text counts block : RefT (List ℕ)) where
@@ -97,13 +108,24 @@ module _ (κs : Lfts 7) (card groups tracks segments text counts block : RefT (L
     p .1 .1 .1 .1 .1 .1 ∙ sym (q .1 .1 .1 .1 .1 .1),
   )
 
--- a card write's card and its number of blocks
-module _ (κs : Lfts 6) (groups tracks segments text card blocks : RefT (List ℕ)) where
-  pub card-write-settled : (n₁ n₂ : ℕ) (c₁ c₂ b₁ b₂ : List ℕ)
-      → card-write.Post κs (lent groups tracks segments text card (card, (blocks, tt))) n₁ (lent groups tracks segments text card (at-last card c₁, (at-last blocks b₁, tt)))
-      → card-write.Post κs (lent groups tracks segments text card (card, (blocks, tt))) n₂ (lent groups tracks segments text card (at-last card c₂, (at-last blocks b₂, tt)))
-      → (n₁ ≡ n₂) × (c₁ ≡ c₂) × (b₁ ≡ b₂)
-  card-write-settled n₁ n₂ c₁ c₂ b₁ b₂ p q = (p .0 ∙ sym (q .0), p .1 .0 ∙ sym (q .1 .0), p .1 .1 ∙ sym (q .1 .1))
+-- a card write's card, its number of blocks, and the words for where a title is wrong
+module _ (κs : Lfts 8) (groups tracks segments text card blocks track octet : RefT (List ℕ)) where
+  -- what is lent, with other contents
+  abbrev written : List ℕ → List ℕ → List ℕ → List ℕ
+      → RefT (List ℕ) × (RefT (List ℕ) × (RefT (List ℕ) × (RefT (List ℕ) × (RefT (List ℕ) × (RefT (List ℕ) × (RefT (List ℕ) × (RefT (List ℕ) × Unit {0})))))))
+  written c b t o = (groups, (tracks, (segments, (text, (at-last card c, (at-last blocks b, (at-last track t, (at-last octet o, tt))))))))
+
+  pub card-write-settled : (n₁ n₂ : ℕ) (c₁ c₂ b₁ b₂ t₁ t₂ o₁ o₂ : List ℕ)
+      → card-write.Post κs (groups, (tracks, (segments, (text, (card, (blocks, (track, (octet, tt)))))))) n₁ (written c₁ b₁ t₁ o₁)
+      → card-write.Post κs (groups, (tracks, (segments, (text, (card, (blocks, (track, (octet, tt)))))))) n₂ (written c₂ b₂ t₂ o₂)
+      → (n₁ ≡ n₂) × (c₁ ≡ c₂) × (b₁ ≡ b₂) × (t₁ ≡ t₂) × (o₁ ≡ o₂)
+  card-write-settled n₁ n₂ c₁ c₂ b₁ b₂ t₁ t₂ o₁ o₂ p q = (
+    p .0 ∙ sym (q .0),
+    p .1 .0 ∙ sym (q .1 .0),
+    p .1 .1 .0 ∙ sym (q .1 .1 .0),
+    p .1 .1 .1 .0 ∙ sym (q .1 .1 .1 .0),
+    p .1 .1 .1 .1 ∙ sym (q .1 .1 .1 .1),
+  )
 
 -- a cue sheet's starts, its count and its line
 module _ (κs : Lfts 4) (sheet starts count line : RefT (List ℕ)) where

@@ -16,7 +16,15 @@ use Rattle.card_block.specs.Block.{kindOf}
 use Rattle.card_load.specs.Card.{lengthRule, blocksOf, blocksRows, recordCount}
 use Rattle.card_load.specs.Load.{fits, roomRule, roomRow, counted, loadSaid}
 use Rattle.card_load.proofs.Blocks.{blocks-length}
-use Rattle.catalogue_check.proofs.Laws.{is-right}
+use Rattle.catalogue_check.specs.Catalogue.{catalogueCarries}
+use Rattle.catalogue_check.proofs.Laws.{is-right, carries-small as title-small}
+use Rattle.player_check.specs.Standing.{nameCarries}
+use Rattle.player_check.proofs.Laws.{carries-small as name-small}
+use Rattle.player_state.specs.Player.{startedPlayer}
+use Rattle.desk_state.specs.Desk.{startedDesk}
+use Rattle.desk_client.specs.declared.Account.{Account}
+use Rattle.desk_console.specs.Console.{startRows, startCall, nameRows, nameCall, activateRows, activateCall, deactivateCall, advanceCall}
+use Rattle.desk_links.specs.Links.{connectRows, connectCall, disconnectCall, slotRows, slotCall}
 use Rattle.card_write.specs.Write.{writeRows, writeSaid}
 use Rattle.card_write.proofs.Answers.{most-blocks}
 use Rattle.catalogue_cue.specs.Sheet.{cueSaid}
@@ -28,17 +36,13 @@ use Rattle.ground.proofs.Rows.{NoneApplies, parted}
 use Rattle.desk_client.specs.declared.Client.{Client}
 use Rattle.desk_client.specs.Client.{controlSlot, blankEntry}
 use Rattle.desk_state.specs.declared.Desk.{Desk}
-use Rattle.desk_replies.specs.Replies.{fronted, caller}
+use Rattle.desk_replies.specs.Replies.{fronted, ofClient, asked, caller}
 use Rattle.desk_replies.proofs.Gates.{right, player}
+use Rattle.desk_exchange.specs.Write.{writeRows as valueRows, writeCall}
 use Rattle.desk_exchange.specs.Read.{valueNow, readerRows, readOctets, readCall}
 use Rattle.desk_take.specs.Serving.{nextSlot, resultOctets, handedOctets, handedValues, afterServing}
 use Rattle.desk_take.specs.Take.{nextClient, withServed, takeCall}
-use Rattle.mcs.specs.Calls.{lowWord, carries, toldOf, toldAfter, saidWords, wordsAfter, carriedAfter}
-
--- each of them is below 2^32
-abbrev pub AllWords : List ℕ → Type 0
-AllWords [] = Unit
-AllWords (x ∷ xs) = (x < 4294967296) × AllWords xs
+use Rattle.mcs.specs.Calls.{AllWords, lowWord, carries, carriesTwo, toldOf, toldAfter, saidWords, wordsAfter, carriedAfter, trackAfter, offsetAfter}
 
 at-word : (xs : List ℕ) (i : ℕ) → AllWords xs → getD xs i 0 < 4294967296
 at-word [] i h = lit≤ tt
@@ -55,6 +59,15 @@ told-by-places on said old h =
     let v : List ℕ = said .values in
     λ k. toldAfter on (low (getD v 0 0) (h 0) k ∷ low (getD v 1 0) (h 1) k ∷ low (getD v 2 0) (h 2) k ∷ low (getD v 3 0) (h 3) k ∷ []) old
 
+pub track-as-said : (said : Said) (old : List ℕ) → AllWords (said .values) → toldAfter (toldOf said .titled) (toldOf said .values) old ≡ trackAfter said old
+track-as-said said old h = told-by-places (carriesTwo said) said old (λ i. at-word (said .values) i h)
+
+pub offset-as-said : (said : Said) (old : List ℕ) → AllWords (said .values)
+    → toldAfter (toldOf said .carries) (pick (toldOf said .titled) (getD (toldOf said .values) 1 0) (getD (toldOf said .values) 0 0) ∷ []) old ≡ offsetAfter said old
+offset-as-said said old h =
+    let v : List ℕ = said .values in
+    λ k. toldAfter (carries said) (pick (carriesTwo said) (low (getD v 1 0) (at-word v 1 h) k) (low (getD v 0 0) (at-word v 0 h) k) ∷ []) old
+
 pub carried-as-said : (said : Said) (old : List ℕ) → AllWords (said .values) → toldAfter (toldOf said .carries) (toldOf said .values) old ≡ carriedAfter said old
 carried-as-said said old h = told-by-places (carries said) said old (λ i. at-word (said .values) i h)
 
@@ -69,6 +82,17 @@ cue-words sheet room i = omega (arith, cue-small sheet room i)
 SmallRows : List Row → Type 0
 SmallRows [] = Unit
 SmallRows (r ∷ rows) = AllWords (r .values) × SmallRows rows
+
+-- what 200 and 207 carry
+all-words : (s : List ℕ) → ((i : ℕ) → getD s i 0 < 4294967296) → AllWords s
+all-words [] h = tt
+all-words (x ∷ s) h = (h 0, all-words s (λ i. h (suc i)))
+
+title-words : (k : Tables) → AllWords (catalogueCarries k)
+title-words k = all-words (catalogueCarries k) (λ i. omega (arith, title-small k i))
+
+name-words : (name : List ℕ) → AllWords (nameCarries name)
+name-words name = all-words (nameCarries name) (λ i. omega (arith, name-small name i))
 
 -- where that is so, only the work is asked
 behind-rows : {A : Type 0} (said : A → Said) (refuse : Said → A) → ((s : Said) → said (refuse s) .values ≡ s .values)
@@ -133,17 +157,64 @@ load-words card groups tracks segments text =
 pub write-words : (k : Tables) (room : ℕ) → AllWords (writeSaid k room .values)
 unfolding writeSaid SmallRows
 write-words k room =
-    behind-rows (λ said. said) (λ said. said) (λ said. refl) (writeRows k room) (tt, (tt, tt)) _
+    behind-rows (λ said. said) (λ said. said) (λ said. refl) (writeRows k room) (title-words k, (tt, tt)) _
     (λ n. (omega (arith, most-blocks k (is-right k (not-false _ (n .0)))), tt))
 
+-- start says nothing besides
+pub start-words : (k : Tables) (name : List ℕ) (mask ccid : ℕ) → AllWords (startCall k name mask ccid .said .values)
+unfolding startCall SmallRows
+start-words k name mask ccid =
+    behind-rows (λ (l : Left Desk). l .said) (keeping (startedDesk (startedPlayer [] mask ccid))) (λ said. refl) (startRows k name) (title-words k, (tt, (name-words name, tt))) _ (λ n. tt)
+
 module _ (k : Tables) (d : Desk) where
+  -- nor do the calls that answer no more than that they are accepted
+  asked-words : (rows : List Row) → SmallRows rows → (work : Left Desk) → work .said .values ≡ [] → AllWords (asked k false d rows work .said .values)
+  unfolding SmallRows
+  asked-words rows n work e =
+      behind-rows (λ (l : Left Desk). l .said) (keeping d) (λ said. refl) (fronted k false d ++ rows) (title-words k, (tt, (tt, n))) work (λ m. subst AllWords (sym e) tt)
+
+  pub set-name-words : (name : List ℕ) → AllWords (nameCall k d name .said .values)
+  unfolding nameCall SmallRows
+  set-name-words name = asked-words (nameRows name) (name-words name, tt) _ refl
+
+  pub activate-words : (g : ℕ) → AllWords (activateCall k d g .said .values)
+  unfolding activateCall SmallRows
+  activate-words g = asked-words (activateRows k g) (tt, tt) _ refl
+
+  pub deactivate-words : AllWords (deactivateCall k d .said .values)
+  unfolding deactivateCall SmallRows
+  deactivate-words = asked-words [] tt _ refl
+
+  pub advance-words : (step : ℕ) → AllWords (advanceCall k d step .said .values)
+  unfolding advanceCall SmallRows
+  advance-words step = asked-words [] tt _ refl
+
+  pub connect-words : (who mtu : ℕ) (encrypted : Bool) → AllWords (connectCall k d who mtu encrypted .said .values)
+  unfolding connectCall SmallRows
+  connect-words who mtu encrypted = asked-words (connectRows who (caller d who .link .connected) mtu) (tt, (tt, (tt, tt))) _ refl
+
+  pub disconnect-words : (who : ℕ) → AllWords (disconnectCall k d who .said .values)
+  unfolding disconnectCall SmallRows
+  disconnect-words who = asked-words (ofClient who (caller d who .link .connected)) (tt, (tt, tt)) _ refl
+
+  pub slot-words : (who characteristic : ℕ) (f : ℕ → Account → Account) → AllWords (slotCall k d who characteristic f .said .values)
+  unfolding slotCall SmallRows
+  slot-words who characteristic f =
+      asked-words (slotRows who (caller d who .link .connected) (caller d who .link .encrypted) characteristic) (tt, (tt, (tt, (tt, (tt, tt))))) _ refl
+
+  pub written-words : (who characteristic : ℕ) (value : List ℕ) → AllWords (writeCall k d who characteristic value .said .values)
+  unfolding writeCall SmallRows
+  written-words who characteristic value =
+      asked-words (valueRows who (caller d who .link .connected) (caller d who .link .encrypted) (caller d who .account .waiting) characteristic value)
+      (tt, (tt, (tt, (tt, (tt, (tt, (tt, (tt, tt)))))))) _ refl
+
   -- a read's length is at most its value's, which is at most 128
   pub read-words : (who characteristic offset room : ℕ) → AllWords (readCall k d who characteristic offset room .said .values)
   unfolding readCall readOctets SmallRows
   read-words who characteristic offset room =
       let rows = readerRows d who characteristic offset (length (valueNow k d characteristic)) in
       let small = ltb room leastOutput in
-      behind-rows (λ (l : Left Desk). l .said) (keeping d) (λ said. refl) (fronted k small d ++ rows) (tt, (tt, (tt, (tt, (tt, (tt, (tt, (tt, (tt, (tt, tt)))))))))) _ (λ n.
+      behind-rows (λ (l : Left Desk). l .said) (keeping d) (λ said. refl) (fronted k small d ++ rows) (title-words k, (tt, (tt, (tt, (tt, (tt, (tt, (tt, (tt, (tt, tt)))))))))) _ (λ n.
       let short : length (valueNow k d characteristic) ≤ 128 = value-fits k (right k small d rows n) (d .player) (player k small d rows n) characteristic in
       (part-short (caller d who .link .mtu - 1) offset (valueNow k d characteristic) short, tt))
     where
@@ -167,7 +238,7 @@ module _ (k : Tables) (d : Desk) where
   unfolding takeCall SmallRows
   take-words room =
       let small = ltb room leastOutput in
-      behind-rows (λ (l : Left Desk). l .said) (keeping d) (λ said. refl) (fronted k small d ++ []) (tt, (tt, (tt, tt))) _ (λ n.
+      behind-rows (λ (l : Left Desk). l .said) (keeping d) (λ said. refl) (fronted k small d ++ []) (title-words k, (tt, (tt, tt))) _ (λ n.
       served (leb clientCount (nextClient d)) refl (value-fits k (right k small d [] n) (d .player) (player k small d [] n)))
     where
       own : Client

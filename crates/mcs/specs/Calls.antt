@@ -3,7 +3,7 @@
 use mathlib.Core.Path.{_≡_}
 use mathlib.Core.Bool.{Bool, not, _&&_}
 use mathlib.Core.List.{List, [], _∷_, _++_}
-use Prim.Native.Nat.{ℕ, _%_}
+use Prim.Native.Nat.{ℕ, _%_, _<_}
 use lib.Dec.{ltb}
 use lib.ListN.{length, take, drop, getD}
 use Rattle.ground.specs.Cases.{pick}
@@ -11,6 +11,11 @@ use Rattle.ground.specs.Refusals.{Said, Left}
 use Rattle.desk_state.specs.declared.Desk.{Desk}
 use Rattle.mcs_state.specs.Codec.{deskOf, deskOctets}
 use Rattle.mcs.specs.declared.Told.{Told}
+
+-- each of these is below 2^32
+abbrev pub AllWords : List ℕ → Type 0
+AllWords [] = Unit
+AllWords (x ∷ xs) = (x < 4294967296) × AllWords xs
 
 -- the low 32 bits of a number
 abbrev pub lowWord : ℕ → ℕ
@@ -20,12 +25,17 @@ lowWord n = n % 4294967296
 abbrev pub carries : Said → Bool
 carries said = not (said .isGranted) && ltb 0 (length (said .values))
 
--- what C is told: whether the call is accepted, or else whether its refusal carries something; the number; and four values
+-- one that carries two values
+abbrev pub carriesTwo : Said → Bool
+carriesTwo said = not (said .isGranted) && ltb 1 (length (said .values))
+
+-- what C is told: whether the call is accepted, or else whether its refusal carries something, and whether it carries two values; the number; and four values
 abbrev pub toldOf : Said → Told
 toldOf said =
     record {
       granted = said .isGranted;
       carries = carries said;
+      titled = carriesTwo said;
       number = said .number;
       values = lowWord (getD (said .values) 0 0) ∷ lowWord (getD (said .values) 1 0) ∷ lowWord (getD (said .values) 2 0) ∷ lowWord (getD (said .values) 3 0) ∷ [];
     }
@@ -47,6 +57,14 @@ wordsAfter said old = toldAfter (said .isGranted) (saidWords said) old
 abbrev pub carriedAfter : Said → List ℕ → List ℕ
 carriedAfter said old = toldAfter (carries said) (saidWords said) old
 
+-- "Where the text is wrong" (document 02, W-207): 200 for a bad title carries its track and the offset, 207 the offset alone. The word for the track, and the
+-- one for the offset; as they were where none is carried
+abbrev pub trackAfter : Said → List ℕ → List ℕ
+trackAfter said old = toldAfter (carriesTwo said) (saidWords said) old
+
+abbrev pub offsetAfter : Said → List ℕ → List ℕ
+offsetAfter said old = toldAfter (carries said) (pick (carriesTwo said) (getD (said .values) 1 0) (getD (said .values) 0 0) ∷ []) old
+
 -- the octets of the next state, or as they were
 abbrev pub stateAfter : Left Desk → List ℕ → List ℕ
 stateAfter l old = pick (l .said .isGranted) (deskOctets (l .state) ++ drop 338 old) old
@@ -56,3 +74,9 @@ pub record Leaves (l : Left Desk) (old : List ℕ) (number : ℕ) (new : List �
   pub told : number ≡ l .said .number
   pub octets : new ≡ stateAfter l old
   pub state : deskOf new ≡ pick (l .said .isGranted) (l .state) (deskOf old)
+
+-- what every call on a state leaves: that, and the words for where a text is wrong
+pub record Ends (l : Left Desk) (old track offset : List ℕ) (number : ℕ) (new track′ offset′ : List ℕ) : Type 0 where
+  pub leaves : Leaves l old number new
+  pub track-told : track′ ≡ trackAfter (l .said) track
+  pub offset-told : offset′ ≡ offsetAfter (l .said) offset

@@ -1,10 +1,11 @@
 // What C calls (include/mcs.h). The state is 338 octets that the caller keeps (`mcs_state`); each call reads it out of them, makes its call, and writes it back
-// where that is accepted. A call returns 0, or the number of the refusal: then nothing that was lent is altered, but for the word that is lent for what a
+// where that is accepted. A call returns 0, or the number of the refusal: then nothing that was lent is altered, but for the words that are lent for what a
 // refusal carries.
 ghost use mathlib.Core.Path.{_≡_};
 ghost use mathlib.Core.List.{[], _∷_};
 ghost use Prim.Native.Nat.{_≤_};
-ghost use lib.ListN.{length as len};
+ghost use lib.ListN.{length as len, getD};
+ghost use Rattle.ground.specs.Cases.{pick};
 ghost use Rattle.catalogue_tables.specs.Tables.{tables};
 ghost use Rattle.desk_replies.specs.Replies.{saidOf, leftBy};
 ghost use Rattle.ground.specs.Lists.{tableAfter};
@@ -21,18 +22,19 @@ ghost use Rattle.desk_links.specs.Links.{connectCall, disconnectCall, subscribe
 ghost use Rattle.desk_exchange.specs.Read.{readCall, readOctets};
 ghost use Rattle.desk_exchange.specs.Write.{writeCall};
 ghost use Rattle.desk_take.specs.Take.{takeCall, takeOctets};
-ghost use Rattle.mcs.specs.Calls.{Leaves, toldOf, toldAfter, wordsAfter, carriedAfter};
+ghost use Rattle.mcs.specs.Calls.{Ends, AllWords, toldOf, toldAfter, wordsAfter, carriedAfter, trackAfter, offsetAfter};
 use card_load::Loaded;
 use card_write::Written;
 use catalogue_cue::Cued;
 use desk_replies::Answer;
 use desk_replies::Outcome;
 
-// What C is told of an answer: whether the call is accepted, or else whether its refusal carries something; document 01's number, 0 where the call is
-// accepted; and the values as words, 0 where there is none.
+// What C is told of an answer: whether the call is accepted, or else whether its refusal carries something, and whether that is a title's track and an offset;
+// document 01's number, 0 where the call is accepted; and the values as words, 0 where there is none.
 pub struct Told {
     pub granted: bool,
     pub carries: bool,
+    pub titled: bool,
     pub number: u32,
     pub values: [u32; 4],
 }
@@ -46,14 +48,28 @@ fn refused(r: ground::Refusal) -> Told
         ground::Carried::Nothing => Told {
             granted: false,
             carries: false,
+            titled: false,
             number: number,
             values: [0; 4],
         },
         ground::Carried::One(value) => Told {
             granted: false,
             carries: true,
+            titled: false,
             number: number,
             values: [(value % 4294967296) as u32, 0, 0, 0],
+        },
+        ground::Carried::Two(first, second) => Told {
+            granted: false,
+            carries: true,
+            titled: true,
+            number: number,
+            values: [
+                (first % 4294967296) as u32,
+                (second % 4294967296) as u32,
+                0,
+                0,
+            ],
         },
     }
 }
@@ -64,6 +80,7 @@ fn granted(first: usize, second: usize, third: usize, fourth: usize) -> Told
     Told {
         granted: true,
         carries: false,
+        titled: false,
         number: 0,
         values: [
             (first % 4294967296) as u32,
@@ -135,13 +152,35 @@ fn tell(on: bool, values: [u32; 4], words: &mut [u32])
     }
 }
 
+// Where a text is wrong, over the words that the caller has for it: the track of a bad title, and the offset in the title or in the name.
+fn tell_place(t: Told, track: &mut [u32], octet: &mut [u32])
+    requires { ⌜ len (now track) ≡ 1 ⌝ }
+    requires { ⌜ len (now octet) ≡ 1 ⌝ }
+    ensures { λ _. ⌜ now (track .exit) ≡ toldAfter (t .titled) (t .values) (now (track .entry)) ⌝ }
+    ensures { λ _. ⌜ now (octet .exit) ≡ toldAfter (t .carries) (pick (t .titled) (getD (t .values) 1 0) (getD (t .values) 0 0) ∷ []) (now (octet .entry)) ⌝ }
+{
+    let values = t.values;
+    tell(t.titled, values, track);
+    if t.carries {
+        if t.titled {
+            octet[0] = values[1];
+        } else {
+            octet[0] = values[0];
+        }
+    }
+}
+
 // What every call on the state does at its end.
-fn finish(o: Outcome, state: &mut [u8]) -> u32
+fn finish(o: Outcome, state: &mut [u8], track: &mut [u32], octet: &mut [u32]) -> u32
     requires { ⌜ 338 ≤ len (now state) ⌝ }
-    ensures { λ r. ⌜ Leaves (leftBy o) (now (state .entry)) r (now (state .exit)) ⌝ }
+    requires { ⌜ len (now track) ≡ 1 ⌝ }
+    requires { ⌜ len (now octet) ≡ 1 ⌝ }
+    requires { ⌜ AllWords (leftBy o .said .values) ⌝ }
+    ensures { λ r. ⌜ Ends (leftBy o) (now (state .entry)) (now (track .entry)) (now (octet .entry)) r (now (state .exit)) (now (track .exit)) (now (octet .exit)) ⌝ }
 {
     let answer = o.answer;
     let t = told_of(answer);
+    tell_place(t, track, octet);
     if t.granted {
         let next = o.desk;
         mcs_state::encode(next, state);
@@ -185,15 +224,20 @@ pub extern "C" fn mcs_card_write(
     text: &[u8],
     card: &mut [u8],
     blocks: &mut [u32; 1],
+    track: &mut [u32; 1],
+    octet: &mut [u32; 1],
 ) -> u32
     ensures { λ r. ⌜ r ≡ (writeSaid (tables (now (groups .entry)) (now (tracks .entry)) (now (segments .entry)) (now (text .entry))) (len (now (card .entry)))) .number ⌝ }
     ensures { λ r. ⌜ now (card .exit) ≡ tableAfter (writeSaid (tables (now (groups .entry)) (now (tracks .entry)) (now (segments .entry)) (now (text .entry))) (len (now (card .entry)))) (cardOf (tables (now (groups .entry)) (now (tracks .entry)) (now (segments .entry)) (now (text .entry)))) (now (card .entry)) ⌝ }
     ensures { λ r. ⌜ now (blocks .exit) ≡ wordsAfter (writeSaid (tables (now (groups .entry)) (now (tracks .entry)) (now (segments .entry)) (now (text .entry))) (len (now (card .entry)))) (now (blocks .entry)) ⌝ }
+    ensures { λ r. ⌜ now (track .exit) ≡ trackAfter (writeSaid (tables (now (groups .entry)) (now (tracks .entry)) (now (segments .entry)) (now (text .entry))) (len (now (card .entry)))) (now (track .entry)) ⌝ }
+    ensures { λ r. ⌜ now (octet .exit) ≡ offsetAfter (writeSaid (tables (now (groups .entry)) (now (tracks .entry)) (now (segments .entry)) (now (text .entry))) (len (now (card .entry)))) (now (octet .entry)) ⌝ }
 {
     let w = card_write::write(groups, tracks, segments, text, card);
     let t = told_of_write(w);
     let values = t.values;
     tell(t.granted, values, blocks);
+    tell_place(t, track, octet);
     t.number
 }
 
@@ -229,11 +273,13 @@ pub extern "C" fn mcs_start(
     mask: u32,
     ccid: u8,
     state: &mut [u8; 338],
+    track: &mut [u32; 1],
+    octet: &mut [u32; 1],
 ) -> u32
-    ensures { λ r. ⌜ Leaves (startCall (tables (now (groups .entry)) (now (tracks .entry)) (now (segments .entry)) (now (text .entry))) (now (name .entry)) mask ccid) (now (state .entry)) r (now (state .exit)) ⌝ }
+    ensures { λ r. ⌜ Ends (startCall (tables (now (groups .entry)) (now (tracks .entry)) (now (segments .entry)) (now (text .entry))) (now (name .entry)) mask ccid) (now (state .entry)) (now (track .entry)) (now (octet .entry)) r (now (state .exit)) (now (track .exit)) (now (octet .exit)) ⌝ }
 {
     let o = desk_console::start(groups, tracks, segments, text, name, mask, ccid);
-    finish(o, state)
+    finish(o, state, track, octet)
 }
 
 // Set name.
@@ -245,12 +291,14 @@ pub extern "C" fn mcs_set_name(
     text: &[u8],
     state: &mut [u8; 338],
     name: &[u8],
+    track: &mut [u32; 1],
+    octet: &mut [u32; 1],
 ) -> u32
-    ensures { λ r. ⌜ Leaves (nameCall (tables (now (groups .entry)) (now (tracks .entry)) (now (segments .entry)) (now (text .entry))) (deskOf (now (state .entry))) (now (name .entry))) (now (state .entry)) r (now (state .exit)) ⌝ }
+    ensures { λ r. ⌜ Ends (nameCall (tables (now (groups .entry)) (now (tracks .entry)) (now (segments .entry)) (now (text .entry))) (deskOf (now (state .entry))) (now (name .entry))) (now (state .entry)) (now (track .entry)) (now (octet .entry)) r (now (state .exit)) (now (track .exit)) (now (octet .exit)) ⌝ }
 {
     let d = mcs_state::decode(state);
     let o = desk_console::set_name(groups, tracks, segments, text, d, name);
-    finish(o, state)
+    finish(o, state, track, octet)
 }
 
 // Activate a group.
@@ -262,13 +310,15 @@ pub extern "C" fn mcs_activate(
     text: &[u8],
     state: &mut [u8; 338],
     group: u32,
+    track: &mut [u32; 1],
+    octet: &mut [u32; 1],
 ) -> u32
-    ensures { λ r. ⌜ Leaves (activateCall (tables (now (groups .entry)) (now (tracks .entry)) (now (segments .entry)) (now (text .entry))) (deskOf (now (state .entry))) group) (now (state .entry)) r (now (state .exit)) ⌝ }
+    ensures { λ r. ⌜ Ends (activateCall (tables (now (groups .entry)) (now (tracks .entry)) (now (segments .entry)) (now (text .entry))) (deskOf (now (state .entry))) group) (now (state .entry)) (now (track .entry)) (now (octet .entry)) r (now (state .exit)) (now (track .exit)) (now (octet .exit)) ⌝ }
 {
     let d = mcs_state::decode(state);
     let g = catalogue_tables::GroupNo(group);
     let o = desk_console::activate(groups, tracks, segments, text, d, g);
-    finish(o, state)
+    finish(o, state, track, octet)
 }
 
 // Deactivate.
@@ -279,12 +329,14 @@ pub extern "C" fn mcs_deactivate(
     segments: &[u32],
     text: &[u8],
     state: &mut [u8; 338],
+    track: &mut [u32; 1],
+    octet: &mut [u32; 1],
 ) -> u32
-    ensures { λ r. ⌜ Leaves (deactivateCall (tables (now (groups .entry)) (now (tracks .entry)) (now (segments .entry)) (now (text .entry))) (deskOf (now (state .entry)))) (now (state .entry)) r (now (state .exit)) ⌝ }
+    ensures { λ r. ⌜ Ends (deactivateCall (tables (now (groups .entry)) (now (tracks .entry)) (now (segments .entry)) (now (text .entry))) (deskOf (now (state .entry)))) (now (state .entry)) (now (track .entry)) (now (octet .entry)) r (now (state .exit)) (now (track .exit)) (now (octet .exit)) ⌝ }
 {
     let d = mcs_state::decode(state);
     let o = desk_console::deactivate(groups, tracks, segments, text, d);
-    finish(o, state)
+    finish(o, state, track, octet)
 }
 
 // Advance.
@@ -296,12 +348,14 @@ pub extern "C" fn mcs_advance(
     text: &[u8],
     state: &mut [u8; 338],
     step: u32,
+    track: &mut [u32; 1],
+    octet: &mut [u32; 1],
 ) -> u32
-    ensures { λ r. ⌜ Leaves (advanceCall (tables (now (groups .entry)) (now (tracks .entry)) (now (segments .entry)) (now (text .entry))) (deskOf (now (state .entry))) step) (now (state .entry)) r (now (state .exit)) ⌝ }
+    ensures { λ r. ⌜ Ends (advanceCall (tables (now (groups .entry)) (now (tracks .entry)) (now (segments .entry)) (now (text .entry))) (deskOf (now (state .entry))) step) (now (state .entry)) (now (track .entry)) (now (octet .entry)) r (now (state .exit)) (now (track .exit)) (now (octet .exit)) ⌝ }
 {
     let d = mcs_state::decode(state);
     let o = desk_console::advance(groups, tracks, segments, text, d, step);
-    finish(o, state)
+    finish(o, state, track, octet)
 }
 
 // Connect; 0 is not encrypted.
@@ -315,8 +369,10 @@ pub extern "C" fn mcs_connect(
     client: u32,
     mtu: u32,
     encrypted: u8,
+    track: &mut [u32; 1],
+    octet: &mut [u32; 1],
 ) -> u32
-    ensures { λ r. ⌜ Leaves (connectCall (tables (now (groups .entry)) (now (tracks .entry)) (now (segments .entry)) (now (text .entry))) (deskOf (now (state .entry))) client mtu (flag encrypted)) (now (state .entry)) r (now (state .exit)) ⌝ }
+    ensures { λ r. ⌜ Ends (connectCall (tables (now (groups .entry)) (now (tracks .entry)) (now (segments .entry)) (now (text .entry))) (deskOf (now (state .entry))) client mtu (flag encrypted)) (now (state .entry)) (now (track .entry)) (now (octet .entry)) r (now (state .exit)) (now (track .exit)) (now (octet .exit)) ⌝ }
 {
     let d = mcs_state::decode(state);
     let o = desk_links::connect(
@@ -329,7 +385,7 @@ pub extern "C" fn mcs_connect(
         mtu,
         encrypted != 0,
     );
-    finish(o, state)
+    finish(o, state, track, octet)
 }
 
 // Disconnect.
@@ -341,12 +397,14 @@ pub extern "C" fn mcs_disconnect(
     text: &[u8],
     state: &mut [u8; 338],
     client: u32,
+    track: &mut [u32; 1],
+    octet: &mut [u32; 1],
 ) -> u32
-    ensures { λ r. ⌜ Leaves (disconnectCall (tables (now (groups .entry)) (now (tracks .entry)) (now (segments .entry)) (now (text .entry))) (deskOf (now (state .entry))) client) (now (state .entry)) r (now (state .exit)) ⌝ }
+    ensures { λ r. ⌜ Ends (disconnectCall (tables (now (groups .entry)) (now (tracks .entry)) (now (segments .entry)) (now (text .entry))) (deskOf (now (state .entry))) client) (now (state .entry)) (now (track .entry)) (now (octet .entry)) r (now (state .exit)) (now (track .exit)) (now (octet .exit)) ⌝ }
 {
     let d = mcs_state::decode(state);
     let o = desk_links::disconnect(groups, tracks, segments, text, d, client);
-    finish(o, state)
+    finish(o, state, track, octet)
 }
 
 // Subscribe.
@@ -359,12 +417,14 @@ pub extern "C" fn mcs_subscribe(
     state: &mut [u8; 338],
     client: u32,
     characteristic: u32,
+    track: &mut [u32; 1],
+    octet: &mut [u32; 1],
 ) -> u32
-    ensures { λ r. ⌜ Leaves (subscribeCall (tables (now (groups .entry)) (now (tracks .entry)) (now (segments .entry)) (now (text .entry))) (deskOf (now (state .entry))) client characteristic) (now (state .entry)) r (now (state .exit)) ⌝ }
+    ensures { λ r. ⌜ Ends (subscribeCall (tables (now (groups .entry)) (now (tracks .entry)) (now (segments .entry)) (now (text .entry))) (deskOf (now (state .entry))) client characteristic) (now (state .entry)) (now (track .entry)) (now (octet .entry)) r (now (state .exit)) (now (track .exit)) (now (octet .exit)) ⌝ }
 {
     let d = mcs_state::decode(state);
     let o = desk_links::subscribe(groups, tracks, segments, text, d, client, characteristic);
-    finish(o, state)
+    finish(o, state, track, octet)
 }
 
 // Unsubscribe.
@@ -377,12 +437,14 @@ pub extern "C" fn mcs_unsubscribe(
     state: &mut [u8; 338],
     client: u32,
     characteristic: u32,
+    track: &mut [u32; 1],
+    octet: &mut [u32; 1],
 ) -> u32
-    ensures { λ r. ⌜ Leaves (unsubscribeCall (tables (now (groups .entry)) (now (tracks .entry)) (now (segments .entry)) (now (text .entry))) (deskOf (now (state .entry))) client characteristic) (now (state .entry)) r (now (state .exit)) ⌝ }
+    ensures { λ r. ⌜ Ends (unsubscribeCall (tables (now (groups .entry)) (now (tracks .entry)) (now (segments .entry)) (now (text .entry))) (deskOf (now (state .entry))) client characteristic) (now (state .entry)) (now (track .entry)) (now (octet .entry)) r (now (state .exit)) (now (track .exit)) (now (octet .exit)) ⌝ }
 {
     let d = mcs_state::decode(state);
     let o = desk_links::unsubscribe(groups, tracks, segments, text, d, client, characteristic);
-    finish(o, state)
+    finish(o, state, track, octet)
 }
 
 // Read at an offset.
@@ -398,8 +460,10 @@ pub extern "C" fn mcs_read(
     offset: u32,
     out: &mut [u8],
     length: &mut [u32; 1],
+    track: &mut [u32; 1],
+    octet: &mut [u32; 1],
 ) -> u32
-    ensures { λ r. ⌜ Leaves (readCall (tables (now (groups .entry)) (now (tracks .entry)) (now (segments .entry)) (now (text .entry))) (deskOf (now (state .entry))) client characteristic offset (len (now (out .entry)))) (now (state .entry)) r (now (state .exit)) ⌝ }
+    ensures { λ r. ⌜ Ends (readCall (tables (now (groups .entry)) (now (tracks .entry)) (now (segments .entry)) (now (text .entry))) (deskOf (now (state .entry))) client characteristic offset (len (now (out .entry)))) (now (state .entry)) (now (track .entry)) (now (octet .entry)) r (now (state .exit)) (now (track .exit)) (now (octet .exit)) ⌝ }
     ensures { λ r. ⌜ now (out .exit) ≡ tableAfter (readCall (tables (now (groups .entry)) (now (tracks .entry)) (now (segments .entry)) (now (text .entry))) (deskOf (now (state .entry))) client characteristic offset (len (now (out .entry))) .said) (readOctets (tables (now (groups .entry)) (now (tracks .entry)) (now (segments .entry)) (now (text .entry))) (deskOf (now (state .entry))) client characteristic offset) (now (out .entry)) ⌝ }
     ensures { λ r. ⌜ now (length .exit) ≡ wordsAfter (readCall (tables (now (groups .entry)) (now (tracks .entry)) (now (segments .entry)) (now (text .entry))) (deskOf (now (state .entry))) client characteristic offset (len (now (out .entry))) .said) (now (length .entry)) ⌝ }
 {
@@ -419,7 +483,7 @@ pub extern "C" fn mcs_read(
     let t = told_of(answer);
     let values = t.values;
     tell(t.granted, values, length);
-    finish(o, state)
+    finish(o, state, track, octet)
 }
 
 // Take.
@@ -432,8 +496,10 @@ pub extern "C" fn mcs_take(
     state: &mut [u8; 338],
     out: &mut [u8],
     served: &mut [u32; 3],
+    track: &mut [u32; 1],
+    octet: &mut [u32; 1],
 ) -> u32
-    ensures { λ r. ⌜ Leaves (takeCall (tables (now (groups .entry)) (now (tracks .entry)) (now (segments .entry)) (now (text .entry))) (deskOf (now (state .entry))) (len (now (out .entry)))) (now (state .entry)) r (now (state .exit)) ⌝ }
+    ensures { λ r. ⌜ Ends (takeCall (tables (now (groups .entry)) (now (tracks .entry)) (now (segments .entry)) (now (text .entry))) (deskOf (now (state .entry))) (len (now (out .entry)))) (now (state .entry)) (now (track .entry)) (now (octet .entry)) r (now (state .exit)) (now (track .exit)) (now (octet .exit)) ⌝ }
     ensures { λ r. ⌜ now (out .exit) ≡ tableAfter (takeCall (tables (now (groups .entry)) (now (tracks .entry)) (now (segments .entry)) (now (text .entry))) (deskOf (now (state .entry))) (len (now (out .entry))) .said) (takeOctets (tables (now (groups .entry)) (now (tracks .entry)) (now (segments .entry)) (now (text .entry))) (deskOf (now (state .entry)))) (now (out .entry)) ⌝ }
     ensures { λ r. ⌜ now (served .exit) ≡ wordsAfter (takeCall (tables (now (groups .entry)) (now (tracks .entry)) (now (segments .entry)) (now (text .entry))) (deskOf (now (state .entry))) (len (now (out .entry))) .said) (now (served .entry)) ⌝ }
 {
@@ -443,7 +509,7 @@ pub extern "C" fn mcs_take(
     let t = told_of(answer);
     let values = t.values;
     tell(t.granted, values, served);
-    finish(o, state)
+    finish(o, state, track, octet)
 }
 
 // Write.
@@ -457,8 +523,10 @@ pub extern "C" fn mcs_write(
     client: u32,
     characteristic: u32,
     value: &[u8],
+    track: &mut [u32; 1],
+    octet: &mut [u32; 1],
 ) -> u32
-    ensures { λ r. ⌜ Leaves (writeCall (tables (now (groups .entry)) (now (tracks .entry)) (now (segments .entry)) (now (text .entry))) (deskOf (now (state .entry))) client characteristic (now (value .entry))) (now (state .entry)) r (now (state .exit)) ⌝ }
+    ensures { λ r. ⌜ Ends (writeCall (tables (now (groups .entry)) (now (tracks .entry)) (now (segments .entry)) (now (text .entry))) (deskOf (now (state .entry))) client characteristic (now (value .entry))) (now (state .entry)) (now (track .entry)) (now (octet .entry)) r (now (state .exit)) (now (track .exit)) (now (octet .exit)) ⌝ }
 {
     let d = mcs_state::decode(state);
     let o = desk_exchange::write(
@@ -471,5 +539,5 @@ pub extern "C" fn mcs_write(
         characteristic,
         value,
     );
-    finish(o, state)
+    finish(o, state, track, octet)
 }

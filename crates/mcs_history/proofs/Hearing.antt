@@ -13,11 +13,11 @@ use lib.Seq.{take-append-seam}
 use Rattle.ground.specs.Cases.{pick}
 use Rattle.ground.specs.Limits.{leastOutput}
 use Rattle.ground.specs.Lists.{tableAfter}
-use Rattle.ground.specs.Refusals.{Said, granted, Row, row, accepted, saidBy, leaves}
-use Rattle.ground.proofs.Cases.{past, true-or}
+use Rattle.ground.specs.Refusals.{Said, granted, Row, row, rowWith, accepted, saidBy, leaves}
+use Rattle.ground.proofs.Cases.{past, clash, true-or}
 use Rattle.ground.proofs.Rows.{said-of}
 use Rattle.catalogue_tables.specs.Tables.{Tables}
-use Rattle.catalogue_check.specs.Catalogue.{catalogueRule}
+use Rattle.catalogue_check.specs.Catalogue.{catalogueRule, catalogueCarries}
 use Rattle.player_check.specs.Standing.{textRule}
 use Rattle.desk_slots.specs.Slots.{placeCount, clientCount, slotOf, characteristicOf}
 use Rattle.desk_client.specs.declared.Client.{Client}
@@ -60,11 +60,11 @@ module _ (k : Tables) (right : catalogueRule k ≡ true) (name : List ℕ) (name
   abbrev hands : Said → Option Handout
   hands said = spoken (said .values) O
 
-  refused-heard : (x y z : Bool) → hears (saidBy (row 200 x ∷ row 205 y ∷ row 201 z ∷ [])) ≡ hands (saidBy (row 200 x ∷ row 205 y ∷ row 201 z ∷ []))
-  refused-heard true y z = refl
-  refused-heard false true z = refl
-  refused-heard false false true = refl
-  refused-heard false false false = refl
+  refused-heard : (v : List ℕ) (x y z : Bool) → x ≡ false → hears (saidBy (rowWith 200 v x ∷ row 205 y ∷ row 201 z ∷ [])) ≡ hands (saidBy (rowWith 200 v x ∷ row 205 y ∷ row 201 z ∷ []))
+  refused-heard v true y z q = clash (sym q)
+  refused-heard v false true z q = refl
+  refused-heard v false false true q = refl
+  refused-heard v false false false q = refl
 
   abbrev ch : ℕ
   ch = characteristicOf (nextSlot own)
@@ -100,4 +100,4 @@ module _ (k : Tables) (right : catalogueRule k ≡ true) (name : List ℕ) (name
 
       go : (t : Bool) → accepted R ≡ t → hears (pick t (takenBy k d (nextClient d) .said) (saidBy R)) ≡ hands (pick t (takenBy k d (nextClient d) .said) (saidBy R))
       go true q = serve (leb clientCount (nextClient d)) refl (e ∙ (λ i. pick (q i) (takenBy k d (nextClient d) .said) (saidBy R)))
-      go false q = refused-heard (not (catalogueRule k)) small (not (stateRight k d))
+      go false q = refused-heard (catalogueCarries k) (not (catalogueRule k)) small (not (stateRight k d)) (ap not right)

@@ -10,11 +10,11 @@ use lib.Dec.{ltb, leb}
 use lib.ListN.{length}
 use Rattle.ground.specs.Limits.{leastOutput}
 use Rattle.ground.specs.Cases.{pick}
-use Rattle.ground.specs.Refusals.{granted, refusedWith, Row, row, Left, leaves, keeping, answered}
+use Rattle.ground.specs.Refusals.{granted, refusedWith, Row, row, rowWith, Left, leaves, keeping, answered}
 use Rattle.ground.proofs.Cases.{here}
 use Rattle.catalogue_tables.specs.Tables.{Tables}
-use Rattle.catalogue_check.specs.Catalogue.{catalogueRule}
-use Rattle.player_check.specs.Standing.{textRule}
+use Rattle.catalogue_check.specs.Catalogue.{catalogueRule, catalogueCarries}
+use Rattle.player_check.specs.Standing.{textRule, nameCarries}
 use Rattle.player_state.specs.Player.{startedPlayer, renamed, deactivated}
 use Rattle.player_moves.specs.Clock.{advanced, activated}
 use Rattle.desk_state.specs.declared.Desk.{Desk}
@@ -86,22 +86,22 @@ keeps k (take room) d =
     (leaves (granted (nextClient d ∷ handedValues k (d .player) (caller d (nextClient d)))) (withServed (nextClient d) (afterServing (caller d (nextClient d))) d)) refl refl)
 
 -- start is accepted where it answers 0
-accepted-start : (a b : Bool) (x y : Desk) → answered (keeping x) (row 200 a ∷ row 205 false ∷ row 207 b ∷ []) (leaves (granted []) y) .said .number ≡ 0 → (a ≡ false) × (b ≡ false)
-accepted-start true b x y e = absurd (let z : ⊥ = omega (arith, e) in z)
-accepted-start false true x y e = absurd (let z : ⊥ = omega (arith, e) in z)
-accepted-start false false x y e = (refl, refl)
+accepted-start : (v w : List ℕ) (a b : Bool) (x y : Desk) → answered (keeping x) (rowWith 200 v a ∷ row 205 false ∷ rowWith 207 w b ∷ []) (leaves (granted []) y) .said .number ≡ 0 → (a ≡ false) × (b ≡ false)
+accepted-start v w true b x y e = absurd (let z : ⊥ = omega (arith, e) in z)
+accepted-start v w false true x y e = absurd (let z : ⊥ = omega (arith, e) in z)
+accepted-start v w false false x y e = (refl, refl)
 
 module _ (k : Tables) (name : List ℕ) (mask ccid : ℕ) where
   start-right : startCall k name mask ccid .said .number ≡ 0 → (catalogueRule k ≡ true) × (textRule name ≡ true)
   unfolding startCall
   start-right e =
-      let p = accepted-start (not (catalogueRule k)) (not (textRule name)) (startedDesk (startedPlayer [] mask ccid)) (startedDesk (startedPlayer name mask ccid)) e in
+      let p = accepted-start (catalogueCarries k) (nameCarries name) (not (catalogueRule k)) (not (textRule name)) (startedDesk (startedPlayer [] mask ccid)) (startedDesk (startedPlayer name mask ccid)) e in
       (not-false _ (p .0), not-false _ (p .1))
 
   start-granted : (catalogueRule k ≡ true) × (textRule name ≡ true) → startCall k name mask ccid .said .isGranted ≡ true
   unfolding startCall
   start-granted p =
-      λ i. answered (keeping (startedDesk (startedPlayer [] mask ccid))) (row 200 (not (p .0 i)) ∷ row 205 false ∷ row 207 (not (p .1 i)) ∷ []) (leaves (granted []) (startedDesk (startedPlayer name mask ccid))) .said .isGranted
+      λ i. answered (keeping (startedDesk (startedPlayer [] mask ccid))) (rowWith 200 (catalogueCarries k) (not (p .0 i)) ∷ row 205 false ∷ rowWith 207 (nameCarries name) (not (p .1 i)) ∷ []) (leaves (granted []) (startedDesk (startedPlayer name mask ccid))) .said .isGranted
 
   -- every history began with a catalogue and a name that are right
   pub began-right : {h : List Call} {state : List ℕ} → Run k name mask ccid h state → (catalogueRule k ≡ true) × (textRule name ≡ true)

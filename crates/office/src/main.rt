@@ -2,7 +2,7 @@
 // answer; the media state, order and both speeds; the group, track and position; and each of the four clients, as ATT_MTU: subscribed; owed; waiting
 // results, or - while it is unconnected. A ! ends the line where lent octets behind the answer did not stay.
 // A frame of the script: an octet for the catalogue (0 the sample, 1 the sample with long titles, 2 and 3 wrong ones, 4 the sample with segments close to
-// each other, 5 the sample with recordings that are still running), one for the call (0 a note, 1 to 12 in document 01's order from start to take, 13
+// each other, 5 the sample with recordings that are still running, 6 the sample with two titles that are not UTF-8, 7 the same with wrong groups), one for the call (0 a note, 1 to 12 in document 01's order from start to take, 13
 // damage to the state), one for the client and one for the characteristic, a little endian word that the call takes, an octet for the room of the lent
 // output, one for the length of the text, the text.
 ghost use Prim.Native.Nat.{_-_, _<_, _≤_};
@@ -132,6 +132,34 @@ const RUNNING_TRACKS: [u32; 24] = [
 
 const RUNNING_SEGMENTS: [u32; 6] = [0, 1500, 4000, 0, 1500, 8639999];
 
+// The same tracks, with titles in a text of which the second and the fourth are not UTF-8.
+const BAD_TRACKS: [u32; 24] = [
+    6000,
+    30,
+    0,
+    3,
+    0,
+    8,
+    300,
+    10,
+    3,
+    0,
+    8,
+    10,
+    0,
+    10,
+    3,
+    0,
+    18,
+    0,
+    900,
+    5,
+    3,
+    0,
+    18,
+    4,
+];
+
 // More than the 128 octets of the longest value, so that octets behind it are seen too.
 const MOST_ROOM: usize = 160;
 // What the lent octets hold before a call.
@@ -179,6 +207,11 @@ fn low(n: u32) -> u8 {
 }
 
 fn write_number(n: u32) {
+    io::write_all(1, b" ");
+    io::print_decimal(1, n as u64);
+}
+
+fn write_place(n: usize) {
     io::write_all(1, b" ");
     io::print_decimal(1, n as u64);
 }
@@ -300,7 +333,7 @@ fn write_digit(x: u32) {
 }
 
 // A refusal: a number of this project, or below 200 a code of ATT.
-fn refuse(number: u32) {
+fn write_refused(number: u32) {
     io::write_all(1, b"refused ");
     if number < 200 {
         io::write_all(1, b"0x");
@@ -309,6 +342,22 @@ fn refuse(number: u32) {
         return;
     }
     io::print_decimal(1, number as u64);
+}
+
+// A refusal: its number, and what it carries.
+fn refuse(r: ground::Refusal) {
+    write_refused(r.number);
+    let carried = r.carried;
+    match carried {
+        ground::Carried::Nothing => {}
+        ground::Carried::One(offset) => {
+            write_place(offset);
+        }
+        ground::Carried::Two(track, offset) => {
+            write_place(track);
+            write_place(offset);
+        }
+    }
 }
 
 fn write_answer(answer: Answer) {
@@ -329,7 +378,7 @@ fn write_answer(answer: Answer) {
             write_number(characteristic);
         }
         Answer::Refused(r) => {
-            refuse(r.number);
+            refuse(r);
         }
     }
 }
@@ -704,6 +753,7 @@ fn call(
 
 fn call_over(catalogue: u8, d: desk_state::Desk, c: Ask, words: &[u8]) -> desk_state::Desk {
     let text = b"\xC3\x9CberfahrtRastZiel";
+    let bad = b"Pr\xC3\xA9ludeInter\xC3ezzoCod\xFF";
     match catalogue {
         0 => call(&GROUPS, &TRACKS, &SEGMENTS, text, d, c, words),
         1 => call(
@@ -718,7 +768,7 @@ fn call_over(catalogue: u8, d: desk_state::Desk, c: Ask, words: &[u8]) -> desk_s
         2 => call(&WRONG_GROUPS, &TRACKS, &SEGMENTS, text, d, c, words),
         3 => call(&CUT_GROUPS, &TRACKS, &SEGMENTS, text, d, c, words),
         4 => call(&GROUPS, &CLOSE_TRACKS, &CLOSE_SEGMENTS, text, d, c, words),
-        _ => call(
+        5 => call(
             &GROUPS,
             &RUNNING_TRACKS,
             &RUNNING_SEGMENTS,
@@ -727,6 +777,8 @@ fn call_over(catalogue: u8, d: desk_state::Desk, c: Ask, words: &[u8]) -> desk_s
             c,
             words,
         ),
+        6 => call(&GROUPS, &BAD_TRACKS, &SEGMENTS, bad, d, c, words),
+        _ => call(&WRONG_GROUPS, &BAD_TRACKS, &SEGMENTS, bad, d, c, words),
     }
 }
 

@@ -1,22 +1,24 @@
 -- What a layer above knows of a state that stands, and how it shows that one does. Assumes nothing.
-use mathlib.Core.Path.{_≡_, sym}
+use mathlib.Core.Path.{_≡_, refl, sym}
 use mathlib.Core.Bool.{Bool, true, false, _&&_}
-use mathlib.Core.List.{List}
-use Prim.Native.Nat.{ℕ, _+_, _<_, _≤_}
+use mathlib.Core.List.{List, [], _∷_}
+use Prim.Native.Nat.{ℕ, zero, suc, _+_, _<_, _≤_, zero-le}
 use native.Mathlib.Omega.{arith}
 use borrow.Author.Tests.{ltb-true, leb-true, eqb-true, lt-ltb, le-ltb, le-leb, eq-eqb, ne-eqb}
 use lib.Dec.{eqb, ltb, leb}
-use lib.ListN.{length, drop}
+use lib.ListN.{length, getD, drop}
 use lib.Seq.{take-append-seam}
 use Rattle.ground.specs.Cases.{pick, within}
 use Rattle.ground.specs.Limits.{mostTitle}
 use Rattle.ground.proofs.Cases.{past, here, and-left, and-right, and-both}
+use Rattle.text.specs.Utf8.{textSaid}
+use Rattle.text.proofs.Law.{offset-within}
 use Rattle.catalogue_tables.specs.Tables.{groupCount, firstTrackOf, tracksIn, endOf}
 use Rattle.player_state.specs.declared.Mode.{Mode}
 use Rattle.player_state.specs.declared.Player.{Player}
 use Rattle.player_state.specs.Player.{inactive, seeking, named}
 use Rattle.player_state.specs.Modes.{rungs}
-use Rattle.player_check.specs.Standing.{textRule, groupRule, nameRule, member, modeRule, noPlace, inGroup, somePlace, placeRule, playerRule}
+use Rattle.player_check.specs.Standing.{textRule, nameCarries, groupRule, nameRule, member, modeRule, noPlace, inGroup, somePlace, placeRule, playerRule}
 
 -- the side of a choice that its test leaves
 chosen : {t : Bool} (a b : Bool) → t ≡ true → pick t a b ≡ true → a ≡ true
@@ -37,6 +39,16 @@ group-there groups g e = ltb-true _ _ (and-left (ltb g (groupCount groups)) (ltb
 pub group-used : (groups : List ℕ) (g : ℕ) → groupRule groups g ≡ true → 0 < tracksIn groups g
 unfolding groupRule
 group-used groups g e = ltb-true _ _ (and-right (ltb g (groupCount groups)) (ltb 0 (tracksIn groups g)) e)
+
+-- what 207 carries is small
+pub carries-small : (name : List ℕ) (i : ℕ) → getD (nameCarries name) i 0 ≤ mostTitle
+unfolding nameCarries
+carries-small name i = at (leb (length name) mostTitle) refl i
+  where
+    at : (t : Bool) → leb (length name) mostTitle ≡ t → (i : ℕ) → getD (pick t (textSaid name .values) (mostTitle ∷ [])) i 0 ≤ mostTitle
+    at true e i = omega (arith, offset-within name i, leb-true (length name) mostTitle e)
+    at false e zero = omega arith
+    at false e (suc i) = zero-le
 
 pub name-stands : (name old : List ℕ) → textRule name ≡ true → nameRule (named name old) ≡ true
 unfolding textRule nameRule

@@ -7,9 +7,9 @@ use Prim.Native.Nat.{ℕ, _+_}
 use lib.Dec.{eqb, ltb, leb}
 use lib.ListN.{length, take}
 use Rattle.ground.specs.Cases.{pick, within}
-use Rattle.ground.specs.Refusals.{Row, row}
+use Rattle.ground.specs.Refusals.{Row, row, rowWith}
 use Rattle.ground.specs.Limits.{mostTitle}
-use Rattle.text.specs.Utf8.{textOf, isFine}
+use Rattle.text.specs.Utf8.{textOf, textSaid, isFine}
 use Rattle.catalogue_tables.specs.Tables.{groupCount, firstTrackOf, tracksIn, endOf}
 use Rattle.player_state.specs.declared.Name.{Name}
 use Rattle.player_state.specs.declared.Mode.{Mode}
@@ -22,8 +22,12 @@ use Rattle.player_state.specs.Modes.{rungs}
 unfoldable pub textRule : List ℕ → Bool
 textRule name = leb (length name) mostTitle && isFine (textOf name)
 
+-- it carries the offset where the text is wrong, and "for a name over 128 octets, 128, tested first" (document 02, W-207)
+unfoldable pub nameCarries : List ℕ → List ℕ
+nameCarries name = pick (leb (length name) mostTitle) (textSaid name .values) (mostTitle ∷ [])
+
 abbrev pub nameRow : List ℕ → Row
-nameRow name = row 207 (not (textRule name))
+nameRow name = rowWith 207 (nameCarries name) (not (textRule name))
 
 -- a stored name; its array has 128 octets, so the length is asked by itself
 unfoldable pub nameRule : Name → Bool

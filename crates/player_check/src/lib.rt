@@ -1,16 +1,19 @@
 // Whether a state of the player stands in a catalogue. Any state and any tables are taken.
 ghost use mathlib.Core.Path.{_≡_};
-ghost use Rattle.player_check.specs.Standing.{textRule, groupRule, nameRule, member, modeRule, inGroup, placeRule, playerRule};
+ghost use mathlib.Core.List.{_∷_, []};
+ghost use Rattle.ground.specs.Refusals.{saidBy};
+ghost use Rattle.text.specs.Utf8.{saidOf};
+ghost use Rattle.player_check.specs.Standing.{nameRow, groupRule, nameRule, member, modeRule, inGroup, placeRule, playerRule};
 ghost use Rattle.player_state.specs.Modes.{rungs};
 
-// A name that is handed in: at most 128 octets of UTF-8.
-pub fn text_right(name: &[u8]) -> bool
-    ensures { λ r. ⌜ r ≡ textRule (now (name .entry)) ⌝ }
+// A name that is handed in: at most 128 octets of UTF-8, or where it is wrong.
+pub fn check_name(name: &[u8]) -> text::Checked
+    ensures { λ r. ⌜ saidOf r ≡ saidBy (nameRow (now (name .entry)) ∷ []) ⌝ }
 {
     if ground::MOST_TITLE < name.len() {
-        return false;
+        return text::Checked::BadAt(ground::MOST_TITLE);
     }
-    text::is_text(name)
+    text::check(name)
 }
 
 fn name_right(name: player_state::Name) -> bool

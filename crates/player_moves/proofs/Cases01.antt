@@ -10,7 +10,7 @@ use Rattle.ground.specs.Lists.{allBelow, sumBelow}
 use Rattle.text.specs.Utf8.{textOf, textFrom}
 use Rattle.catalogue_tables.specs.Tables.{tables, endOf, startsOf, titleOf}
 use Rattle.catalogue_rules.specs.Rules.{sizesRule, parentsRule, follow, trackRunsRule, segmentRunsRule, durationsRule, beginRule, riseRule, belowRule, startsRule, titlesPlacedRule, titlesTextRule}
-use Rattle.catalogue_check.specs.Catalogue.{catalogueRule, checkSaid, Right}
+use Rattle.catalogue_check.specs.Catalogue.{plainRule, catalogueRule, checkSaid, Right}
 use Rattle.player_walk.specs.Signed.{signedWord}
 use Rattle.player_walk.specs.Steps.{place, goto, moveIn}
 use Rattle.player_walk.specs.Places.{placeAfter}
@@ -36,7 +36,7 @@ use Rattle.player_moves.proofs.Past.{past-starts}
 use Rattle.player_moves.proofs.Ready.{shaped}
 
 pub sample-right : Right (tables sampleGroups sampleTracks sampleSegments [])
-unfolding checkSaid catalogueRule sizesRule parentsRule trackRunsRule follow segmentRunsRule durationsRule startsRule beginRule riseRule belowRule titlesPlacedRule titlesTextRule allBelow sumBelow startsOf endOf titleOf textOf textFrom
+unfolding checkSaid catalogueRule plainRule sizesRule parentsRule trackRunsRule follow segmentRunsRule durationsRule startsRule beginRule riseRule belowRule titlesPlacedRule titlesTextRule allBelow sumBelow startsOf endOf titleOf textOf textFrom
 sample-right = refl
 
 -- −2147483648 is too far to walk: by the closed forms, 2147483647 steps from the last

@@ -2,13 +2,14 @@
 use mathlib.Core.Path.{_≡_, refl, sym, ap, _∙_}
 use mathlib.Core.Logic.{_↔_, ⊎-elim}
 use mathlib.Core.List.{List, [], _∷_, _++_, append-assoc, append-nil}
-use Prim.Native.Nat.{ℕ, zero, suc, _+_, _≤_, _<_}
+use Prim.Native.Nat.{ℕ, zero, suc, _+_, _≤_, _<_, zero-le}
 use native.Mathlib.Nat.{add-zero, zero-add, add-assoc, not-suc-le-zero}
 use native.Mathlib.Omega.{arith}
-use lib.ListN.{length, take, drop, length-append, length-drop, take-append-drop}
+use lib.ListN.{length, getD, take, drop, length-append, length-drop, take-append-drop}
 use lib.Seq.{length-take-le, drop-append-seam, take-append-add, drop-append-add}
 use Rattle.text.specs.Grammar.{Char, Text, Text.end, Text.more, Starts, FirstBad}
-use Rattle.text.specs.Utf8.{charLength, textFrom, textOf}
+use Rattle.text.specs.Utf8.{charLength, textFrom, textOf, textSaid, saidOf}
+use Rattle.text.specs.declared.Checked.{Checked}
 use Rattle.text.specs.declared.Checked.the-variants.{Fine, BadAt}
 use Rattle.text.proofs.Chars.{char-sound, char-long, char-complete}
 use Rattle.text.proofs.Run.{stops, goes-on}
@@ -96,3 +97,13 @@ fine-is-text s =
 pub bad-is-first : (s : List ℕ) (at : ℕ) → (textOf s ≡ BadAt at) ↔ FirstBad s at
 unfolding textOf
 bad-is-first s at = (λ e. read-bad e (reading (length s) s (omega arith) 0), bad-read)
+
+-- an offset that is told lies within the text
+pub offset-within : (s : List ℕ) (i : ℕ) → getD (textSaid s .values) i 0 ≤ length s
+unfolding textSaid
+offset-within s i = at (textOf s) refl i
+  where
+    at : (c : Checked) → textOf s ≡ c → (i : ℕ) → getD (saidOf c .values) i 0 ≤ length s
+    at Fine e i = zero-le
+    at (BadAt o) e zero = omega (arith, bad-is-first s o .0 e .inside)
+    at (BadAt o) e (suc i) = zero-le

@@ -105,6 +105,10 @@ fn write_refusal(r: ground::Refusal) {
         ground::Carried::One(place) => {
             write_number(place);
         }
+        ground::Carried::Two(track, offset) => {
+            write_number(track);
+            write_number(offset);
+        }
     }
 }
 
@@ -384,7 +388,7 @@ fn frames(s: &[u8]) {
 }
 
 fn main() {
-    let mut input = [0u8; 2097152];
+    let mut input = [0u8; 3145728];
     let n = io::read_full(0, &mut input);
     frames(&input[..n]);
 }

@@ -1,26 +1,45 @@
--- `catalogue_rules::titles_text`: after i turns, the rule of the first i titles.
-use mathlib.Core.Path.{_≡_, refl, _∙_}
-use Prim.Native.Nat.{_≤_, _-_}
+-- `catalogue_rules::titles_text`: what is kept is what is said of the titles from the track i on.
+use mathlib.Core.Path.{_≡_, refl, sym, ap, _∙_}
+use mathlib.Core.List.{List, _∷_}
+use Prim.Native.Nat.{ℕ, suc, _+_, _-_, _<_, _≤_}
 use native.Mathlib.Omega.{arith}
-use Rattle.ground.specs.Lists.{allBelow}
-use Rattle.ground.proofs.Bounded.{all-turn, all-end}
-use Rattle.text.specs.Utf8.{textOf, isFine}
-use Rattle.catalogue_tables.specs.Tables.{titleOf}
-use Rattle.catalogue_rules.specs.Rules.{titlesTextRule}
+use Rattle.ground.specs.Cases.{pick}
+use Rattle.ground.specs.Refusals.{Said}
+use Rattle.text.specs.Utf8.{saidOf, textSaid}
+use Rattle.catalogue_tables.specs.Tables.{trackCount, titleOf}
+use Rattle.catalogue_rules.specs.Rules.{badTitleFrom, badTitle, titlesOf}
 use Rattle.catalogue_rules.proofs.Runs.{run-part}
 use borrow.Author.Needs.{needs}
 use Rattle.catalogue_rules.proofs.titles_text.Statement.{statement}
 use Rattle.catalogue_rules.proofs.titles_text.Tie as tie
 
 abbrev Inv-loop : tie.InvT-loop
-Inv-loop tracks text n good₀ i₀ good i = (i ≤ n) × (good ≡ allBelow i (λ t. isFine (textOf (titleOf tracks text t))))
+Inv-loop tracks text found₀ i₀ found i =
+    (i ≤ trackCount tracks) × (titlesOf found ≡ badTitleFrom tracks text (trackCount tracks - i) i)
 
 abbrev μ-loop : tie.MeasureT-loop
-μ-loop tracks text n good₀ i₀ good i = n - i
+μ-loop tracks text found₀ i₀ found i = i
+
+-- one title more, with the next lower number
+lower : (tracks text : List ℕ) (n i : ℕ) → i < n
+    → badTitleFrom tracks text (n - i) i
+    ≡ pick (textSaid (titleOf tracks text i) .isGranted) (badTitleFrom tracks text (n - (i + 1)) (i + 1)) (i ∷ textSaid (titleOf tracks text i) .values)
+unfolding badTitleFrom
+lower tracks text n i h =
+    let e : n - i ≡ suc (n - (i + 1)) = omega arith in
+    let s : suc i ≡ i + 1 = omega arith in
+    ap (λ (m : ℕ). badTitleFrom tracks text m i) e
+    ∙ ap (λ (j : ℕ). pick (textSaid (titleOf tracks text i) .isGranted) (badTitleFrom tracks text (n - (i + 1)) j) (i ∷ textSaid (titleOf tracks text i) .values)) s
 
 loop-holds : tie.Need-loop-holds Inv-loop μ-loop
-unfolding allBelow
-loop-holds c = (search needs, refl)
+unfolding badTitleFrom
+loop-holds c =
+    let n = trackCount (c .before .before .args .tracks .now) in
+    let z : n - n ≡ 0 = omega arith in
+    (search needs, sym (ap (λ (m : ℕ). badTitleFrom (c .before .before .args .tracks .now) (c .before .before .args .text .now) m n) z))
+
+sub-i : tie.Need-sub-i Inv-loop μ-loop
+sub-i c = search needs
 
 mul-base : tie.Need-mul-base Inv-loop μ-loop
 mul-base c = search needs
@@ -52,22 +71,23 @@ wide-word-requires-2 c κs = search needs
 add-end : tie.Need-add-end Inv-loop μ-loop
 add-end c = search needs
 
-sub-is-text : tie.Need-sub-is-text Inv-loop μ-loop
-sub-is-text c = search needs
+sub-check : tie.Need-sub-check Inv-loop μ-loop
+sub-check c = search needs
 
-part-is-text-start : tie.Need-part-is-text-start Inv-loop μ-loop
-part-is-text-start c = search needs
+part-check-start : tie.Need-part-check-start Inv-loop μ-loop
+part-check-start c = search needs
 
-part-is-text-end : tie.Need-part-is-text-end Inv-loop μ-loop
-part-is-text-end c =
+part-check-end : tie.Need-part-check-end Inv-loop μ-loop
+part-check-end c =
     let l = c .before .before .before .before .before in
-    omega (arith, l .before .before .before .pre (l .loop .i) (omega arith))
+    let a = l .before .before .before in
+    omega (arith, a .pre (l .loop .i - 1) (omega arith))
 
-is-text-requires : tie.Need-is-text-requires Inv-loop μ-loop
-is-text-requires c κs = search needs
+check-requires : tie.Need-check-requires Inv-loop μ-loop
+check-requires c κs = search needs
 
-add-i : tie.Need-add-i Inv-loop μ-loop
-add-i c = search needs
+with-title-requires : tie.Need-with-title-requires Inv-loop μ-loop
+with-title-requires c κs = search needs
 
 loop-less : tie.Need-loop-less Inv-loop μ-loop
 loop-less c = search needs
@@ -75,15 +95,29 @@ loop-less c = search needs
 loop-again : tie.Need-loop-again Inv-loop μ-loop
 unfolding titleOf
 loop-again c =
-    let w = c .before .before in
-    let l = w .before .before .before .before .before .loop in
-    let a = w .before .before .before .before .before .before .before .before .args in
-    let part = run-part (a .text .now) (w .before .before .wide-word .result) (w .wide-word2 .result) (w .before .before .wide-word .ensures .0) (w .wide-word2 .ensures .0) in
-    (search needs, all-turn _ _ _ _ (l .inv .1) (c .is-text .ensures ∙ (λ k. isFine (textOf (part k)))))
+    let w = c .before .before .before in
+    let l = w .before .before .before .before .before in
+    let a = l .before .before .before .args in
+    let tracks = a .tracks .now in
+    let text = a .text .now in
+    let n = trackCount tracks in
+    let i = l .loop .i - 1 in
+    let e : l .loop .i ≡ i + 1 = omega arith in
+    let part = run-part text (w .before .before .wide-word .result) (w .wide-word2 .result) (w .before .before .wide-word .ensures .0) (w .wide-word2 .ensures .0) in
+    let said : saidOf (c .before .check .result) ≡ textSaid (titleOf tracks text i) = c .before .check .ensures ∙ ap textSaid part in
+    let behind : titlesOf (l .loop .found) ≡ badTitleFrom tracks text (n - (i + 1)) (i + 1) = l .loop .inv .1 ∙ ap (λ (j : ℕ). badTitleFrom tracks text (n - j) j) e in (
+      search needs,
+      c .with-title .ensures
+          ∙ (λ k. pick (said k .isGranted) (behind k) (i ∷ said k .values))
+          ∙ sym (lower tracks text n i (omega arith)),
+    )
 
 returns : tie.Need-returns Inv-loop μ-loop
-unfolding titlesTextRule
-returns c = all-end _ (c .before .loop .inv .0) (c .loop-test .left) (c .before .loop .inv .1)
+returns c =
+    let a = c .before .before .before .before .args in
+    let z : c .before .loop .i ≡ 0 = omega arith in
+    let e : trackCount (a .tracks .now) - c .before .loop .i ≡ trackCount (a .tracks .now) = omega arith in
+    c .before .loop .inv .1 ∙ (λ k. badTitleFrom (a .tracks .now) (a .text .now) (e k) (z k))
 
 pub titles-text-spec : {M : Type 1} → statement M
 titles-text-spec =
@@ -92,6 +126,7 @@ titles-text-spec =
     Inv-loop
     μ-loop
     loop-holds
+    sub-i
     mul-base
     add-wide-word
     mul-wide-word
@@ -102,11 +137,11 @@ titles-text-spec =
     shared-slice-read-wide-word-2
     wide-word-requires-2
     add-end
-    sub-is-text
-    part-is-text-start
-    part-is-text-end
-    is-text-requires
-    add-i
+    sub-check
+    part-check-start
+    part-check-end
+    check-requires
+    with-title-requires
     loop-less
     loop-again
     returns)

@@ -1,10 +1,10 @@
 -- `desk_console::set_name`: 200, 201, 207, then another name.
-use mathlib.Core.Path.{sym, ap, _∙_}
-use mathlib.Core.Bool.{false, not}
+use mathlib.Core.Path.{ap, _∙_}
+use mathlib.Core.Bool.{false}
 use mathlib.Core.List.{List, [], _∷_}
 use borrow.Author.Tests.{not-true, not-false}
 use Rattle.ground.specs.Refusals.{granted, Row, leaves, keeping}
-use Rattle.ground.proofs.Cases.{past, here}
+use Rattle.ground.proofs.Cases.{past}
 use Rattle.ground.proofs.Rows.{NoneApplies, through}
 use Rattle.catalogue_tables.specs.Tables.{Tables, tables}
 use Rattle.player_state.specs.declared.Player.{Player}
@@ -31,6 +31,10 @@ begun e = e .before .before .before .before .before .before .before .before
 passed : (e : tie.Else1) → NoneApplies (front (begun e))
 passed e = let g = e .before .before in none (front (begun e)) (g .front-gate .result) (g .front-gate .ensures) (not-false _ (e .if1 .left))
 
+-- the name is right
+good : (e : tie.Else2) → NoneApplies (nameRow (begun (e .before .before .before) .args .name .now) ∷ [])
+good e = let n = e .before .before in none (nameRow _ ∷ []) (n .name-gate .result) (n .name-gate .ensures) (not-false _ (e .if2 .left))
+
 front-gate-requires : tie.Need-front-gate-requires
 front-gate-requires c κs = search needs
 
@@ -44,22 +48,22 @@ returns c =
     let s = g .before .before .before .before .before .before in
     c .shut .ensures ∙ refuses (front s) (g .front-gate .result) (g .front-gate .ensures) (not-true _ (c .before .if1 .taken)) (keeping (s .args .d)) (nameRow (s .args .name .now) ∷ []) _
 
-text-right-requires : tie.Need-text-right-requires
-text-right-requires c κs = search needs
+name-gate-requires : tie.Need-name-gate-requires
+name-gate-requires c κs = search needs
 
-refuse-requires : tie.Need-refuse-requires
-refuse-requires c κs = search needs
+shut-requires-2 : tie.Need-shut-requires-2
+shut-requires-2 c κs = search needs
 
 returns-2 : tie.Need-returns-2
 unfolding nameCall
 returns-2 c =
-    let t = c .before .before in
+    let t = c .before .before .before in
     let s = begun (t .before) in
     through (keeping (s .args .d)) (front s) (passed (t .before))
-    (here _ (sym (ap not (t .text-right .ensures)) ∙ c .before .if2 .taken) (c .refuse .ensures))
+    (c .shut2 .ensures ∙ refuses (nameRow (s .args .name .now) ∷ []) (t .name-gate .result) (t .name-gate .ensures) (not-true _ (c .before .if2 .taken)) (keeping (s .args .d)) [] _)
 
 set-name-requires : tie.Need-set-name-requires
-set-name-requires c κs = text-short _ (sym (c .before .before .text-right .ensures) ∙ not-false _ (c .before .if2 .left))
+set-name-requires c κs = text-short _ (not-false _ (good (c .before) .0))
 
 becoming-requires : tie.Need-becoming-requires
 becoming-requires c κs = search needs
@@ -68,10 +72,10 @@ returns-3 : tie.Need-returns-3
 unfolding nameCall
 returns-3 c =
     let e = c .before .before .before in
-    let t = e .before in
+    let t = e .before .before in
     let s = begun (t .before) in
     through (keeping (s .args .d)) (front s) (passed (t .before))
-    (past _ (sym (ap not (t .text-right .ensures)) ∙ e .if2 .left)
+    (past _ (good e .0)
     (c .becoming .ensures ∙ ap (λ (q : Player). leaves (granted []) (settled (source (s .args .tracks .now) (s .args .text .now)) (noWriter false) q (s .args .d))) (c .before .set-name .ensures)))
 
 pub set-name-spec : {M : Type 1} → statement M
@@ -81,8 +85,8 @@ set-name-spec =
     front-gate-requires
     shut-requires
     returns
-    text-right-requires
-    refuse-requires
+    name-gate-requires
+    shut-requires-2
     returns-2
     set-name-requires
     becoming-requires

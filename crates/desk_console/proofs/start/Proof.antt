@@ -1,10 +1,10 @@
 -- `desk_console::start`: 200, 207, then a fresh player and nobody connected.
-use mathlib.Core.Path.{_≡_, sym, ap, _∙_}
-use mathlib.Core.Bool.{false, not}
+use mathlib.Core.Path.{_≡_, ap, _∙_}
+use mathlib.Core.Bool.{false}
 use mathlib.Core.List.{List, [], _∷_}
 use borrow.Author.Tests.{not-true, not-false}
-use Rattle.ground.specs.Refusals.{granted, refused, Row, leaves, keeping}
-use Rattle.ground.proofs.Cases.{past, here}
+use Rattle.ground.specs.Refusals.{granted, Row, leaves, keeping}
+use Rattle.ground.proofs.Cases.{past}
 use Rattle.ground.proofs.Rows.{NoneApplies, through}
 use Rattle.catalogue_tables.specs.Tables.{Tables, tables}
 use Rattle.player_check.specs.Standing.{nameRow}
@@ -34,6 +34,10 @@ passed e = let g = e .before .before in none (front (start-of g)) (g .lent-gate 
 blank : (g : tie.After-lent-gate) → let s = start-of g in g .before .fresh-desk .result ≡ startedDesk (startedPlayer [] (s .args .mask) (s .args .ccid))
 blank g = g .before .fresh-desk .ensures ∙ ap startedDesk (g .before .before .start .ensures)
 
+-- the name is right
+good : (e : tie.Else2) → NoneApplies (nameRow (start-of (e .before .before .before .before .before) .args .name .now) ∷ [])
+good e = let n = e .before .before in none (nameRow _ ∷ []) (n .name-gate .result) (n .name-gate .ensures) (not-false _ (e .if2 .left))
+
 slice-aggregate-start : tie.Need-slice-aggregate-start
 slice-aggregate-start c = search needs
 
@@ -57,23 +61,25 @@ returns c =
     c .shut .ensures ∙ ap (leaves (saidOf (g .lent-gate .result .answer))) (blank g)
     ∙ refuses (front s) (g .lent-gate .result) (g .lent-gate .ensures) (not-true _ (c .before .if1 .taken)) (keeping (startedDesk (startedPlayer [] (s .args .mask) (s .args .ccid)))) (nameRow (s .args .name .now) ∷ []) _
 
-text-right-requires : tie.Need-text-right-requires
-text-right-requires c κs = search needs
+name-gate-requires : tie.Need-name-gate-requires
+name-gate-requires c κs = search needs
 
-refuse-requires : tie.Need-refuse-requires
-refuse-requires c κs = search needs
+shut-requires-2 : tie.Need-shut-requires-2
+shut-requires-2 c κs = search needs
 
 returns-2 : tie.Need-returns-2
 unfolding startCall
 returns-2 c =
-    let t = c .before .before in
+    let t = c .before .before .before in
     let g = t .before .before .before in
     let s = start-of g in
     through (keeping (startedDesk (startedPlayer [] (s .args .mask) (s .args .ccid)))) (front s) (passed (t .before))
-    (here _ (sym (ap not (t .text-right .ensures)) ∙ c .before .if2 .taken) (c .refuse .ensures ∙ ap (leaves (refused 207)) (blank g)))
+    (c .shut2 .ensures ∙ ap (leaves (saidOf (t .name-gate .result .answer))) (blank g)
+    ∙ refuses (nameRow (s .args .name .now) ∷ []) (t .name-gate .result) (t .name-gate .ensures) (not-true _ (c .before .if2 .taken))
+    (keeping (startedDesk (startedPlayer [] (s .args .mask) (s .args .ccid)))) [] _)
 
 start-requires-2 : tie.Need-start-requires-2
-start-requires-2 c κs = text-short _ (sym (c .before .text-right .ensures) ∙ not-false _ (c .if2 .left))
+start-requires-2 c κs = text-short _ (not-false _ (good c .0))
 
 fresh-desk-requires-2 : tie.Need-fresh-desk-requires-2
 fresh-desk-requires-2 c κs = search needs
@@ -85,11 +91,11 @@ returns-3 : tie.Need-returns-3
 unfolding startCall
 returns-3 c =
     let e = c .before .before .before in
-    let t = e .before in
+    let t = e .before .before in
     let g = t .before .before .before in
     let s = start-of g in
     through (keeping (startedDesk (startedPlayer [] (s .args .mask) (s .args .ccid)))) (front s) (passed (t .before))
-    (past _ (sym (ap not (t .text-right .ensures)) ∙ e .if2 .left)
+    (past _ (good e .0)
     (c .left .ensures ∙ ap (leaves (granted [])) (c .before .fresh-desk2 .ensures ∙ ap startedDesk (c .before .before .start2 .ensures))))
 
 pub start-spec : {M : Type 1} → statement M
@@ -102,8 +108,8 @@ start-spec =
     lent-gate-requires
     shut-requires
     returns
-    text-right-requires
-    refuse-requires
+    name-gate-requires
+    shut-requires-2
     returns-2
     start-requires-2
     fresh-desk-requires-2

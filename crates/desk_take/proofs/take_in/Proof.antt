@@ -180,8 +180,8 @@ module _ {M : Type 1} (𝓤 : URA M) (H : Heap 𝓤) (A : Atoms 𝓤) (W : Given
         peeks ! S.the-row (Is S.the-row) (shows 𝓤 H A S.the-row) r (v ∷ []) (λ is.
         land ! (from ! (stop !)) (init ! 13 refl (LL.lawful S.the-type S′.the-laws 𝓤 H A W .typed r _ is .0)) $
         rewrite ! 13 (λ (u : Val). ‵ (fat fullShare S′.mir l₈ 0 u)) (fields r v is) refl $
-        -- *_1 = _8.1; the record stands 32 octets behind the answer's start, which is said here, because the checker is slow to find it
-        assigns ! (of-opd ! (load ! (from ! (fld ! {τ = T′.mir} {d = 32} refl (stop !))) (look-in ! 13 (sub ! 1 refl (whole !))))) (from ! (hop ! (look ! 27 refl) (stop !))) (store-raw ! 3 refl (record-typed 𝓤 H A W (r .client) (client-is r v is))) $
+        -- *_1 = _8.1; the record stands 40 octets behind the answer's start, which is said here, because the checker is slow to find it
+        assigns ! (of-opd ! (load ! (from ! (fld ! {τ = T′.mir} {d = 40} refl (stop !))) (look-in ! 13 (sub ! 1 refl (whole !))))) (from ! (hop ! (look ! 27 refl) (stop !))) (store-raw ! 3 refl (record-typed 𝓤 H A W (r .client) (client-is r v is))) $
         -- _0 = _8.0
         assigns ! (of-opd ! (load ! (from ! (fld ! {τ = X′.mir} {d = 0} refl (stop !))) (look-in ! 13 (sub ! 0 refl (whole !))))) (from ! (stop !)) (init ! 29 refl (EL.lawful X.the-type X′.the-laws 𝓤 H A W tt .typed (r .answer) _ (slot-is r v is) .0)) $
         -- the borrow is closed at the new record

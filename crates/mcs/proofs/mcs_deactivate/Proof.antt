@@ -1,12 +1,25 @@
 -- `mcs::mcs_deactivate`: the state read out, `desk_console::deactivate`, then its end.
-use mathlib.Core.Path.{ap, _∙_}
-use Rattle.catalogue_tables.specs.Tables.{tables}
+use mathlib.Core.Path.{_≡_, ap, _∙_}
+use Rattle.catalogue_tables.specs.Tables.{Tables, tables}
 use Rattle.desk_state.specs.declared.Desk.{Desk}
+use Rattle.desk_replies.specs.Replies.{leftBy}
 use Rattle.desk_console.specs.Console.{deactivateCall}
-use Rattle.mcs.proofs.Leaving.{follow}
+use Rattle.mcs_state.specs.Codec.{deskOf}
+use Rattle.mcs.proofs.Leaving.{follow, small-left}
+use Rattle.mcs.proofs.Short.{deactivate-words}
 use borrow.Author.Needs.{needs}
 use Rattle.mcs.proofs.mcs_deactivate.Statement.{statement}
 use Rattle.mcs.proofs.mcs_deactivate.Tie as tie
+
+-- what the call left
+abbrev begun : tie.After-deactivate → tie.Start
+begun m = m .before .before .before .before .before .before .before .before
+
+abbrev lent : tie.Start → Tables
+lent s = tables (s .args .groups .now) (s .args .tracks .now) (s .args .segments .now) (s .args .text .now)
+
+left-is : (m : tie.After-deactivate) → let s = begun m in leftBy (m .deactivate .result) ≡ deactivateCall (lent s) (deskOf (s .args .state .now))
+left-is m = let s = begun m in m .deactivate .ensures ∙ ap (λ (d : Desk). deactivateCall (lent s) d) (m .before .decode .ensures)
 
 decode-requires : tie.Need-decode-requires
 decode-requires c κs = search needs
@@ -15,13 +28,13 @@ deactivate-requires : tie.Need-deactivate-requires
 deactivate-requires c κs = search needs
 
 finish-requires : tie.Need-finish-requires
-finish-requires c κs = search needs
+finish-requires c κs =
+    let m = c .before .before .before in
+    let s = begun m in
+    (search needs, (search needs, (search needs, small-left (left-is m) (deactivate-words (lent s) (deskOf (s .args .state .now))))))
 
 returns : tie.Need-returns
-returns c =
-    let s = c .before .before .before .before .before .before .before .before .before .before in
-    let k = tables (s .args .groups .now) (s .args .tracks .now) (s .args .segments .now) (s .args .text .now) in
-    follow (c .before .before .deactivate .ensures ∙ ap (λ (d : Desk). deactivateCall k d) (c .before .before .before .decode .ensures)) (c .finish .ensures)
+returns c = follow (left-is (c .before .before .before .before)) (c .finish .ensures)
 
 pub mcs-deactivate-spec : {M : Type 1} → statement M
 mcs-deactivate-spec =

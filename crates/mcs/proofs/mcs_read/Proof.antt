@@ -9,7 +9,7 @@ use Rattle.desk_exchange.specs.Read.{readCall, readOctets}
 use Rattle.mcs_state.specs.Codec.{deskOf}
 use Rattle.mcs.specs.declared.Told.{Told}
 use Rattle.mcs.specs.Calls.{toldOf, toldAfter}
-use Rattle.mcs.proofs.Leaving.{follow}
+use Rattle.mcs.proofs.Leaving.{follow, small-left}
 use Rattle.mcs.proofs.Short.{read-words, told-as-said}
 use borrow.Author.Needs.{needs}
 use Rattle.mcs.proofs.mcs_read.Statement.{statement}
@@ -28,14 +28,27 @@ tell-requires : tie.Need-tell-requires
 tell-requires c κs = search needs
 
 finish-requires : tie.Need-finish-requires
-finish-requires c κs = search needs
+finish-requires c κs =
+    let after-read = c .before .before .before .before .before .before .before .before .before in
+    let after-decode = after-read .before .before in
+    let s = after-decode .before .before .before .before .before .before .before .before in
+    let k = tables (s .args .groups .now) (s .args .tracks .now) (s .args .segments .now) (s .args .text .now) in (
+      search needs,
+      (
+        search needs,
+        (
+          search needs,
+          small-left (after-read .read .ensures .0 ∙ ap (λ (x : Desk). readCall k x (s .args .client) (s .args .characteristic) (s .args .offset) (length (s .args .out .now))) (after-decode .decode .ensures)) (read-words k (deskOf (s .args .state .now)) (s .args .client) (s .args .characteristic) (s .args .offset) (length (s .args .out .now))),
+        ),
+      ),
+    )
 
 same-length : tie.Need-same-length
 same-length c = search needs
 
 returns : tie.Need-returns
 returns c =
-    let after-tell = c .before .before in
+    let after-tell = c .before .before .before .before in
     let after-told-of = after-tell .before .before .before in
     let after-read = after-told-of .before .before .before in
     let after-decode = after-read .before .before in

@@ -17,8 +17,17 @@ enum-told c = search needs
 enum-known-carried : tie.Need-enum-known-carried
 enum-known-carried c = search needs
 
-cast-t8 : tie.Need-cast-t8
-cast-t8 c = search needs
+cast-t10 : tie.Need-cast-t10
+cast-t10 c = search needs
+
+enum-known-carried-2 : tie.Need-enum-known-carried-2
+enum-known-carried-2 c = search needs
+
+cast-t13 : tie.Need-cast-t13
+cast-t13 c = search needs
+
+cast-t15 : tie.Need-cast-t15
+cast-t15 c = search needs
 
 returns : tie.Need-returns
 returns c = back (c .before .before .args .r .number) (c .enum-told .given .1)
@@ -26,5 +35,19 @@ returns c = back (c .before .before .args .r .number) (c .enum-told .given .1)
 returns-2 : tie.Need-returns-2
 returns-2 c = back (c .before .before .before .args .r .number) (c .before .carried .given .1)
 
+returns-3 : tie.Need-returns-3
+returns-3 c = back (c .before .before .before .args .r .number) (c .before .carried2 .given .1)
+
 pub refused-spec : {M : Type 1} → statement M
-refused-spec = tie.close (tie.spec enum-told enum-known-carried cast-t8 returns returns-2)
+refused-spec =
+    tie.close
+    (tie.spec
+    enum-told
+    enum-known-carried
+    cast-t10
+    enum-known-carried-2
+    cast-t13
+    cast-t15
+    returns
+    returns-2
+    returns-3)

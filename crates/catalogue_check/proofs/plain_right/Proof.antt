@@ -1,4 +1,4 @@
--- `catalogue_check::rules_right`: at each return the tests that led there say what the rule is. Of each rule, `-holds` and `-fails` say so over the place that its test leads to.
+-- `catalogue_check::plain_right`: at each return the tests that led there say what the rule is. Of each rule, `-holds` and `-fails` say so over the place that its test leads to.
 use mathlib.Core.Path.{_≡_, sym, _∙_}
 use mathlib.Core.Bool.{true, false}
 use native.Mathlib.Omega.{arith}
@@ -6,11 +6,11 @@ use borrow.Author.Needs.{needs}
 use borrow.Author.Tests.{not-true, not-false}
 use lib.ListN.{length}
 use Rattle.catalogue_tables.specs.Tables.{Tables, tables, trackCount}
-use Rattle.catalogue_rules.specs.Rules.{sizesRule, parentsRule, trackRunsRule, segmentRunsRule, durationsRule, startsRule, titlesPlacedRule, titlesTextRule}
-use Rattle.catalogue_check.specs.Catalogue.{catalogueRule}
-use Rattle.catalogue_rules.proofs.Checked.{few-groups, few-tracks, runs-inside, titles-inside}
-use Rattle.catalogue_check.proofs.rules_right.Statement.{statement}
-use Rattle.catalogue_check.proofs.rules_right.Tie as tie
+use Rattle.catalogue_rules.specs.Rules.{sizesRule, parentsRule, trackRunsRule, segmentRunsRule, durationsRule, startsRule, titlesPlacedRule}
+use Rattle.catalogue_check.specs.Catalogue.{plainRule}
+use Rattle.catalogue_rules.proofs.Checked.{few-groups, few-tracks, runs-inside}
+use Rattle.catalogue_check.proofs.plain_right.Statement.{statement}
+use Rattle.catalogue_check.proofs.plain_right.Tie as tie
 
 abbrev lent : tie.Start → Tables
 lent c = tables (c .args .groups .now) (c .args .tracks .now) (c .args .segments .now) (c .args .text .now)
@@ -33,9 +33,6 @@ lent5 e = lent4 (e .before .before)
 
 abbrev lent6 : tie.Else6 → Tables
 lent6 e = lent5 (e .before .before)
-
-abbrev lent7 : tie.Else7 → Tables
-lent7 e = lent6 (e .before .before)
 
 sizes-holds : (c : tie.Else1) → let k = lent (c .before .before .before .before .before .before) in sizesRule (length (k .groups)) (length (k .tracks)) (length (k .segments)) (length (k .text)) ≡ true
 sizes-holds c = sym (c .before .sizes-right .ensures) ∙ not-false _ (c .if1 .left)
@@ -83,17 +80,11 @@ placed-holds c = sym (c .before .titles-placed .ensures) ∙ not-false _ (c .if7
 placed-fails : (c : tie.Then7) → let k = lent6 (c .before .before) in titlesPlacedRule (k .tracks) (length (k .text)) ≡ false
 placed-fails c = sym (c .before .titles-placed .ensures) ∙ not-true _ (c .if7 .taken)
 
-utf8-holds : (c : tie.Else8) → let k = lent7 (c .before .before) in titlesTextRule (k .tracks) (k .text) ≡ true
-utf8-holds c = sym (c .before .titles-text .ensures) ∙ not-false _ (c .if8 .left)
-
-utf8-fails : (c : tie.Then8) → let k = lent7 (c .before .before) in titlesTextRule (k .tracks) (k .text) ≡ false
-utf8-fails c = sym (c .before .titles-text .ensures) ∙ not-true _ (c .if8 .taken)
-
 sizes-right-requires : tie.Need-sizes-right-requires
 sizes-right-requires c κs = search needs
 
 returns : tie.Need-returns
-unfolding catalogueRule
+unfolding plainRule
 returns c =
     simp (sizes-fails c)
 
@@ -101,7 +92,7 @@ parents-right-requires : tie.Need-parents-right-requires
 parents-right-requires c κs = search needs
 
 returns-2 : tie.Need-returns-2
-unfolding catalogueRule
+unfolding plainRule
 returns-2 c =
     simp (
       sizes-holds (c .before .before),
@@ -112,7 +103,7 @@ runs-right-requires : tie.Need-runs-right-requires
 runs-right-requires c κs = omega (arith, few-groups _ _ _ _ (sizes-holds (c .before .before)))
 
 returns-3 : tie.Need-returns-3
-unfolding catalogueRule
+unfolding plainRule
 returns-3 c =
     simp (
       sizes-holds (c .before .before .before .before),
@@ -124,7 +115,7 @@ runs-right-requires-2 : tie.Need-runs-right-requires-2
 runs-right-requires-2 c κs = omega (arith, few-tracks _ _ _ _ (sizes-holds (c .before .before .before .before)))
 
 returns-4 : tie.Need-returns-4
-unfolding catalogueRule
+unfolding plainRule
 returns-4 c =
     let e3 = c .before .before in
     let e2 = e3 .before .before in
@@ -140,7 +131,7 @@ durations-right-requires : tie.Need-durations-right-requires
 durations-right-requires c κs = search needs
 
 returns-5 : tie.Need-returns-5
-unfolding catalogueRule
+unfolding plainRule
 returns-5 c =
     let e4 = c .before .before in
     let e3 = e4 .before .before in
@@ -158,7 +149,7 @@ starts-right-requires : tie.Need-starts-right-requires
 starts-right-requires c κs = runs-inside _ _ (segment-runs-holds (c .before .before))
 
 returns-6 : tie.Need-returns-6
-unfolding catalogueRule
+unfolding plainRule
 returns-6 c =
     let e5 = c .before .before in
     let e4 = e5 .before .before in
@@ -178,7 +169,7 @@ titles-placed-requires : tie.Need-titles-placed-requires
 titles-placed-requires c κs = search needs
 
 returns-7 : tie.Need-returns-7
-unfolding catalogueRule
+unfolding plainRule
 returns-7 c =
     let e6 = c .before .before in
     let e5 = e6 .before .before in
@@ -196,14 +187,10 @@ returns-7 c =
       placed-fails c,
     )
 
-titles-text-requires : tie.Need-titles-text-requires
-titles-text-requires c κs = titles-inside _ _ (placed-holds c)
-
 returns-8 : tie.Need-returns-8
-unfolding catalogueRule
+unfolding plainRule
 returns-8 c =
-    let e7 = c .before .before in
-    let e6 = e7 .before .before in
+    let e6 = c .before .before in
     let e5 = e6 .before .before in
     let e4 = e5 .before .before in
     let e3 = e4 .before .before in
@@ -216,33 +203,11 @@ returns-8 c =
       segment-runs-holds e4,
       durations-holds e5,
       starts-holds e6,
-      placed-holds e7,
-      utf8-fails c,
+      placed-holds c,
     )
 
-returns-9 : tie.Need-returns-9
-unfolding catalogueRule
-returns-9 c =
-    let e7 = c .before .before in
-    let e6 = e7 .before .before in
-    let e5 = e6 .before .before in
-    let e4 = e5 .before .before in
-    let e3 = e4 .before .before in
-    let e2 = e3 .before .before in
-    let e1 = e2 .before .before in
-    simp (
-      sizes-holds e1,
-      parents-holds e2,
-      track-runs-holds e3,
-      segment-runs-holds e4,
-      durations-holds e5,
-      starts-holds e6,
-      placed-holds e7,
-      utf8-holds c,
-    )
-
-pub rules-right-spec : {M : Type 1} → statement M
-rules-right-spec =
+pub plain-right-spec : {M : Type 1} → statement M
+plain-right-spec =
     tie.close
     (tie.spec
     sizes-right-requires
@@ -259,6 +224,4 @@ rules-right-spec =
     returns-6
     titles-placed-requires
     returns-7
-    titles-text-requires
-    returns-8
-    returns-9)
+    returns-8)
