@@ -1452,21 +1452,27 @@ seen('-', '-', '-', '-')
 
 # ---- Wrong states: 201
 
+
+def the_others_refuse_the_state():
+    """Every call that takes a state but set name, in the office of the left pedal."""
+    activate(1, 'refused 201')
+    deactivate('refused 201')
+    advance(10, 'refused 201')
+    connect(RIGHT, 23, ENCRYPTED, 'refused 201')
+    disconnect(LEFT, 'refused 201')
+    subscribe(LEFT, 4, 'refused 201')
+    unsubscribe(LEFT, 1, 'refused 201')
+    read(LEFT, 1, 0, 'refused 201')
+    write(LEFT, 18, [PLAY], 'refused 201')
+    take('refused 201')
+
+
 case('every call refuses a wrong state')
 office('1 17 18')
 set_name(b'A', 'done', 'left 1')
 damage(TURN, 4)
 set_name(b'B', 'refused 201')
-activate(1, 'refused 201')
-deactivate('refused 201')
-advance(10, 'refused 201')
-connect(RIGHT, 23, ENCRYPTED, 'refused 201')
-disconnect(LEFT, 'refused 201')
-subscribe(LEFT, 4, 'refused 201')
-unsubscribe(LEFT, 1, 'refused 201')
-read(LEFT, 1, 0, 'refused 201')
-write(LEFT, 18, [PLAY], 'refused 201')
-take('refused 201')
+the_others_refuse_the_state()
 # 205 before 201, and 201 before whatever follows it.
 read(LEFT, 1, 0, 'refused 205', 127)
 take('refused 205', 127)
@@ -1523,16 +1529,7 @@ for part, number, right in ((NAME_LENGTH, 129, 5), (NAME_FIRST, 0xFF, 0x43), (NA
     set_name(b'B', 'refused 201')
     set_name(b'B\xFF', 'refused 201')
     set_name(b'B' * 129, 'refused 201')
-    activate(1, 'refused 201')
-    deactivate('refused 201')
-    advance(10, 'refused 201')
-    connect(RIGHT, 23, ENCRYPTED, 'refused 201')
-    disconnect(LEFT, 'refused 201')
-    subscribe(LEFT, 4, 'refused 201')
-    unsubscribe(LEFT, 1, 'refused 201')
-    read(LEFT, 1, 0, 'refused 201')
-    write(LEFT, 18, [PLAY], 'refused 201')
-    take('refused 201')
+    the_others_refuse_the_state()
     # A start takes no state, and its own name is told.
     start(b'B\xFF', ALL, 7, 'refused 207 1')
     damage(part, right)
