@@ -90,7 +90,7 @@ static void make(desk *d, const catalogue *c, call made)
     }
 }
 
-/* ---- Arguments */
+/* ---- Arguments: a call is to the generic service, unless it is made one to the other */
 
 static call plain(uint32_t kind, uint32_t who, uint32_t what, uint32_t number)
 {
@@ -111,10 +111,20 @@ static call with_octets(uint32_t kind, uint32_t who, uint32_t what, const uint8_
     return c;
 }
 
+static call to_named(call c)
+{
+    c.service = MCS_NAMED;
+    return c;
+}
+
+/* Both players have this name. */
 static call start(const uint8_t *name, size_t length)
 {
-    call c = with_octets(START, 0, 7, name, length);
-    c.number = MCS_ALL_OPCODES;
+    call c = plain(START, 0, 0, 0);
+    for (uint32_t k = 0; k < MCS_SERVICES; k++) {
+        struct mcs_player player = {name, length, MCS_ALL_OPCODES, (uint8_t)(7u + k)};
+        c.players[k] = player;
+    }
     return c;
 }
 
@@ -138,7 +148,7 @@ static const uint8_t NAME[] = "Interviews, room 3, left desk";
 
 /* ---- States */
 
-/* Four clients that are subscribed to everything, and no group. */
+/* Four clients that are subscribed to everything in both services, and no group. */
 static desk idle(const catalogue *c)
 {
     static const uint32_t MTU[MCS_CLIENTS] = {23, 64, 185, 517};
@@ -150,6 +160,7 @@ static desk idle(const catalogue *c)
         make(&d, c, connect_with(k, MTU[k]));
         for (s = 0; s < SLOTS; s++) {
             make(&d, c, plain(SUBSCRIBE, k, slot_at(s), 0));
+            make(&d, c, to_named(plain(SUBSCRIBE, k, slot_at(s), 0)));
         }
     }
     return d;
@@ -161,7 +172,7 @@ static void take_until(desk *d, const catalogue *c, uint32_t characteristic)
     for (;;) {
         desk next = *d;
         make(&next, c, plain(TAKE, 0, 0, 0));
-        if (from_library.served[1] == characteristic) {
+        if (from_library.served[SERVED_CHARACTERISTIC] == characteristic) {
             return;
         }
         *d = next;
@@ -182,6 +193,16 @@ static desk playing(const catalogue *c)
 {
     desk d = paused(c, 3);
     make(&d, c, opcode(1, MCS_OPCODE_PLAY));
+    take_until(&d, c, 0);
+    return d;
+}
+
+/* Both players play, and nothing is owed. */
+static desk both_playing(const catalogue *c)
+{
+    desk d = playing(c);
+    make(&d, c, to_named(plain(ACTIVATE, 0, 0, GROUP)));
+    make(&d, c, to_named(opcode(1, MCS_OPCODE_PLAY)));
     take_until(&d, c, 0);
     return d;
 }
@@ -221,6 +242,28 @@ static desk owing_results(const catalogue *c)
     return d;
 }
 
+/* Both players are at a new track, the generic one's slots are served, and the title of the named one's is owed next. */
+static desk owing_named_title(const catalogue *c)
+{
+    desk d = owing_title(c);
+    take_until(&d, c, 0);
+    make(&d, c, to_named(plain(ACTIVATE, 0, 0, GROUP)));
+    take_until(&d, c, MCS_TITLE);
+    return d;
+}
+
+/* Each client has pressed Next Track on both players: both services owe it a result, and all that a new track brings. */
+static desk owing_by_both(const catalogue *c)
+{
+    desk d = both_playing(c);
+    uint32_t k;
+    for (k = 0; k < MCS_CLIENTS; k++) {
+        make(&d, c, opcode(k, MCS_OPCODE_NEXT_TRACK));
+        make(&d, c, to_named(opcode(k, MCS_OPCODE_NEXT_TRACK)));
+    }
+    return d;
+}
+
 static desk wrong_turn(const catalogue *c)
 {
     desk d = paused(c, 3);
@@ -254,6 +297,8 @@ static void add_refusals(table *t, const catalogue *c)
     static size_t used;
     catalogue *cut = &copies[used], *spoilt = &copies[used + 1u];
     desk before = playing(c);
+    call beyond = plain(ADVANCE, 0, 0, 1);
+    beyond.service = MCS_SERVICES;
     used += 2u;
     *cut = *c;
     cut->tables.length[GROUPS] -= 1u;
@@ -262,6 +307,7 @@ static void add_refusals(table *t, const catalogue *c)
     add(t, "advance, refused at once (200)", cut, plain(ADVANCE, 0, 0, 1), before, MCS_BAD_CATALOGUE);
     add(t, "advance, refused for the last title (200)", spoilt, plain(ADVANCE, 0, 0, 1), before, MCS_BAD_CATALOGUE);
     add(t, "advance, refused for the state (201)", c, plain(ADVANCE, 0, 0, 1), wrong_turn(c), MCS_BAD_STATE);
+    add(t, "advance, refused for the service (219)", c, beyond, before, MCS_NO_SERVICE);
     add(t, "activate, refused (208)", c, plain(ACTIVATE, 0, 0, MCS_MOST_GROUPS), before, MCS_BAD_GROUP);
 }
 
@@ -309,8 +355,8 @@ void add_check(table *t, const catalogue *c)
 void add_calls(table *t, const catalogue *c)
 {
     desk by_number = paused(c, 3), by_stamp = paused(c, 5), plays = playing(c), inactive = idle(c);
-    uint32_t end = track_word(&c->tables, plays.state.track, DURATION);
-    desk falling = inactive;
+    uint32_t end = track_word(&c->tables, plays.state.services[MCS_GENERIC].player.track, DURATION);
+    desk falling = inactive, both_play = both_playing(c), both_owe = owing_by_both(c);
 
     make(&falling, c, written(0, MCS_PLAYING_ORDER, 7));
     take_until(&falling, c, 0);
@@ -343,6 +389,12 @@ void add_calls(table *t, const catalogue *c)
     add(t, "take, a title", c, plain(TAKE, 0, 0, 0), owing_title(c), ACCEPTED);
     add(t, "take, a result", c, plain(TAKE, 0, 0, 0), owing_results(c), ACCEPTED);
     add(t, "take, nothing owed", c, plain(TAKE, 0, 0, 0), plays, ACCEPTED);
+    add(t, "advance, both play, service 1", c, to_named(plain(ADVANCE, 0, 0, 10)), both_play, ACCEPTED);
+    add(t, "read, title, both play, service 1", c, to_named(plain(READ, 3, MCS_TITLE, 0)), both_play, ACCEPTED);
+    add(t, "write, Next Track, both play, service 1", c, to_named(opcode(0, MCS_OPCODE_NEXT_TRACK)), both_play, ACCEPTED);
+    add(t, "disconnect, both owe", c, plain(DISCONNECT, 2, 0, 0), both_owe, ACCEPTED);
+    add(t, "take, a title of service 1", c, plain(TAKE, 0, 0, 0), owing_named_title(c), ACCEPTED);
+    add(t, "take, both owe", c, plain(TAKE, 0, 0, 0), both_owe, ACCEPTED);
     add_refusals(t, c);
 }
 

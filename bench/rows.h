@@ -17,7 +17,7 @@ typedef struct {
 /* What a call hands back beside its number and the state. */
 typedef struct {
     uint8_t out[MCS_OUTPUT_OCTETS];
-    uint32_t word, served[3], counts[4], block, line, track, octet;
+    uint32_t word, served[SERVED_WORDS], counts[4], block, line, track, octet;
     tables loaded;
     uint32_t starts[MOST_STARTS];
     uint8_t card[MCS_CARD_OCTETS];

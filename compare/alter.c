@@ -11,8 +11,12 @@ void remember(run *r)
     r->undos = 0;
 }
 
+/* Nobody has waited for what a state of another's making owes. */
+static void forget_waits(run *r) { memset(&r->waited, 0, sizeof r->waited); }
+
 static void put_back(run *r)
 {
+    forget_waits(r);
     memcpy(r->octets, r->kept_octets, sizeof r->octets);
     memcpy(&r->second, &r->kept_second, sizeof r->second);
     while (r->undos > 0) {
@@ -42,6 +46,7 @@ static void alter_state(run *r, const step *s)
     if (at <= MCS_STATE_OCTETS && s->length <= MCS_STATE_OCTETS - at) {
         memcpy(r->octets + at, s->octets, s->length);
         state_of_octets(r->octets, &r->second);
+        forget_waits(r);
     }
 }
 

@@ -5,6 +5,11 @@
 
 #define RESULTS_BIT (REF_SLOTS - 1u)
 
+const ref_player *player_of(const run *r, uint32_t service)
+{
+    return &r->second.services[service < REF_SERVICES ? service : 0].player;
+}
+
 uint32_t some_client(dice *d, const run *r, uint32_t connected, uint32_t wrong)
 {
     uint32_t from = below(d, REF_CLIENTS);
@@ -16,18 +21,30 @@ uint32_t some_client(dice *d, const run *r, uint32_t connected, uint32_t wrong)
     }
     for (uint32_t k = 0; k < REF_CLIENTS; k++) {
         uint32_t client = (from + k) % REF_CLIENTS;
-        if ((r->second.clients[client].connected != 0 ? 1u : 0u) == connected) {
+        if ((r->second.links[client].connected != 0 ? 1u : 0u) == connected) {
             return client;
         }
     }
     return from;
 }
 
-uint32_t some_writer(dice *d, const run *r, uint32_t wrong)
+uint32_t some_service(dice *d, uint32_t wrong)
+{
+    if (one_in(d, wrong)) {
+        return one_in(d, 4) ? any_word(d) | 2u : ONE_OF(d, 2, 2, 3, 9, 10, 20, 255, 256, 257, 0x10001u, 0x80000000u, 0xFFFFFFFFu);
+    }
+    return below(d, MCS_SERVICES);
+}
+
+static int keeps_results(const run *r, uint32_t client, uint32_t service)
+{
+    return service >= REF_SERVICES || (r->second.services[service].accounts[client].subscribed >> RESULTS_BIT & 1u) != 0;
+}
+
+uint32_t some_writer(dice *d, const run *r, uint32_t service, uint32_t wrong)
 {
     uint32_t client = some_client(d, r, 1, wrong);
-    for (uint32_t k = 0; k < 2 && client < REF_CLIENTS && (r->second.clients[client].subscribed >> RESULTS_BIT & 1u) == 0;
-         k++) {
+    for (uint32_t k = 0; k < 2 && client < REF_CLIENTS && !keeps_results(r, client, service); k++) {
         client = some_client(d, r, 1, UINT32_MAX);
     }
     return client;
@@ -47,32 +64,34 @@ uint32_t some_room(dice *d, uint32_t wrong)
     return one_in(d, 2) ? MCS_OUTPUT_OCTETS : between(d, MCS_OUTPUT_OCTETS, OUT_ROOM);
 }
 
-void some_name(dice *d, const run *r, uint32_t wrong, step *s)
+uint32_t some_name(dice *d, const ref_player *p, uint32_t wrong, uint8_t *octets, uint32_t most)
 {
+    uint32_t length;
     if (one_in(d, wrong)) {
-        s->length = ONE_OF(d, 129, 130, 200, 256, 257, MCS_STATE_OCTETS);
-        (one_in(d, 2) ? right_text : wrong_text)(d, s->octets, s->length);
-        return;
+        length = ONE_OF(d, 129, 130, 200, 256, 257, most);
+        (one_in(d, 2) ? right_text : wrong_text)(d, octets, length);
+        return length;
     }
-    s->length = one_in(d, 3) ? ONE_OF(d, 0, 1, 19, 20, 21, 22, 23, 127, 128) : below(d, one_in(d, 3) ? 129 : 30);
-    if (one_in(d, wrong) && s->length > 0) {
-        s->length = one_in(d, 4) ? 128 : s->length; /* its last octet is wrong in few of them */
-        wrong_text(d, s->octets, s->length);
-        return;
+    length = one_in(d, 3) ? ONE_OF(d, 0, 1, 19, 20, 21, 22, 23, 127, 128) : below(d, one_in(d, 3) ? 129 : 30);
+    if (one_in(d, wrong) && length > 0) {
+        length = one_in(d, 4) ? 128 : length; /* its last octet is wrong in few of them */
+        wrong_text(d, octets, length);
+        return length;
     }
-    right_text(d, s->octets, s->length);
-    if (r->second.name_len <= REF_NAME_ROOM && r->second.name_len > 0 && one_in(d, 4)) {
+    right_text(d, octets, length);
+    if (p->name_len <= REF_NAME_ROOM && p->name_len > 0 && one_in(d, 4)) {
         /* The same name again, or another of its length. */
-        s->length = r->second.name_len;
-        memcpy(s->octets, r->second.name, s->length);
+        length = p->name_len;
+        memcpy(octets, p->name, length);
         if (one_in(d, 2)) {
-            uint32_t at = below(d, s->length);
-            s->octets[at] = (uint8_t)between(d, 'a', 'z');
+            uint32_t at = below(d, length);
+            octets[at] = (uint8_t)between(d, 'a', 'z');
         }
     }
+    return length;
 }
 
-int has_track(const run *r) { return r->second.media != REF_INACTIVE && r->second.track < track_count(&r->lent); }
+int has_track(const run *r, const ref_player *p) { return p->media != REF_INACTIVE && p->track < track_count(&r->lent); }
 
 uint32_t some_number(dice *d, uint32_t far)
 {
@@ -97,30 +116,30 @@ uint32_t some_number(dice *d, uint32_t far)
     return one_in(d, 2) ? n : 0u - n;
 }
 
-uint32_t reach(const run *r, uint8_t opcode)
+uint32_t reach(const run *r, const ref_player *p, uint8_t opcode)
 {
-    if (!has_track(r)) {
+    if (!has_track(r, p)) {
         return 3;
     }
     switch (opcode) {
     case 0x24:
-        return track_word(&r->lent, r->second.track, SEGMENT_COUNT);
+        return track_word(&r->lent, p->track, SEGMENT_COUNT);
     case 0x34:
-        return r->second.group < group_count(&r->lent) ? group_word(&r->lent, r->second.group, TRACK_COUNT) : 3;
+        return p->group < group_count(&r->lent) ? group_word(&r->lent, p->group, TRACK_COUNT) : 3;
     case 0x44:
         return group_count(&r->lent);
     default:
-        return end_of_track(track_word(&r->lent, r->second.track, DURATION));
+        return end_of_track(track_word(&r->lent, p->track, DURATION));
     }
 }
 
-uint32_t value_length(const run *r, uint32_t characteristic)
+uint32_t value_length(const run *r, const ref_player *p, uint32_t characteristic)
 {
     switch (characteristic) {
     case MCS_NAME:
-        return r->second.name_len;
+        return p->name_len;
     case MCS_TITLE:
-        return has_track(r) ? track_word(&r->lent, r->second.track, TITLE_LENGTH) : 0;
+        return has_track(r, p) ? track_word(&r->lent, p->track, TITLE_LENGTH) : 0;
     case MCS_DURATION:
     case MCS_POSITION:
     case MCS_OPCODES_SUPPORTED:
@@ -130,9 +149,9 @@ uint32_t value_length(const run *r, uint32_t characteristic)
     }
 }
 
-uint32_t some_time(dice *d, const run *r)
+uint32_t some_time(dice *d, const run *r, const ref_player *p)
 {
-    uint32_t left = has_track(r) ? end_of_track(track_word(&r->lent, r->second.track, DURATION)) - r->second.position : 100;
+    uint32_t left = has_track(r, p) ? end_of_track(track_word(&r->lent, p->track, DURATION)) - p->position : 100;
     switch (below(d, 8)) {
     case 0:
         return ONE_OF(d, 0, 1, 0x7FFFFFFFu, 0x80000000u, 0xFFFFFFFFu, 0x08000000u);

@@ -5,14 +5,20 @@
 #include "random.h"
 #include "run.h"
 
-/* There is a current track, in the tables as they are lent. */
-int has_track(const run *r);
+/* The player of a service; of a number that is none, service 0's, so that all else can be aimed at something. */
+const ref_player *player_of(const run *r, uint32_t service);
+
+/* It has a current track, in the tables as they are lent. */
+int has_track(const run *r, const ref_player *p);
 
 /* A client that is connected or not, as the call wants it, or one over 3. */
 uint32_t some_client(dice *d, const run *r, uint32_t connected, uint32_t wrong);
 
-/* Mostly one whose results are kept, since they say what a control write did. */
-uint32_t some_writer(dice *d, const run *r, uint32_t wrong);
+/* A service, or a number over 1, also such as would be a service if its upper octets were dropped. */
+uint32_t some_service(dice *d, uint32_t wrong);
+
+/* Mostly one whose results in the service are kept, since they say what a control write did. */
+uint32_t some_writer(dice *d, const run *r, uint32_t service, uint32_t wrong);
 
 /* One that is none of the thirteen, also such as would be one if its upper octets were dropped. */
 uint32_t no_characteristic(dice *d);
@@ -20,20 +26,20 @@ uint32_t no_characteristic(dice *d);
 /* The room of an output. */
 uint32_t some_room(dice *d, uint32_t wrong);
 
-/* The octets of a name, into the step. */
-void some_name(dice *d, const run *r, uint32_t wrong, step *s);
+/* The octets of a name for a player, of at most so many octets; returns how many they are. */
+uint32_t some_name(dice *d, const ref_player *p, uint32_t wrong, uint8_t *octets, uint32_t most);
 
 /* A signed number in two's complement: small ones, the ends of the range, and such as lead beyond `far`. */
 uint32_t some_number(dice *d, uint32_t far);
 
 /* How far a Goto or a move of this opcode leads. */
-uint32_t reach(const run *r, uint8_t opcode);
+uint32_t reach(const run *r, const ref_player *p, uint8_t opcode);
 
 /* The length that a value has now, nearly enough to aim an offset at. */
-uint32_t value_length(const run *r, uint32_t characteristic);
+uint32_t value_length(const run *r, const ref_player *p, uint32_t characteristic);
 
 /* To the end of the track and beside it; nothing; and long times. */
-uint32_t some_time(dice *d, const run *r);
+uint32_t some_time(dice *d, const run *r, const ref_player *p);
 
 uint32_t some_group(dice *d, const run *r, uint32_t wrong);
 

@@ -44,8 +44,9 @@ static void all_calls_give(uint32_t number, uint32_t track, uint32_t octet)
         step s = blank(kind);
         if (has_catalogue(kind)) {
             s.who = MCS_CLIENTS;
+            s.service = MCS_SERVICES;
             s.number = MCS_MOST_GROUPS;
-            s.length = LONGEST_NAME + 1;
+            s.length = s.players[MCS_NAMED].length = LONGEST_NAME + 1;
             s.room[0] = 0;
             makes(s, number);
             carries(track, octet);
@@ -138,10 +139,10 @@ static void name_cases(void)
         {129, 0, "\xFF", MCS_BAD_NAME, 128},
         {129, 127, "\xC3\xA9", MCS_BAD_NAME, 128},
         {129, 128, "\xFF", MCS_BAD_NAME, 128},
-        {MCS_STATE_OCTETS, 5, "\xC3", MCS_BAD_NAME, 128},
+        {START_NAME_ROOM, 5, "\xC3", MCS_BAD_NAME, 128},
     };
     for (size_t k = 0; k < sizeof CASES / sizeof CASES[0]; k++) {
-        uint8_t octets[MCS_STATE_OCTETS];
+        uint8_t octets[START_NAME_ROOM];
         step start = blank(START), name;
         memset(octets, 'a', sizeof octets);
         memcpy(octets + CASES[k].at, CASES[k].octets, strlen(CASES[k].octets));
@@ -153,13 +154,13 @@ static void name_cases(void)
         poke_number(MCS_AT_TURN, MCS_CLIENTS, 4);
         makes(name, MCS_BAD_STATE);
         carries(MCS_NOWHERE, MCS_NOWHERE);
-        start = with_octets(start, octets, CASES[k].length);
+        start = with_name(start, octets, CASES[k].length);
         makes(start, CASES[k].number);
         carries(MCS_NOWHERE, CASES[k].octet);
         if (CASES[k].length > 0 && CASES[k].length <= LONGEST_NAME && CASES[k].number != MCS_OK) {
             start_desk(0);
-            poke(MCS_AT_NAME, octets, LONGEST_NAME);
-            poke_number(MCS_AT_NAME_LENGTH, CASES[k].length, 1);
+            poke(player_at(MCS_IN_NAME), octets, LONGEST_NAME);
+            poke_number(player_at(MCS_IN_NAME_LENGTH), CASES[k].length, 1);
             makes(blank(DEACTIVATE), MCS_BAD_STATE);
             carries(MCS_NOWHERE, MCS_NOWHERE);
         }
@@ -169,7 +170,7 @@ static void name_cases(void)
 static void all_bad_texts(void)
 {
     title_cases();
-    name_cases();
+    in_each_service(name_cases);
 }
 
 unsigned long play_bad_texts(FILE *out, run *r) { return expect_on(r, out, all_bad_texts); }

@@ -137,7 +137,7 @@ static void truth_cases(void)
     static const uint8_t WRONG[4] = {2, 128, 254, 255};
     static const uint32_t IN[2] = {MCS_IN_CONNECTED, MCS_IN_ENCRYPTED};
     for (uint32_t k = 0; k < 8u * sizeof WRONG; k++) {
-        uint32_t at = MCS_AT_CLIENT(k / 2u % REF_CLIENTS) + IN[k % 2u];
+        uint32_t at = MCS_AT_LINK(k / 2u % REF_CLIENTS) + IN[k % 2u];
         uint8_t right;
         four_clients("a yes or no that is neither 1 nor 0");
         right = both->octets[at];
@@ -166,8 +166,8 @@ static void argument_cases(void)
         s.number = 23;
         s.what = ARGUMENT[k];
         makes(s, 0);
-        expect("connected", both->octets[MCS_AT_CLIENT(1) + MCS_IN_CONNECTED], 1);
-        expect("encrypted", both->octets[MCS_AT_CLIENT(1) + MCS_IN_ENCRYPTED], k > 0);
+        expect("connected", both->octets[MCS_AT_LINK(1) + MCS_IN_CONNECTED], 1);
+        expect("encrypted", both->octets[MCS_AT_LINK(1) + MCS_IN_ENCRYPTED], k > 0);
     }
 }
 
@@ -184,9 +184,9 @@ static void nothing_cases(void)
     uint8_t dead[MCS_STATE_OCTETS];
     memset(dead, 0xE7, sizeof dead);
     four_clients("calls that change nothing");
-    poke(MCS_AT_NAME + 4, dead, 124);
+    poke(player_at(MCS_IN_NAME) + 4, dead, 124);
     for (uint32_t k = 0; k < REF_CLIENTS; k++) {
-        poke(MCS_AT_CLIENT(k) + MCS_IN_RESULTS, dead, 16);
+        poke(account_at(k, MCS_IN_RESULTS), dead, 16);
     }
     changes_nothing(with_octets(blank(SET_NAME), "Desk", 4));
     group.number = 1;
@@ -216,15 +216,15 @@ static void nothing_cases(void)
     makes(blank(DEACTIVATE), 0);
     changes_nothing(blank(DEACTIVATE));
     changes_nothing(s); /* "While Inactive the write is taken and alters nothing." */
-    expect("octets behind the name that changed", memcmp(both->octets + MCS_AT_NAME + 4, dead, 124) != 0, 0);
+    expect("octets behind the name that changed", memcmp(both->octets + player_at(MCS_IN_NAME) + 4, dead, 124) != 0, 0);
 }
 
-/* ---- Octets that mean nothing, as the comments at MCS_AT_NAME and MCS_IN_RESULTS have them */
+/* ---- Octets that mean nothing, as the comments at MCS_IN_NAME and MCS_IN_RESULTS have them */
 
 static void leaves(uint32_t at, const char *octets, uint32_t length)
 {
     uint8_t rest[MCS_STATE_OCTETS] = {0};
-    uint32_t room = at == MCS_AT_NAME ? REF_NAME_ROOM : 2u * REF_RESULTS;
+    uint32_t room = at == player_at(MCS_IN_NAME) ? REF_NAME_ROOM : 2u * REF_RESULTS;
     expect("octets that differ", memcmp(both->octets + at, octets, length) != 0, 0);
     expect("octets behind that are not 0", memcmp(both->octets + at + length, rest, room - length) != 0, 0);
 }
@@ -240,20 +240,20 @@ static void control(uint32_t client, uint8_t opcode)
 /* Results of a player that is Inactive: 3. */
 static void dead_cases(void)
 {
-    const uint32_t results = MCS_AT_CLIENT(1) + MCS_IN_RESULTS;
+    const uint32_t name = player_at(MCS_IN_NAME), results = account_at(1, MCS_IN_RESULTS);
     step subscribe = blank(SUBSCRIBE), unsubscribe = blank(UNSUBSCRIBE), disconnect = blank(DISCONNECT), again = blank(CONNECT);
     uint8_t any[MCS_STATE_OCTETS];
     memset(any, 0xE7, sizeof any);
     stand("octets that mean nothing", 3, 0, 0);
     poke(0, any, sizeof any);
     start_desk(MCS_ALL_OPCODES);
-    leaves(MCS_AT_NAME, "Desk", 4);
+    leaves(name, "Desk", 4);
     for (uint32_t k = 0; k < REF_CLIENTS; k++) {
-        leaves(MCS_AT_CLIENT(k) + MCS_IN_RESULTS, "", 0);
+        leaves(account_at(k, MCS_IN_RESULTS), "", 0);
     }
     set_name("Interview");
     set_name("Door");
-    leaves(MCS_AT_NAME, "Doorrview", 9);
+    leaves(name, "Doorrview", 9);
     connect_client(1);
     control(1, MCS_OPCODE_PLAY);
     control(1, MCS_OPCODE_PAUSE);
@@ -283,10 +283,10 @@ static void dead_cases(void)
     again.number = 23;
     makes(again, 0);
     leaves(results, "", 0);
-    leaves(MCS_AT_NAME, "Doorrview", 9);
+    leaves(name, "Doorrview", 9);
 }
 
-static void all_cases(void)
+static void cases_of_a_service(void)
 {
     sample_cases();
     position_cases();
@@ -297,5 +297,7 @@ static void all_cases(void)
     nothing_cases();
     dead_cases();
 }
+
+static void all_cases(void) { in_each_service(cases_of_a_service); }
 
 unsigned long play_cases(FILE *out, run *r) { return expect_on(r, out, all_cases); }

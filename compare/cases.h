@@ -1,4 +1,5 @@
-/* The cases of document 01, the bounds of both documents, bad blocks, bad texts, and what random calls meet late, on both programs. */
+/* The cases of document 01, the bounds of both documents, bad blocks, bad texts, what random calls meet late, and those of two
+ * services, on both programs. */
 #ifndef CASES_H
 #define CASES_H
 
@@ -12,5 +13,6 @@ unsigned long play_limits(FILE *out, run *r);
 unsigned long play_bad_blocks(FILE *out, run *r);
 unsigned long play_bad_texts(FILE *out, run *r);
 unsigned long play_edges(FILE *out, run *r);
+unsigned long play_two_services(FILE *out, run *r);
 
 #endif

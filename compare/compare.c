@@ -93,6 +93,7 @@ static int compare_cases(void)
     wrong += play_bad_blocks(stdout, &pair);
     wrong += play_bad_texts(stdout, &pair);
     wrong += play_edges(stdout, &pair);
+    wrong += play_two_services(stdout, &pair);
     strcpy(what_runs, "lengths of more than 32 bits");
     wrong += play_wide_lengths(stdout);
     return wrong == 0 ? 0 : 1;

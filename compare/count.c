@@ -1,14 +1,13 @@
 #include "count.h"
+#include "count_services.h"
 #include "judge.h"
 #include "octets.h"
 #include "places.h"
-#include "service.h"
+#include "tell.h"
 #include "words.h"
 
-#include <stdarg.h>
 #include <string.h>
 
-#define NUMBERS 256u /* the greatest is 228; what is beyond is counted as 255 */
 #define MOVES 5u
 #define LEAST_TRUTHS 500u
 enum { CONNECTED, ENCRYPTED, ENCRYPTED_UNCONNECTED, TRUTHS };
@@ -23,35 +22,35 @@ enum { REACHES_END, STAYS_AT_END, SEEKS_AT_END, NEGATIVE_WRITE, RUNNING_CASES };
 enum { NO_STARTS, NO_ROOM_LEFT, LONGEST, ONE_TOO_LONG, BOUNDS };
 enum { AT_FIRST, AMONG, AT_127, CUT_OFF, OF_LAST_TRACK, OF_TWO, OF_TWO_ALIKE, OF_TWO_OVERLAPPING, TITLE_CASES };
 enum { NO_BAD_TITLE, WRONG_TRACK_BEFORE, WRONG_TRACK_BEHIND, WRONG_ELSEWHERE, BARE_CASES };
+enum { SET_NAMES_NAME = MCS_SERVICES, NAMED_BY }; /* beside the names of a start, by service */
 enum { NAME_AT_FIRST, NAME_AMONG, NAME_AT_127, NAME_CUT_OFF, LONG_RIGHT, LONG_WRONG_BEFORE, ONE_OCTET_LONG, NAME_CASES };
 
 static unsigned long calls, by_share[SHARES], by_number[CALLS][NUMBERS], by_twice[CALLS][2], unchanged[CALLS],
     by_dead[DEAD_RULES][CALLS];
-static unsigned long by_media[4], by_order[9], by_rung[256], by_result[OPCODES + 1][5], by_move[9][MOVES][5];
-static unsigned long taken[CHARACTERISTIC_BOUND], read_whole[CHARACTERISTIC_BOUND], read_on[CHARACTERISTIC_BOUND],
-    written[CHARACTERISTIC_BOUND];
+static unsigned long by_media[REF_SERVICES][4], by_order[REF_SERVICES][9], by_rung[REF_SERVICES][256];
+static unsigned long by_result[REF_SERVICES][OPCODES + 1][5], by_move[9][MOVES][5];
+static unsigned long taken[REF_SERVICES][CHARACTERISTIC_BOUND], read_whole[REF_SERVICES][CHARACTERISTIC_BOUND],
+    read_on[REF_SERVICES][CHARACTERISTIC_BOUND], written[REF_SERVICES][CHARACTERISTIC_BOUND];
 static unsigned long by_truth[TRUTHS][REF_CLIENTS], by_truth_value[NUMBERS], by_mended[CALLS][NUMBERS];
 static unsigned long by_next[3][4], by_bound[BOUNDS], by_previous[PREVIOUS_FROM], by_running[RUNNING_CASES], by_room[WRITE_BOUNDS];
 static unsigned long by_reason[REASONS][BLOCK_PLACES], by_pair[REASONS][REASONS], by_two[REASONS][REASONS],
     by_overfull[REASONS][OVERFULL], by_length[REASONS];
 static unsigned long by_short[TABLES][SHORT_BLOCKS], refused_before[BLOCKS_BEHIND], right_before[BLOCKS_BEHIND],
     by_again[WRITTEN_AGAIN];
-static unsigned long carrying[CALLS], bare[CALLS], by_title[TITLE_CASES], by_bare[BARE_CASES], by_name[2][NAME_CASES];
-
-static uint32_t counted_as(uint32_t number) { return number < NUMBERS ? number : NUMBERS - 1u; }
+static unsigned long carrying[CALLS], bare[CALLS], by_title[TITLE_CASES], by_bare[BARE_CASES], by_name[NAMED_BY][NAME_CASES];
 
 /* ---- Accepted calls */
 
 /* Where a Previous Segment began: in the first segment, or so far past the start of its own (document 02, W-201). */
-static void count_previous(const run *r)
+static void count_previous(const run *r, uint32_t service)
 {
-    const uint32_t *record = r->lent.tracks + MCS_TRACK_WORDS * r->second.track;
+    const uint32_t *record = r->lent.tracks + MCS_TRACK_WORDS * r->second.services[service].player.track;
     const uint32_t *starts = r->lent.segments + record[FIRST_SEGMENT];
-    uint32_t own = 0, past;
-    while (own + 1u < record[SEGMENT_COUNT] && starts[own + 1u] <= r->position_before) {
+    uint32_t own = 0, past, position_before = r->before.services[service].player.position;
+    while (own + 1u < record[SEGMENT_COUNT] && starts[own + 1u] <= position_before) {
         own++;
     }
-    past = own == 0 ? 0 : r->position_before - starts[own];
+    past = own == 0 ? 0 : position_before - starts[own];
     by_previous[own == 0      ? IN_FIRST
                 : past == 0   ? AT_ITS_START
                 : past < 299u ? WITHIN_MARGIN
@@ -63,8 +62,9 @@ static void count_previous(const run *r)
 /* What only a running recording does (document 02, W-202). */
 static void count_running(const run *r, const step *s)
 {
-    const ref_state *now = &r->second;
-    int at_end = now->position == MCS_MOST_DURATION, was_at_end = r->position_before == MCS_MOST_DURATION;
+    const ref_player *now = &r->second.services[s->service].player;
+    int at_end = now->position == MCS_MOST_DURATION;
+    int was_at_end = r->before.services[s->service].player.position == MCS_MOST_DURATION;
     if (now->media == REF_INACTIVE || track_word(&r->lent, now->track, DURATION) != MCS_RUNNING) {
         return;
     }
@@ -78,15 +78,16 @@ static void count_running(const run *r, const step *s)
 /* The code is seen where the writer is subscribed to the results: it is the last of those that wait. */
 static void count_result(const run *r, const step *s)
 {
-    const ref_client *c = &r->second.clients[s->who];
-    if ((c->subscribed >> (REF_SLOTS - 1u)) != 0 && c->waiting > 0) {
-        uint32_t result = c->results[c->waiting - 1u].code % 5u;
-        by_result[opcode_place(s->octets[0])][result]++;
+    const ref_service *to = &r->second.services[s->service];
+    const ref_account *a = &to->accounts[s->who];
+    if ((a->subscribed >> (REF_SLOTS - 1u)) != 0 && a->waiting > 0) {
+        uint32_t result = a->results[a->waiting - 1u].code % 5u;
+        by_result[s->service][opcode_place(s->octets[0])][result]++;
         if (s->octets[0] == MCS_OPCODE_PREVIOUS_SEGMENT && result == MCS_RESULT_SUCCESS) {
-            count_previous(r);
+            count_previous(r, s->service);
         }
         if (s->octets[0] >= MCS_OPCODE_PREVIOUS_TRACK && s->octets[0] <= MCS_OPCODE_GOTO_TRACK) {
-            by_move[r->second.order % 9u][s->octets[0] - MCS_OPCODE_PREVIOUS_TRACK][result]++;
+            by_move[to->player.order % 9u][s->octets[0] - MCS_OPCODE_PREVIOUS_TRACK][result]++;
         }
     }
 }
@@ -94,22 +95,26 @@ static void count_result(const run *r, const step *s)
 static void count_accepted(const run *r, const step *s)
 {
     if (s->kind == READ) {
-        (s->number == 0 ? read_whole : read_on)[s->what % CHARACTERISTIC_BOUND]++;
+        (s->number == 0 ? read_whole : read_on)[s->service][s->what % CHARACTERISTIC_BOUND]++;
     }
     if (s->kind == TAKE) {
-        taken[r->second_said.served[1] % CHARACTERISTIC_BOUND]++;
+        const uint32_t *served = r->second_said.served;
+        taken[served[SERVED_SERVICE]][served[SERVED_CHARACTERISTIC] % CHARACTERISTIC_BOUND]++;
     }
     if (s->kind == WRITE) {
-        written[s->what % CHARACTERISTIC_BOUND]++;
+        written[s->service][s->what % CHARACTERISTIC_BOUND]++;
     }
     if (s->kind == WRITE && s->what == MCS_CONTROL_POINT) {
         count_result(r, s);
     }
-    count_running(r, s);
-    if (has_state(s->kind)) {
-        by_media[r->second.media & 3u]++;
-        by_order[r->second.order % 9u]++;
-        by_rung[(uint8_t)r->second.seeking]++;
+    if (has_service(s->kind)) {
+        count_running(r, s);
+    }
+    for (uint32_t k = 0; has_state(s->kind) && k < REF_SERVICES; k++) {
+        const ref_player *p = &r->second.services[k].player;
+        by_media[k][p->media & 3u]++;
+        by_order[k][p->order % 9u]++;
+        by_rung[k][(uint8_t)p->seeking]++;
     }
     for (uint32_t rule = 0; rule < DEAD_RULES; rule++) {
         by_dead[rule][s->kind] += r->seen_dead >> rule & 1u;
@@ -275,10 +280,10 @@ static void count_alone(const ref_state *s)
     uint32_t kind = 0, client = 0, found = 0;
     uint8_t value = 0;
     for (uint32_t k = 0; k < 2u * REF_CLIENTS; k++) {
-        const ref_client *c = &s->clients[k / 2u];
-        uint8_t truth = k % 2u == 0 ? c->connected : c->encrypted;
+        const ref_link *l = &s->links[k / 2u];
+        uint8_t truth = k % 2u == 0 ? l->connected : l->encrypted;
         if (truth > 1) {
-            kind = k % 2u == 0 ? CONNECTED : c->connected != 0 ? ENCRYPTED : ENCRYPTED_UNCONNECTED;
+            kind = k % 2u == 0 ? CONNECTED : l->connected != 0 ? ENCRYPTED : ENCRYPTED_UNCONNECTED;
             client = k / 2u;
             value = truth;
             found++;
@@ -294,19 +299,13 @@ static void count_alone(const ref_state *s)
 static uint32_t mended_number(const run *r, const step *s)
 {
     static ref_state mended;
-    static uint8_t out[OUT_ROOM];
-    uint32_t word, served[3], track, octet;
-    call c;
     mended = r->second;
     for (uint32_t k = 0; k < REF_CLIENTS; k++) {
-        ref_client *client = &mended.clients[k];
-        client->connected = client->connected != 0;
-        client->encrypted = client->encrypted > 1 ? client->connected : client->encrypted;
+        ref_link *l = &mended.links[k];
+        l->connected = l->connected != 0;
+        l->encrypted = l->encrypted > 1 ? l->connected : l->encrypted;
     }
-    c = (call){.kind = s->kind, .who = s->who, .what = s->what, .number = s->number, .catalogue = lent(&r->lent),
-               .octets = s->octets, .length = s->length, .state = &mended, .out = out, .out_len = s->room[0], .word = &word,
-               .served = served, .track = &track, .octet = &octet};
-    return call_second(&c);
+    return number_on(r, s, &mended, s->service);
 }
 
 static void count_truths(const run *r, const step *s)
@@ -365,20 +364,33 @@ static void count_bare(const tables *t)
     by_bare[WRONG_ELSEWHERE] += !wrong_behind && !wrong_before;
 }
 
-static void count_name(const step *s, uint32_t octet)
+static void count_name(unsigned long counts[NAME_CASES], const uint8_t *octets, uint32_t length, uint32_t octet)
 {
-    unsigned long *counts = by_name[s->kind];
-    if (s->length > 128) {
-        uint32_t wrong = wrong_octet(s->octets, s->length);
-        counts[LONG_RIGHT] += wrong == s->length;
+    if (length > 128) {
+        uint32_t wrong = wrong_octet(octets, length);
+        counts[LONG_RIGHT] += wrong == length;
         counts[LONG_WRONG_BEFORE] += wrong < 128;
-        counts[ONE_OCTET_LONG] += s->length == 129;
+        counts[ONE_OCTET_LONG] += length == 129;
         return;
     }
     counts[NAME_AT_FIRST] += octet == 0;
-    counts[NAME_AMONG] += octet > 0 && octet + 1u < s->length;
+    counts[NAME_AMONG] += octet > 0 && octet + 1u < length;
     counts[NAME_AT_127] += octet == 127;
-    counts[NAME_CUT_OFF] += is_cut_off(s->octets, octet, s->length) != 0;
+    counts[NAME_CUT_OFF] += is_cut_off(octets, octet, length) != 0;
+}
+
+/* The name that is told of, which of a start is the first bad one. */
+static void count_bad_name(const step *s, uint32_t octet)
+{
+    uint32_t service = 0;
+    if (s->kind != START) {
+        count_name(by_name[SET_NAMES_NAME], s->octets, s->length, octet);
+        return;
+    }
+    while (wrong_octet_of_name(s->octets + START_NAME_AT(service), s->players[service].length) == MCS_NOWHERE) {
+        service++;
+    }
+    count_name(by_name[service], s->octets + START_NAME_AT(service), s->players[service].length, octet);
 }
 
 static void count_place(const run *r, const step *s)
@@ -391,7 +403,7 @@ static void count_place(const run *r, const step *s)
         bare[s->kind]++;
         count_bare(&r->lent);
     } else if (r->second_said.number == MCS_BAD_NAME) {
-        count_name(s, place.octet);
+        count_bad_name(s, place.octet);
     }
 }
 
@@ -416,6 +428,9 @@ void count_call(const run *r, const step *s, uint32_t share)
         count_written(r, s);
     }
     count_place(r, s);
+    if (has_state(s->kind)) {
+        count_services(r, s);
+    }
     if (has_state(s->kind) && s->kind != START && !plain_truths(r->octets)) {
         count_truths(r, s);
     }
@@ -423,73 +438,7 @@ void count_call(const run *r, const step *s, uint32_t share)
 
 unsigned long calls_counted(void) { return calls; }
 
-/* ---- All counts, one after the other: printed, or looked at */
-
-static FILE *to;
-static int printing, asking_all, right;
-static char row_name[96];
-static const char *before; /* what is printed before the next count */
-
-static void row(const char *format, ...)
-{
-    va_list words;
-    va_start(words, format);
-    vsnprintf(row_name, sizeof row_name, format, words);
-    va_end(words);
-    before = ":";
-    if (printing) {
-        fprintf(to, "\n%s", row_name);
-    }
-}
-
-/* A count of the row that has to be at least so much, where all is asked; of 0 for what cannot be. */
-static void tell(unsigned long count, unsigned long least, const char *format, ...)
-{
-    char name[64];
-    va_list words;
-    va_start(words, format);
-    vsnprintf(name, sizeof name, format, words);
-    va_end(words);
-    if (printing && (least > 0 || count > 0)) {
-        fprintf(to, "%s %s %lu", before, name, count);
-        before = ",";
-    }
-    if (!printing && (least > 0 ? asking_all && count < least : count > 0)) {
-        fprintf(to, "compare: %s: %s: %lu times, not %s%lu\n", row_name, name, count, least > 0 ? "at least " : "", least);
-        right = 0;
-    }
-}
-
-/* The rows of document 01's table that can apply, of cards and cue sheets also document 02's, in their order; 0, accepted, ends
- * each list. */
-static const uint8_t ROWS[CALLS][12] = {
-    [START] = {200, 207, 0},
-    [SET_NAME] = {200, 201, 207, 0},
-    [ACTIVATE] = {200, 201, 208, 0},
-    [DEACTIVATE] = {200, 201, 0},
-    [ADVANCE] = {200, 201, 0},
-    [CONNECT] = {200, 201, 202, 204, 206, 0},
-    [DISCONNECT] = {200, 201, 202, 203, 0},
-    [SUBSCRIBE] = {200, 201, 202, 203, 0x01, 209, 0x0F, 0},
-    [UNSUBSCRIBE] = {200, 201, 202, 203, 0x01, 209, 0x0F, 0},
-    [READ] = {200, 205, 201, 202, 203, 0x01, 0x02, 0x0F, 0x80, 0x07, 0},
-    [WRITE] = {200, 201, 202, 203, 0x01, 0x03, 0x0F, 0x0D, 0x13, 0x11, 0},
-    [TAKE] = {200, 205, 201, 0},
-    [CARD_LOAD] = {210, 211, 215, 216, 217, 214, 218, 212, 0},
-    [CUE_SHEET] = {225, 226, 227, 228, 0},
-    [CARD_WRITE] = {200, 213, 0},
-};
-
-static void tell_numbers(uint32_t kind, const unsigned long counts[NUMBERS])
-{
-    for (uint32_t number = 0; number < NUMBERS; number++) {
-        unsigned long least = number == 0;
-        for (uint32_t k = 0; ROWS[kind][k] != 0; k++) {
-            least |= ROWS[kind][k] == number;
-        }
-        tell(counts[number], least, number == 0 ? "accepted" : number < 200 ? "0x%02X" : "%u", (unsigned)number);
-    }
-}
+/* ---- All counts */
 
 /* An unknown opcode gives 2 alone. Only a neighbour and a Goto, of tracks and of groups, can be missing, and of segments a later one,
  * where a recording is still running (document 02, W-202). */
@@ -507,10 +456,12 @@ static void tell_player(void)
 {
     static const char *const MOVE[MOVES] = {"Previous", "Next", "First", "Last", "Goto"};
     static const int RUNG[8] = {-32, -16, -8, -4, 4, 8, 16, 32};
-    for (uint32_t k = 0; k <= OPCODES; k++) {
-        row("results of opcode %s", k < OPCODES ? mcs_opcode_words(OPCODE[k]) : "unknown");
+    for (uint32_t k = 0; k < REF_SERVICES * (OPCODES + 1u); k++) {
+        uint32_t service = k % REF_SERVICES, place = k / REF_SERVICES;
+        row("results of opcode %s in service %u", place < OPCODES ? mcs_opcode_words(OPCODE[place]) : "unknown",
+            (unsigned)service);
         for (uint32_t result = 0; result <= 4; result++) {
-            tell(by_result[k][result], (unsigned long)result_can_be(k, result), "%u", (unsigned)result);
+            tell(by_result[service][place][result], (unsigned long)result_can_be(place, result), "%u", (unsigned)result);
         }
     }
     /* "past an end, the other end in a repeat order, else result 4"; in order 1 there is no neighbour. */
@@ -533,23 +484,27 @@ static void tell_player(void)
                                                         "negative position write"};
         tell(by_running[k], 1, "%s", WHAT[k]);
     }
-    row("after accepted calls");
-    for (uint32_t k = 0; k < 4; k++) {
-        tell(by_media[k], 1, "%s", mcs_media_state_words(k));
-    }
-    for (uint32_t k = 1; k <= 8; k++) {
-        tell(by_order[k], 1, "order %u", (unsigned)k);
-    }
-    for (uint32_t k = 0; k < 8; k++) {
-        tell(by_rung[(uint8_t)RUNG[k]], 1, "seeking speed %d", RUNG[k]);
+    for (uint32_t service = 0; service < REF_SERVICES; service++) {
+        row("service %u after accepted calls", (unsigned)service);
+        for (uint32_t k = 0; k < 4; k++) {
+            tell(by_media[service][k], 1, "%s", mcs_media_state_words(k));
+        }
+        for (uint32_t k = 1; k <= 8; k++) {
+            tell(by_order[service][k], 1, "order %u", (unsigned)k);
+        }
+        for (uint32_t k = 0; k < 8; k++) {
+            tell(by_rung[service][(uint8_t)RUNG[k]], 1, "seeking speed %d", RUNG[k]);
+        }
     }
 }
 
-static void tell_characteristics(const char *name, const unsigned long *counts, uint32_t property)
+static void tell_characteristics(const char *name, unsigned long counts[REF_SERVICES][CHARACTERISTIC_BOUND], uint32_t property)
 {
-    row("%s", name);
-    for (uint32_t k = 1; k < CHARACTERISTIC_BOUND; k++) {
-        tell(counts[k], (properties_of(k) & property) != 0, "%u", (unsigned)k);
+    for (uint32_t service = 0; service < REF_SERVICES; service++) {
+        row("%s in service %u, by characteristic", name, (unsigned)service);
+        for (uint32_t k = 1; k < CHARACTERISTIC_BOUND; k++) {
+            tell(counts[service][k], (properties_of(k) & property) != 0, "%u", (unsigned)k);
+        }
     }
 }
 
@@ -559,7 +514,7 @@ static void tell_truths(void)
     unsigned long rarest = by_truth_value[2];
     for (uint32_t kind = SET_NAME; kind <= TAKE; kind++) {
         row("%s with a yes or no that is neither, by its number without it", CALL_NAME[kind]);
-        tell_numbers(kind, by_mended[kind]);
+        tell_numbers(kind, by_mended[kind], 0, 0);
     }
     for (uint32_t kind = 0; kind < TRUTHS; kind++) {
         row("refused for a yes or no alone, %s, by client", NAME[kind]);
@@ -686,10 +641,10 @@ static void tell_places(void)
     for (uint32_t k = 0; k < BARE_CASES; k++) {
         tell(by_bare[k], 1, "%s", BARE_CASE[k]);
     }
-    for (uint32_t kind = START; kind <= SET_NAME; kind++) {
-        row("%s refused for a name", CALL_NAME[kind]);
+    for (uint32_t by = 0; by < NAMED_BY; by++) {
+        row(by == SET_NAMES_NAME ? "set name refused for a name" : "start refused for the name of service %u", (unsigned)by);
         for (uint32_t k = 0; k < NAME_CASES; k++) {
-            tell(by_name[kind][k], 1, "%s", NAME_CASE[k]);
+            tell(by_name[by][k], 1, "%s", NAME_CASE[k]);
         }
     }
 }
@@ -722,7 +677,7 @@ static void tell_all(void)
     }
     for (uint32_t kind = 0; kind < CALLS; kind++) {
         row("%s", CALL_NAME[kind]);
-        tell_numbers(kind, by_number[kind]);
+        tell_numbers(kind, by_number[kind], 0, 0);
     }
     row("made twice, over two stacks");
     for (uint32_t kind = 0; kind < CALLS; kind++) {
@@ -736,26 +691,17 @@ static void tell_all(void)
     }
     tell_dead();
     tell_player();
-    tell_characteristics("takes by characteristic", taken, MCS_MAY_NOTIFY);
-    tell(taken[0], 1, "nothing owed");
-    tell_characteristics("reads at 0 by characteristic", read_whole, MCS_MAY_READ);
-    tell_characteristics("reads above 0 by characteristic", read_on, MCS_MAY_READ);
-    tell_characteristics("writes by characteristic", written, MCS_MAY_WRITE);
+    tell_characteristics("takes", taken, MCS_MAY_NOTIFY);
+    row("takes");
+    tell(taken[MCS_GENERIC][MCS_NOTHING], 1, "nothing owed");
+    tell_characteristics("reads at 0", read_whole, MCS_MAY_READ);
+    tell_characteristics("reads above 0", read_on, MCS_MAY_READ);
+    tell_characteristics("writes", written, MCS_MAY_WRITE);
+    tell_services();
     tell_truths();
     tell_places();
     tell_cards();
     tell_sheets();
 }
 
-int counts_are_right(FILE *out, int all)
-{
-    to = out;
-    asking_all = all;
-    right = 1;
-    printing = 1;
-    tell_all();
-    fprintf(out, "\n");
-    printing = 0;
-    tell_all();
-    return right;
-}
+int counts_are_right(FILE *out, int all) { return rows_are_right(out, all, tell_all); }

@@ -1,4 +1,5 @@
 #include "damage.h"
+#include "arguments.h"
 #include "draw.h"
 #include "text.h"
 
@@ -17,7 +18,8 @@ static void poke_word(step *s, uint32_t at, uint32_t word, uint32_t octets)
 
 static void damage_player(dice *d, const run *r, step *s)
 {
-    const ref_state *now = &r->second;
+    uint32_t service = below(d, MCS_SERVICES), at = MCS_AT_SERVICE(service);
+    const ref_player *now = player_of(r, service);
     uint32_t groups = group_count(&r->lent), duration = 0, first = 0, count = 0;
     if (now->track < track_count(&r->lent)) {
         duration = end_of_track(track_word(&r->lent, now->track, DURATION));
@@ -26,85 +28,104 @@ static void damage_player(dice *d, const run *r, step *s)
         first = group_word(&r->lent, now->group, FIRST_TRACK);
         count = group_word(&r->lent, now->group, TRACK_COUNT);
     }
-    switch (below(d, 11)) {
+    switch (below(d, 10)) {
     case 0:
-        poke_word(s, MCS_AT_NAME_LENGTH, ONE_OF(d, 0, 1, 127, 128, 129, 255), 1);
+        poke_word(s, at + MCS_IN_NAME_LENGTH, ONE_OF(d, 0, 1, 127, 128, 129, 255), 1);
         break;
     case 1: /* the name's octets, live or dead */
-        s->number = MCS_AT_NAME + below(d, 120);
+        s->number = at + MCS_IN_NAME + below(d, 120);
         s->length = between(d, 1, 8);
         wrong_text(d, s->octets, s->length);
         break;
     case 2:
-        poke_word(s, MCS_AT_MEDIA_STATE, ONE_OF(d, 0, 1, 2, 3, 4, 5, 255), 1);
+        poke_word(s, at + MCS_IN_MEDIA_STATE, ONE_OF(d, 0, 1, 2, 3, 4, 5, 255), 1);
         break;
     case 3:
-        poke_word(s, MCS_AT_ORDER, ONE_OF(d, 0, 1, 2, 8, 9, 255), 1);
+        poke_word(s, at + MCS_IN_ORDER, ONE_OF(d, 0, 1, 2, 8, 9, 255), 1);
         break;
     case 4:
-        poke_word(s, MCS_AT_SEEKING, ONE_OF(d, 0, 1, 4, 8, 16, 32, 64, 128, 0xE0, 0xF0, 0xF8, 0xFC, 0xFE, 0xFF, 5, 12), 1);
+        at += MCS_IN_SEEKING;
+        poke_word(s, at, ONE_OF(d, 0, 1, 4, 8, 16, 32, 64, 128, 0xE0, 0xF0, 0xF8, 0xFC, 0xFE, 0xFF, 5, 12), 1);
         break;
     case 5:
-        poke_word(s, MCS_AT_MASK, any_word(d), 4);
+        poke_word(s, at + MCS_IN_MASK, any_word(d), 4);
         break;
     case 6:
-        poke_word(s, MCS_AT_GROUP, ONE_OF(d, 0, 1, groups - 1u, groups, groups + 1u, now->group + 1u, 256, 0xFFFFFFFFu), 4);
+        at += MCS_IN_GROUP;
+        poke_word(s, at, ONE_OF(d, 0, 1, groups - 1u, groups, groups + 1u, now->group + 1u, 256, 0xFFFFFFFFu), 4);
         break;
     case 7:
-        poke_word(s, MCS_AT_TRACK, ONE_OF(d, 0, first - 1u, first, first + count - 1u, first + count, 256, 0xFFFFFFFFu), 4);
+        at += MCS_IN_TRACK;
+        poke_word(s, at, ONE_OF(d, 0, first - 1u, first, first + count - 1u, first + count, 256, 0xFFFFFFFFu), 4);
         break;
     case 8:
-        poke_word(s, MCS_AT_POSITION, ONE_OF(d, 0, 1, duration - 1u, duration, duration + 1u, 0x80000000u, 0xFFFFFFFFu), 4);
-        break;
-    case 9:
-        poke_word(s, MCS_AT_TURN, ONE_OF(d, 0, 1, 2, 3, 4, 7, 256, 0x80000000u, 0xFFFFFFFFu), 4);
+        at += MCS_IN_POSITION;
+        poke_word(s, at, ONE_OF(d, 0, 1, duration - 1u, duration, duration + 1u, 0x80000000u, 0xFFFFFFFFu), 4);
         break;
     default:
-        poke_word(s, MCS_AT_SPEED, any_word(d), 1);
+        poke_word(s, at + MCS_IN_SPEED, any_word(d), 1);
         break;
     }
 }
 
-static void damage_record(dice *d, const run *r, step *s)
+/* What is neither service's: the layout, the turn and the links. */
+static void damage_link(dice *d, step *s)
 {
-    uint32_t who = below(d, REF_CLIENTS), at = MCS_AT_CLIENT(who);
-    const ref_client *c = &r->second.clients[who];
-    switch (below(d, 11)) {
-    case 0:
-        poke_word(s, at + MCS_IN_CONNECTED, ONE_OF(d, 0, 0, 1, 1, 2, 128, 255), 1);
+    uint32_t at = MCS_AT_LINK(below(d, REF_CLIENTS)), to;
+    switch (below(d, 7)) {
+    case 0: /* another layout's mark, and what a state without one begins with: a name */
+        to = ONE_OF(d, 0, 2, 0x80, MCS_STATE_MARK - 1u, MCS_STATE_MARK, MCS_STATE_MARK + 1u, 'D', 0xC3);
+        poke_word(s, MCS_AT_LAYOUT, to, 1);
         break;
     case 1:
-        poke_word(s, at + MCS_IN_ENCRYPTED, ONE_OF(d, 0, 0, 1, 1, 2, 128, 255), 1);
+        poke_word(s, MCS_AT_TURN, ONE_OF(d, 0, 1, 2, 3, 4, 7, 256, 0x80000000u, 0xFFFFFFFFu), 4);
         break;
     case 2:
-        poke_word(s, at + MCS_IN_MTU, ONE_OF(d, 0, 1, 2, 3, 22, 23, 24, 517, 518, 0x10017u, 0xFFFFFFFFu), 4);
+        poke_word(s, at + MCS_IN_CONNECTED, ONE_OF(d, 0, 0, 1, 1, 2, 128, 255), 1);
         break;
     case 3:
-        poke_word(s, at + MCS_IN_SUBSCRIBED, one_in(d, 2) ? c->subscribed ^ 1u << below(d, 32) : any_word(d) & 0x3FFu, 4);
+        poke_word(s, at + MCS_IN_ENCRYPTED, ONE_OF(d, 0, 0, 1, 1, 2, 128, 255), 1);
         break;
     case 4:
-        poke_word(s, at + MCS_IN_OWED, one_in(d, 2) ? c->owed ^ 1u << below(d, 32) : any_word(d) & c->subscribed, 4);
+        poke_word(s, at + MCS_IN_MTU, ONE_OF(d, 0, 1, 2, 3, 22, 23, 24, 517, 518, 0x10017u, 0xFFFFFFFFu), 4);
         break;
-    case 5:
-        poke_word(s, at + MCS_IN_READ, one_in(d, 2) ? c->fresh ^ 1u << below(d, 32) : any_word(d) & 0x004B83E2u, 4);
+    default: /* the places of both services, and beyond */
+        to = one_in(d, 2) ? below(d, PLACES + 4u) : ONE_OF(d, 9, 10, 18, 19, 20, 31, 32, 256, 0x80000000u, 0xFFFFFFFFu);
+        poke_word(s, at + MCS_IN_MARK, to, 4);
         break;
-    case 6:
-        poke_word(s, at + MCS_IN_MARK, ONE_OF(d, 0, 5, 8, 9, 10, 11, 16, 31, 32, 256, 0x80000000u, 0xFFFFFFFFu), 4);
+    }
+}
+
+static void damage_account(dice *d, const run *r, step *s)
+{
+    uint32_t who = below(d, REF_CLIENTS), service = below(d, REF_SERVICES), at = MCS_AT_SERVICE(service) + MCS_IN_ACCOUNT(who);
+    const ref_account *a = &r->second.services[service].accounts[who];
+    switch (below(d, 7)) {
+    case 0:
+        poke_word(s, at + MCS_IN_SUBSCRIBED, one_in(d, 2) ? a->subscribed ^ 1u << below(d, 32) : any_word(d) & 0x3FFu, 4);
         break;
-    case 7:
+    case 1:
+        poke_word(s, at + MCS_IN_OWED, one_in(d, 2) ? a->owed ^ 1u << below(d, 32) : any_word(d) & a->subscribed, 4);
+        break;
+    case 2:
+        poke_word(s, at + MCS_IN_READ, one_in(d, 2) ? a->fresh ^ 1u << below(d, 32) : any_word(d) & 0x004B83E2u, 4);
+        break;
+    case 3:
         poke_word(s, at + MCS_IN_WAITING, ONE_OF(d, 0, 1, 2, 7, 8, 9, 16, 256, 0x80000000u, 0xFFFFFFFFu), 8);
         break;
-    case 8: /* the upper half of the number of results */
+    case 4: /* the upper half of the number of results */
         poke_word(s, at + MCS_IN_WAITING + 4, ONE_OF(d, 0, 1, 256, 0x80000000u, 0xFFFFFFFFu), 4);
         break;
-    case 9:
+    case 5:
         at += MCS_IN_RESULTS + 2u * below(d, REF_RESULTS) + 1u;
         poke_word(s, at, ONE_OF(d, 0, 1, 2, 3, 4, 5, 255), 1);
         break;
-    default: /* a part of another's record */
-        s->number = at + 2u * below(d, 12);
-        s->length = 22;
-        memcpy(s->octets, r->octets + MCS_AT_CLIENT(below(d, REF_CLIENTS)) + (s->number - at), s->length);
+    default: /* a part of another's account, or of the client's own in the other service */
+        s->number = at + 2u * below(d, 8);
+        s->length = 20;
+        memcpy(s->octets,
+               r->octets + MCS_AT_SERVICE(below(d, REF_SERVICES)) + MCS_IN_ACCOUNT(below(d, REF_CLIENTS)) + (s->number - at),
+               s->length);
         break;
     }
 }
@@ -125,15 +146,18 @@ void damage_state(dice *d, const run *r, step *s)
     case 4:
         damage_player(d, r, s);
         break;
+    case 5:
+        damage_link(d, s);
+        break;
     default:
-        damage_record(d, r, s);
+        damage_account(d, r, s);
         break;
     }
 }
 
 void damage_truth(dice *d, const run *r, step *s)
 {
-    uint32_t at = MCS_AT_CLIENT(below(d, REF_CLIENTS)) + (one_in(d, 2) ? MCS_IN_CONNECTED : MCS_IN_ENCRYPTED);
+    uint32_t at = MCS_AT_LINK(below(d, REF_CLIENTS)) + (one_in(d, 2) ? MCS_IN_CONNECTED : MCS_IN_ENCRYPTED);
     (void)r;
     blank_step(d, POKE_STATE, s);
     poke_word(s, at, one_in(d, 4) ? ONE_OF(d, 2, 3, 128, 129, 254, 255) : between(d, 2, 255), 1);

@@ -32,15 +32,15 @@ mood random_mood(dice *d, uint32_t wrong) { return mood_of(MOODS[below(d, sizeof
 /* ---- What a write, and a read, is about */
 
 /* Whether the position is 299 or 300 past the start of a segment behind the first: beside the margin of Previous Segment. */
-static int beside_margin(const run *r)
+static int beside_margin(const run *r, const ref_player *p)
 {
     const uint32_t *record;
-    if (!has_track(r)) {
+    if (!has_track(r, p)) {
         return 0;
     }
-    record = r->lent.tracks + MCS_TRACK_WORDS * r->second.track;
+    record = r->lent.tracks + MCS_TRACK_WORDS * p->track;
     for (uint32_t k = 1; k < record[SEGMENT_COUNT] && record[FIRST_SEGMENT] + k < SEGMENTS_ROOM; k++) {
-        uint32_t past = r->second.position - r->lent.segments[record[FIRST_SEGMENT] + k];
+        uint32_t past = p->position - r->lent.segments[record[FIRST_SEGMENT] + k];
         if (past == 299 || past == 300) {
             return 1;
         }
@@ -50,14 +50,15 @@ static int beside_margin(const run *r)
 
 static void draw_control(dice *d, const run *r, uint32_t wrong, step *s)
 {
+    const ref_player *p = player_of(r, s->service);
     uint8_t opcode = OPCODE[below(d, OPCODES)];
     if (one_in(d, 4)) {
         opcode = (uint8_t)ONE_OF(d, 0x10, 0x24, 0x34, 0x44); /* their numbers make more cases */
     }
-    if (r->second.media == REF_SEEKING && one_in(d, 4)) {
+    if (p->media == REF_SEEKING && one_in(d, 4)) {
         opcode = (uint8_t)ONE_OF(d, 0x03, 0x04); /* so that the end rungs are reached */
     }
-    if (beside_margin(r) && one_in(d, 2)) {
+    if (beside_margin(r, p) && one_in(d, 2)) {
         opcode = MCS_OPCODE_PREVIOUS_SEGMENT; /* of the many positions few are there */
     }
     if (one_in(d, 24)) {
@@ -68,7 +69,7 @@ static void draw_control(dice *d, const run *r, uint32_t wrong, step *s)
         s->length = carries_number(opcode) ? 5 : 1;
     }
     s->octets[0] = opcode;
-    put_word(s->octets + 1, some_number(d, reach(r, opcode)));
+    put_word(s->octets + 1, some_number(d, reach(r, p, opcode)));
     if (one_in(d, wrong)) {
         s->length = ONE_OF(d, 0, 1, 2, 3, 4, 5, 6, 7, 9, 257, 261);
     }
@@ -76,6 +77,7 @@ static void draw_control(dice *d, const run *r, uint32_t wrong, step *s)
 
 static void draw_write(dice *d, const run *r, uint32_t wrong, step *s)
 {
+    const ref_player *p = player_of(r, s->service);
     uint32_t kind = below(d, 16);
     memset(s->octets, 0, 264);
     if (one_in(d, wrong)) {
@@ -87,8 +89,8 @@ static void draw_write(dice *d, const run *r, uint32_t wrong, step *s)
     } else if (kind < 12) {
         s->what = MCS_POSITION;
         s->length = one_in(d, wrong) ? ONE_OF(d, 0, 1, 2, 3, 5, 6, 8, 260) : 4;
-        put_word(s->octets, one_in(d, 2) && has_track(r) ? random_position(d, &r->lent, r->second.track)
-                                                         : some_number(d, reach(r, 0x10)));
+        put_word(s->octets, one_in(d, 2) && has_track(r, p) ? random_position(d, &r->lent, p->track)
+                                                            : some_number(d, reach(r, p, 0x10)));
     } else if (kind < 14) {
         s->what = MCS_PLAYBACK_SPEED;
         s->length = one_in(d, wrong) ? ONE_OF(d, 0, 2, 4, 257) : 1;
@@ -102,7 +104,8 @@ static void draw_write(dice *d, const run *r, uint32_t wrong, step *s)
 
 static void draw_read(dice *d, const run *r, uint32_t wrong, step *s)
 {
-    uint32_t fresh = s->who < REF_CLIENTS ? r->second.clients[s->who].fresh : 0, length;
+    int both = s->who < REF_CLIENTS && s->service < REF_SERVICES;
+    uint32_t fresh = both ? r->second.services[s->service].accounts[s->who].fresh : 0, length;
     s->room[0] = some_room(d, wrong);
     s->what = one_in(d, 3) ? ONE_OF(d, MCS_NAME, MCS_TITLE) : readable_at(below(d, READABLES));
     if (one_in(d, wrong)) {
@@ -115,7 +118,7 @@ static void draw_read(dice *d, const run *r, uint32_t wrong, step *s)
     for (uint32_t k = 0; k < 4 && s->what < 32 && (fresh >> s->what & 1u) == 0; k++) {
         s->what = readable_at(below(d, READABLES));
     }
-    length = value_length(r, s->what);
+    length = value_length(r, player_of(r, s->service), s->what);
     s->number = one_in(d, 4) ? ONE_OF(d, 1, 2, 22, 44, 128, 129, 256, 0x80000000u, 0xFFFFFFFFu) : below(d, length + 2u);
     if (one_in(d, 4)) {
         s->number = length + below(d, 2);
@@ -134,27 +137,38 @@ void blank_step(dice *d, uint32_t kind, step *s)
     s->null = (uint8_t)(bits >> 1 & 1u);
     s->twice = (bits >> 2) % ONE_TWICE_IN == 0;
     s->fill = (uint8_t)(bits >> 8);
-    s->who = s->what = s->number = s->length = 0;
+    s->who = s->service = s->what = s->number = s->length = 0;
     memset(s->room, 0, sizeof s->room);
+    memset(s->players, 0, sizeof s->players);
+}
+
+/* Either name may be wrong, and both. */
+static void draw_start(dice *d, const run *r, uint32_t wrong, step *s)
+{
+    for (uint32_t k = 0; k < MCS_SERVICES; k++) {
+        step_player *p = &s->players[k];
+        p->length = some_name(d, player_of(r, k), wrong, s->octets + START_NAME_AT(k), START_NAME_ROOM);
+        p->mask = random_mask(d);
+        p->ccid = below(d, 256);
+    }
 }
 
 void draw_this_call(dice *d, const run *r, uint32_t kind, uint32_t wrong, step *s)
 {
     blank_step(d, kind, s);
+    s->service = has_service(kind) ? some_service(d, wrong) : 0;
     switch (kind) {
     case START:
-        some_name(d, r, wrong, s);
-        s->number = random_mask(d);
-        s->what = below(d, 256);
+        draw_start(d, r, wrong, s);
         break;
     case SET_NAME:
-        some_name(d, r, wrong, s);
+        s->length = some_name(d, player_of(r, s->service), wrong, s->octets, sizeof s->octets);
         break;
     case ACTIVATE:
         s->number = some_group(d, r, wrong);
         break;
     case ADVANCE:
-        s->number = some_time(d, r);
+        s->number = some_time(d, r, player_of(r, s->service));
         break;
     case CONNECT:
         s->who = some_client(d, r, 0, wrong);
@@ -178,7 +192,7 @@ void draw_this_call(dice *d, const run *r, uint32_t kind, uint32_t wrong, step *
         draw_read(d, r, wrong, s);
         break;
     case WRITE:
-        s->who = some_writer(d, r, wrong);
+        s->who = some_writer(d, r, s->service, wrong);
         draw_write(d, r, wrong, s);
         break;
     case TAKE:
@@ -199,9 +213,13 @@ void draw_call(dice *d, const run *r, const mood *m, step *s)
     while (at >= m->weight[kind]) {
         at -= m->weight[kind++];
     }
-    /* Most is to be seen while there is a current track. */
-    if (r->second.media == REF_INACTIVE && kind != START && one_in(d, 4)) {
-        kind = ACTIVATE;
+    /* Most is to be seen while there is a current track, in either service. */
+    for (uint32_t k = 0; k < MCS_SERVICES; k++) {
+        if (player_of(r, k)->media == REF_INACTIVE && kind != START && one_in(d, 4)) {
+            draw_this_call(d, r, ACTIVATE, m->wrong, s);
+            s->service = k;
+            return;
+        }
     }
     draw_this_call(d, r, kind, m->wrong, s);
 }

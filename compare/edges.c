@@ -19,7 +19,7 @@ static void bit_cases(void)
     four_clients("a word of one bit");
     memcpy(standing, both->octets, sizeof standing);
     for (uint32_t k = 0; k < 32u * REF_CLIENTS; k++) {
-        uint32_t bit = k % 32u, client = k / 32u, record = MCS_AT_CLIENT(client), all = (1u << SLOTS) - 1u;
+        uint32_t bit = k % 32u, client = k / 32u, all = (1u << SLOTS) - 1u;
         int subscribes = client < 2, connected = client < 3;
         const struct {
             uint32_t subscribed, owed, read;
@@ -34,9 +34,9 @@ static void bit_cases(void)
         };
         for (uint32_t j = 0; j < sizeof WORDS / sizeof WORDS[0]; j++) {
             poke(0, standing, sizeof standing);
-            poke_number(record + MCS_IN_SUBSCRIBED, WORDS[j].subscribed, 4);
-            poke_number(record + MCS_IN_OWED, WORDS[j].owed, 4);
-            poke_number(record + MCS_IN_READ, WORDS[j].read, 4);
+            poke_number(account_at(client, MCS_IN_SUBSCRIBED), WORDS[j].subscribed, 4);
+            poke_number(account_at(client, MCS_IN_OWED), WORDS[j].owed, 4);
+            poke_number(account_at(client, MCS_IN_READ), WORDS[j].read, 4);
             calls_give(WORDS[j].right ? 0 : MCS_BAD_STATE);
         }
     }
@@ -117,9 +117,9 @@ static int64_t place_after(uint8_t opcode, int64_t n, int64_t place, int64_t len
 
 static void stand_in_list(uint32_t track, uint32_t position, uint8_t media)
 {
-    poke_number(MCS_AT_TRACK, track, 4);
-    poke_number(MCS_AT_POSITION, position, 4);
-    poke_number(MCS_AT_MEDIA_STATE, media, 1);
+    poke_number(player_at(MCS_IN_TRACK), track, 4);
+    poke_number(player_at(MCS_IN_POSITION), position, 4);
+    poke_number(player_at(MCS_IN_MEDIA_STATE), media, 1);
 }
 
 /* Every move from a place of a list; and the end of the track. */
@@ -158,7 +158,7 @@ static void order_cases(void)
         connect_client(0);
         for (uint32_t order = 1; order <= 8; order++) {
             const uint32_t places[5] = {0, 1, count / 2u, count - 2u, count - 1u};
-            poke_number(MCS_AT_ORDER, order, 1);
+            poke_number(player_at(MCS_IN_ORDER), order, 1);
             list_tracks(&t, order, count, list);
             activate(1, 0);
             commands(MCS_OPCODE_NEXT_GROUP, 0, MCS_RESULT_SUCCESS);
@@ -228,10 +228,10 @@ static void named(const uint8_t *octets, uint32_t length, int right, uint32_t at
 {
     makes(with_octets(blank(SET_NAME), octets, length), right ? 0 : MCS_BAD_NAME);
     carries(MCS_NOWHERE, right ? MCS_NOWHERE : at);
-    poke(MCS_AT_NAME, octets, MCS_OUTPUT_OCTETS);
-    poke_number(MCS_AT_NAME_LENGTH, length, 1);
+    poke(player_at(MCS_IN_NAME), octets, MCS_OUTPUT_OCTETS);
+    poke_number(player_at(MCS_IN_NAME_LENGTH), length, 1);
     makes(blank(TAKE), right ? 0 : MCS_BAD_STATE);
-    poke_number(MCS_AT_NAME_LENGTH, 0, 1);
+    poke_number(player_at(MCS_IN_NAME_LENGTH), 0, 1);
 }
 
 /* Each character at every place, cut behind each of its octets, and with one more behind it. Where it is not right, its first octet is
@@ -255,9 +255,9 @@ static const int RUNG[8] = {-32, -16, -8, -4, 4, 8, 16, 32};
 
 static void seek_at(int speed, uint32_t position)
 {
-    poke_number(MCS_AT_MEDIA_STATE, MCS_SEEKING, 1);
-    poke_number(MCS_AT_SEEKING, (uint8_t)speed, 1);
-    poke_number(MCS_AT_POSITION, position, 4);
+    poke_number(player_at(MCS_IN_MEDIA_STATE), MCS_SEEKING, 1);
+    poke_number(player_at(MCS_IN_SEEKING), (uint8_t)speed, 1);
+    poke_number(player_at(MCS_IN_POSITION), position, 4);
 }
 
 static void seeks(uint32_t media, int speed)
@@ -284,11 +284,11 @@ static void climb_cases(void)
     /* "Fast Forward enters Seeking at 4, Rewind at −4" */
     for (uint32_t media = MCS_PLAYING; media <= MCS_PAUSED; media++) {
         seek_at(0, 10);
-        poke_number(MCS_AT_MEDIA_STATE, media, 1);
+        poke_number(player_at(MCS_IN_MEDIA_STATE), media, 1);
         commands(MCS_OPCODE_FAST_FORWARD, 0, MCS_RESULT_SUCCESS);
         seeks(MCS_SEEKING, 4);
         seek_at(0, 10);
-        poke_number(MCS_AT_MEDIA_STATE, media, 1);
+        poke_number(player_at(MCS_IN_MEDIA_STATE), media, 1);
         commands(MCS_OPCODE_FAST_REWIND, 0, MCS_RESULT_SUCCESS);
         seeks(MCS_SEEKING, -4);
     }
@@ -341,24 +341,29 @@ static void speed_cases(void)
             is_rung |= (uint8_t)RUNG[rung] == k % 256u;
         }
         seek_at((int)(k % 256u), 0);
-        poke_number(MCS_AT_MEDIA_STATE, media, 1);
-        poke_number(MCS_AT_GROUP, media == MCS_INACTIVE ? 0 : 1, 4);
+        poke_number(player_at(MCS_IN_MEDIA_STATE), media, 1);
+        poke_number(player_at(MCS_IN_GROUP), media == MCS_INACTIVE ? 0 : 1, 4);
         makes(blank(TAKE), media < 4 && (media == MCS_SEEKING ? is_rung : k % 256u == 0) ? 0 : MCS_BAD_STATE);
     }
 }
 
-static void all_edges(void)
+static void edges_of_a_service(void)
 {
     bit_cases();
     order_cases();
     stand("a character at a bound, in a name", 3, 0, 0);
     in_every_place(named);
-    now_trying("a character at a bound, in a title");
-    in_every_place(titled);
     stand("from rung to rung", 3, 0, 10);
     climb_cases();
     rung_cases();
     speed_cases();
+}
+
+static void all_edges(void)
+{
+    in_each_service(edges_of_a_service);
+    now_trying("a character at a bound, in a title");
+    in_every_place(titled);
 }
 
 unsigned long play_edges(FILE *out, run *r) { return expect_on(r, out, all_edges); }

@@ -6,6 +6,7 @@
 #include <string.h>
 
 run *both;
+uint32_t tried_service;
 static FILE *report;
 static unsigned long wrong, expected;
 static const char *now;
@@ -26,17 +27,30 @@ unsigned long expect_on(run *r, FILE *out, void (*cases)(void))
 {
     both = r;
     report = out;
+    tried_service = MCS_GENERIC;
     wrong = expected = 0;
     cases();
     fprintf(out, "compare: %lu expectations, %lu not met\n", expected, wrong);
     return expected > 0 ? wrong : 1;
 }
 
+void in_each_service(void (*cases)(void))
+{
+    for (tried_service = 0; tried_service < MCS_SERVICES; tried_service++) {
+        cases();
+    }
+    tried_service = MCS_GENERIC;
+}
+
+uint32_t player_at(uint32_t part) { return MCS_AT_SERVICE(tried_service) + part; }
+uint32_t account_at(uint32_t client, uint32_t part) { return player_at(MCS_IN_ACCOUNT(client) + part); }
+
 step blank(uint32_t kind)
 {
     step s;
     memset(&s, 0, sizeof s);
     s.kind = (uint8_t)kind;
+    s.service = tried_service;
     s.twice = 1;
     s.fill = 0xA5;
     s.room[0] = MCS_OUTPUT_OCTETS;
@@ -47,6 +61,13 @@ step with_octets(step s, const void *octets, uint32_t length)
 {
     s.length = length;
     memcpy(s.octets, octets, length);
+    return s;
+}
+
+step with_name(step s, const void *octets, uint32_t length)
+{
+    s.players[tried_service].length = length;
+    memcpy(s.octets + START_NAME_AT(tried_service), octets, length);
     return s;
 }
 
@@ -72,9 +93,14 @@ void carries(uint32_t track, uint32_t octet)
 
 void start_desk(uint32_t mask)
 {
-    step s = with_octets(blank(START), "Desk", 4);
-    s.number = mask;
-    s.what = 7;
+    step s = blank(START);
+    for (uint32_t k = 0; k < MCS_SERVICES; k++) {
+        s.players[k] = (step_player){MCS_ALL_OPCODES, 42, 6};
+        memcpy(s.octets + START_NAME_AT(k), "Beside", 6);
+    }
+    s = with_name(s, "Desk", 4);
+    s.players[tried_service].mask = mask;
+    s.players[tried_service].ccid = 7;
     makes(s, 0);
 }
 
@@ -124,12 +150,23 @@ void takes(uint32_t client, uint32_t characteristic, const void *octets, uint32_
 {
     const answer *a = &both->library_said;
     makes(blank(TAKE), 0);
-    expect("the client served", a->served[0], client);
-    expect("the characteristic served", a->served[1], characteristic);
-    expect("the octets served", a->served[2], length);
-    if (a->served[2] == length && length > 0) {
+    expect("the client served", a->served[SERVED_CLIENT], client);
+    expect("the service served", a->served[SERVED_SERVICE], tried_service);
+    expect("the characteristic served", a->served[SERVED_CHARACTERISTIC], characteristic);
+    expect("the octets served", a->served[SERVED_LENGTH], length);
+    if (a->served[SERVED_LENGTH] == length && length > 0) {
         expect("octets that differ", memcmp(a->out, octets, length) != 0, 0);
     }
+}
+
+void takes_nothing(void)
+{
+    makes(blank(TAKE), 0);
+    expect("words of a take where nothing is owed", both->library_said.served[SERVED_CLIENT] |
+                                                        both->library_said.served[SERVED_SERVICE] |
+                                                        both->library_said.served[SERVED_CHARACTERISTIC] |
+                                                        both->library_said.served[SERVED_LENGTH],
+           0);
 }
 
 void commands(uint8_t opcode, int64_t n, uint8_t result)
@@ -155,16 +192,16 @@ void poke_number(uint32_t at, uint32_t number, uint32_t octets)
 
 /* ---- States */
 
-ref_state meant(void)
+ref_player meant(void)
 {
-    ref_state s;
+    static ref_state s;
     state_of_octets(both->octets, &s);
-    return s;
+    return s.services[tried_service].player;
 }
 
 void stands_at(uint32_t group, uint32_t track, uint32_t position)
 {
-    ref_state s = meant();
+    ref_player s = meant();
     expect("the group", s.group, group);
     expect("the track", s.track, track);
     expect("the position", s.position, position);
@@ -197,11 +234,12 @@ void four_clients(const char *what)
 
 void calls_give(uint32_t number)
 {
-    step small = blank(TAKE), nobody = blank(DISCONNECT), absent = blank(DISCONNECT), name = blank(SET_NAME);
+    step small = blank(TAKE), nobody = blank(DISCONNECT), absent = blank(DISCONNECT), name = blank(SET_NAME), none = name;
     small.room[0] = MCS_OUTPUT_OCTETS - 1u;
     nobody.who = 4;
     absent.who = 3;
-    name.length = 129;
+    name.length = none.length = 129;
+    none.service = MCS_SERVICES;
     makes(blank(DEACTIVATE), number);
     makes(small, number == MCS_BAD_CATALOGUE ? number : MCS_SMALL_OUTPUT);
     small.kind = READ;
@@ -209,4 +247,5 @@ void calls_give(uint32_t number)
     makes(nobody, number == 0 ? MCS_NO_CLIENT : number);
     makes(absent, number == 0 ? MCS_NOT_CONNECTED : number);
     makes(name, number == 0 ? MCS_BAD_NAME : number);
+    makes(none, number == 0 ? MCS_NO_SERVICE : number);
 }

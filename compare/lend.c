@@ -18,9 +18,11 @@ static const struct {
     TABLES_OF(catalogue, "the catalogue"),
     {offsetof(call, state), NO_LENGTH, 1, MCS_STATE_OCTETS, "the state"},
     {offsetof(call, octets), offsetof(call, length), 1, SHEET_ROOM, "the name, value, card or cue sheet"},
+    TABLE(players[MCS_GENERIC], name, 1, START_NAME_ROOM, "the generic player's name"),
+    TABLE(players[MCS_NAMED], name, 1, START_NAME_ROOM, "the named player's name"),
     {offsetof(call, out), offsetof(call, out_len), 1, OUT_ROOM, "the output"},
     {offsetof(call, word), NO_LENGTH, 4, 1, "the length of a read, count of a cue sheet or blocks of a card write"},
-    {offsetof(call, served), NO_LENGTH, 4, 3, "what a take served"},
+    {offsetof(call, served), NO_LENGTH, 4, SERVED_WORDS, "what a take served"},
     {offsetof(call, counts), NO_LENGTH, 4, 4, "the counts of a card load"},
     {offsetof(call, block), NO_LENGTH, 4, 1, "the block of a card load"},
     {offsetof(call, line), NO_LENGTH, 4, 1, "the line of a cue sheet"},
@@ -86,7 +88,9 @@ static void fill_answer(const step *s, answer *a)
 {
     a->number = 0;
     a->length = 0x01010101u * s->fill;
-    a->served[0] = a->served[1] = a->served[2] = a->length + 1u;
+    for (uint32_t k = 0; k < SERVED_WORDS; k++) {
+        a->served[k] = a->length + 1u;
+    }
     a->counts[0] = a->counts[1] = a->counts[2] = a->counts[3] = a->length + 2u;
     a->line = a->length + 3u;
     a->block = a->length + 4u;
@@ -133,16 +137,31 @@ static void lend_room_for_card(run *r, const step *s, call *c)
     }
 }
 
+/* A start is lent a name for each service, every other call at most one text. */
+static void lend_texts(const step *s, call *c)
+{
+    if (s->kind != START) {
+        c->octets = s->octets;
+        c->length = s->length;
+        return;
+    }
+    for (uint32_t k = 0; k < MCS_SERVICES; k++) {
+        struct mcs_player player = {s->octets + START_NAME_AT(k), s->players[k].length, s->players[k].mask,
+                                    (uint8_t)s->players[k].ccid};
+        c->players[k] = player;
+    }
+}
+
 void lend_plainly(run *r, const step *s, call *c)
 {
     answer *a = &r->second_said;
     memset(c, 0, sizeof *c);
     c->kind = s->kind;
     c->who = s->who;
+    c->service = s->service;
     c->what = s->what;
     c->number = s->number;
-    c->octets = s->octets;
-    c->length = s->length;
+    lend_texts(s, c);
     fill_answer(s, a);
     if (has_catalogue(s->kind)) {
         c->catalogue = lent(&r->lent);

@@ -8,7 +8,8 @@
 enum {
     THE_STATE = TABLES,
     OCTETS,
-    OUTPUT,
+    NAMES, /* of a start, by service */
+    OUTPUT = NAMES + (int)MCS_SERVICES,
     WORD,
     SERVED,
     COUNTS,

@@ -1,7 +1,9 @@
-/* The office's day and the player's cases: a framed script of calls.
+/* The office's day, the player's cases and those of the two services: a framed script of calls.
  *
- * A frame: catalogue, call, client, octet, number (four octets, little endian), room, text length, text. The calls are 0 a
- * note, 1 to 12 those of document 01 from start to take, 13 damage to the state. */
+ * A frame: catalogue, call, client, service, octet, number (four octets, little endian), room, text length (two octets), text.
+ * The calls are 0 a note, 1 to 12 those of document 01 from start to take, 13 damage to the state. A start has the generic
+ * player's mask as its number and that one's Content Control ID as its octet; its text is the length of that one's name in an
+ * octet, the name, and of the named player mask (four octets), Content Control ID (an octet) and name. */
 #include "office.h"
 #include "lend.h"
 #include "service.h"
@@ -81,26 +83,27 @@ static void write_slots(FILE *out, uint32_t word)
     fprintf(out, word >> REF_SLOTS != 0 ? " +" : "");
 }
 
-static void write_state(FILE *out, const ref_state *s)
+static void write_service(FILE *out, const ref_service *s, const ref_link *links)
 {
-    if (s->media <= MCS_SEEKING) {
-        fprintf(out, " | %s", mcs_media_state_words(s->media));
+    const ref_player *p = &s->player;
+    if (p->media <= MCS_SEEKING) {
+        fprintf(out, " | %s", mcs_media_state_words(p->media));
     } else {
-        fprintf(out, " | %u", (unsigned)s->media);
+        fprintf(out, " | %u", (unsigned)p->media);
     }
-    fprintf(out, " %u %d %d | %u %u %u", (unsigned)s->order, s->speed, s->seeking, (unsigned)s->group, (unsigned)s->track,
-            (unsigned)s->position);
+    fprintf(out, " %u %d %d | %u %u %u", (unsigned)p->order, p->speed, p->seeking, (unsigned)p->group, (unsigned)p->track,
+            (unsigned)p->position);
     for (uint32_t k = 0; k < REF_CLIENTS; k++) {
-        const ref_client *c = &s->clients[k];
-        if (!c->connected) {
+        const ref_account *a = &s->accounts[k];
+        if (!links[k].connected) {
             fprintf(out, " | -");
             continue;
         }
-        fprintf(out, " | %u:", (unsigned)c->mtu);
-        write_slots(out, c->subscribed);
+        fprintf(out, " | %u:", (unsigned)links[k].mtu);
+        write_slots(out, a->subscribed);
         fprintf(out, ";");
-        write_slots(out, c->owed);
-        fprintf(out, "; %u", (unsigned)c->waiting);
+        write_slots(out, a->owed);
+        fprintf(out, "; %u", (unsigned)a->waiting);
     }
 }
 
@@ -128,11 +131,12 @@ static void write_line(FILE *out, const step *s, const run *r)
     } else if (s->kind == READ) {
         fprintf(out, "read");
         length = a->length;
-    } else if (s->kind == TAKE && a->served[1] == 0) {
+    } else if (s->kind == TAKE && a->served[SERVED_CHARACTERISTIC] == MCS_NOTHING) {
         fprintf(out, "nothing");
     } else if (s->kind == TAKE) {
-        fprintf(out, "take %u %u", (unsigned)a->served[0], (unsigned)a->served[1]);
-        length = a->served[2];
+        fprintf(out, "take %u %u %u", (unsigned)a->served[SERVED_CLIENT], (unsigned)a->served[SERVED_SERVICE],
+                (unsigned)a->served[SERVED_CHARACTERISTIC]);
+        length = a->served[SERVED_LENGTH];
     } else {
         fprintf(out, "done");
     }
@@ -143,65 +147,89 @@ static void write_line(FILE *out, const step *s, const run *r)
         touched |= a->out[k] != filled(s->fill, k);
     }
     state_of_octets(r->octets, &meant);
-    write_state(out, &meant);
+    for (uint32_t k = 0; k < REF_SERVICES; k++) {
+        write_service(out, &meant.services[k], meant.links);
+    }
     fprintf(out, touched ? " !\n" : "\n");
 }
 
 /* ---- A frame */
 
-/* Damage sets one part of the state to the frame's number. */
+/* Damage sets one part of the state to the frame's number: of the service's player, of what is neither service's, of the client's
+ * link or of its account in the service. The last part is the code of a result, which the number's second octet chooses. */
 static void damage_step(step *s)
 {
-    uint32_t part = s->what, client = MCS_AT_CLIENT(s->who & 3u), number = s->number;
+    enum { OF_PLAYER, OF_ALL, OF_LINK, OF_ACCOUNT };
     static const struct {
-        uint8_t at, octets;
-    } PLAYER[10] = {{0, 0},
-                    {MCS_AT_MEDIA_STATE, 1},
-                    {MCS_AT_ORDER, 1},
-                    {MCS_AT_SEEKING, 1},
-                    {MCS_AT_GROUP, 4},
-                    {MCS_AT_TRACK, 4},
-                    {MCS_AT_POSITION, 4},
-                    {MCS_AT_NAME_LENGTH, 1},
-                    {MCS_AT_NAME, 1},
-                    {MCS_AT_TURN, 4}},
-      CLIENT[8] = {{MCS_IN_CONNECTED, 1}, {MCS_IN_ENCRYPTED, 1}, {MCS_IN_MTU, 4},  {MCS_IN_SUBSCRIBED, 4},
-                   {MCS_IN_OWED, 4},      {MCS_IN_READ, 4},      {MCS_IN_MARK, 4}, {MCS_IN_WAITING, 8}};
-    s->kind = POKE_STATE;
-    put_word(s->octets, number);
+        uint8_t of, in, octets;
+    } PART[] = {{OF_ALL, 0, 0},
+                {OF_PLAYER, MCS_IN_MEDIA_STATE, 1},
+                {OF_PLAYER, MCS_IN_ORDER, 1},
+                {OF_PLAYER, MCS_IN_SEEKING, 1},
+                {OF_PLAYER, MCS_IN_GROUP, 4},
+                {OF_PLAYER, MCS_IN_TRACK, 4},
+                {OF_PLAYER, MCS_IN_POSITION, 4},
+                {OF_PLAYER, MCS_IN_NAME_LENGTH, 1},
+                {OF_PLAYER, MCS_IN_NAME, 1},
+                {OF_ALL, MCS_AT_TURN, 4},
+                {OF_LINK, MCS_IN_CONNECTED, 1},
+                {OF_LINK, MCS_IN_ENCRYPTED, 1},
+                {OF_LINK, MCS_IN_MTU, 4},
+                {OF_ACCOUNT, MCS_IN_SUBSCRIBED, 4},
+                {OF_ACCOUNT, MCS_IN_OWED, 4},
+                {OF_ACCOUNT, MCS_IN_READ, 4},
+                {OF_LINK, MCS_IN_MARK, 4},
+                {OF_ACCOUNT, MCS_IN_WAITING, 8},
+                {OF_ACCOUNT, MCS_IN_RESULTS + 1, 1}};
+    enum { PARTS = sizeof PART / sizeof PART[0], CODE = PARTS - 1 };
+    uint32_t client = s->who % MCS_CLIENTS, service = MCS_AT_SERVICE(s->service % MCS_SERVICES), part = s->what % PARTS;
+    const uint32_t AT[] = {service, 0, MCS_AT_LINK(client), service + MCS_IN_ACCOUNT(client)};
+    put_word(s->octets, s->number);
     put_word(s->octets + 4, 0);
-    s->length = 0;
-    if (part < 10) {
-        s->number = PLAYER[part].at;
-        s->length = PLAYER[part].octets;
-    } else if (part < 18) {
-        s->number = client + CLIENT[part - 10u].at;
-        s->length = CLIENT[part - 10u].octets;
-    } else if (part == 18) {
-        s->number = client + MCS_IN_RESULTS + 2u * (number >> 8 & 7u) + 1u;
-        s->length = 1;
+    s->kind = POKE_STATE;
+    s->length = PART[part].octets;
+    s->number = AT[PART[part].of] + PART[part].in + (part == CODE ? 2u * (s->number >> 8 & 7u) : 0);
+}
+
+/* The players of a start, out of the frame's text; 0 where that ends too early, or a name is longer than a start has room for. */
+static int start_step(step *s)
+{
+    static uint8_t text[MCS_STATE_OCTETS];
+    uint32_t generic = s->octets[0], behind = 1u + generic, head = behind + 5u;
+    if (s->length < 1u || s->length < head || s->length - head > START_NAME_ROOM) {
+        return 0;
     }
+    memcpy(text, s->octets, s->length);
+    memset(s->octets, 0, sizeof s->octets);
+    memcpy(s->octets + START_NAME_AT(MCS_GENERIC), text + 1, generic);
+    memcpy(s->octets + START_NAME_AT(MCS_NAMED), text + head, s->length - head);
+    s->players[MCS_GENERIC] = (step_player){s->number, s->what, generic};
+    s->players[MCS_NAMED] = (step_player){word_at(text + behind), text[behind + 4u], s->length - head};
+    s->length = 0;
+    return 1;
 }
 
 unsigned long play_office(FILE *script, FILE *lines, FILE *complaints, run *r)
 {
     static step s;
     unsigned long differences = 0, frames = 0;
-    uint8_t head[10];
+    uint8_t head[12];
     size_t octets;
     make_catalogues();
     begin_run(r, &catalogue[SAMPLE]);
     while ((octets = fread(head, 1, sizeof head, script)) == sizeof head) {
         memset(&s, 0, sizeof s);
         s.who = head[2];
-        s.what = head[3];
-        s.number = word_at(head + 4);
-        s.room[0] = head[8];
-        s.length = head[9];
+        s.service = head[3];
+        s.what = head[4];
+        s.number = word_at(head + 5);
+        s.room[0] = head[9];
+        s.length = half_word_at(head + 10);
         s.fill = 0xA5;
         s.twice = 1;
         frames++;
-        if (fread(s.octets, 1, s.length, script) != s.length || head[0] >= CATALOGUES || head[1] > DAMAGE) {
+        if (s.length > sizeof s.octets || fread(s.octets, 1, s.length, script) != s.length || head[0] >= CATALOGUES ||
+            head[1] > DAMAGE || (head[1] == FIRST_CALL + START && !start_step(&s))) {
             fprintf(complaints, "compare: frame %lu of the script is none\n", frames);
             return differences + 1;
         }

@@ -115,13 +115,32 @@ uint32_t next_bad_title(const tables *t, uint32_t from)
     return from;
 }
 
+uint32_t wrong_octet_of_name(const uint8_t *octets, uint32_t length)
+{
+    uint32_t wrong = length > 128 ? 128 : wrong_octet(octets, length);
+    return wrong < length ? wrong : MCS_NOWHERE;
+}
+
+/* Of a start it is the generic player's name where that is bad (W-208: "generic (0) checked first"). */
+static uint32_t wrong_octet_of_names(const step *s)
+{
+    uint32_t wrong = MCS_NOWHERE;
+    if (s->kind != START) {
+        return wrong_octet_of_name(s->octets, s->length);
+    }
+    for (uint32_t k = 0; k < MCS_SERVICES && wrong == MCS_NOWHERE; k++) {
+        wrong = wrong_octet_of_name(s->octets + START_NAME_AT(k), s->players[k].length);
+    }
+    return wrong;
+}
+
 /* "207 carries it (for a name over 128 octets, 128, tested first). Among the failures behind 200, a bad title carries the lowest such
  * track and the offset; every other 200 carries neither and comes before." */
 struct mcs_place place_of(const tables *t, const step *s, uint32_t number)
 {
     struct mcs_place place = {MCS_NOWHERE, MCS_NOWHERE};
     if (number == MCS_BAD_NAME) {
-        place.octet = s->length > 128 ? 128 : wrong_octet(s->octets, s->length);
+        place.octet = wrong_octet_of_names(s);
     } else if (number == MCS_BAD_CATALOGUE && plain_rules_hold(t)) {
         place.track = next_bad_title(t, 0);
         place.octet = place.track < track_count(t) ? wrong_octet_of_title(t, place.track) : 0;

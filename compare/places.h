@@ -19,6 +19,9 @@ int plain_rules_hold(const tables *t);
 uint32_t next_bad_title(const tables *t, uint32_t from);
 uint32_t wrong_octet_of_title(const tables *t, uint32_t track);
 
+/* The octet for which a name is bad, 128 where it is longer; MCS_NOWHERE where it is right. */
+uint32_t wrong_octet_of_name(const uint8_t *octets, uint32_t length);
+
 /* What the number that a call was refused with carries; MCS_NOWHERE in the place of what it does not carry. */
 struct mcs_place place_of(const tables *t, const step *s, uint32_t number);
 

@@ -10,18 +10,19 @@ static void start(play *p)
     }
 }
 
-static void call_of(play *p, uint32_t kind, uint32_t client, uint32_t characteristic)
+static void call_of(play *p, uint32_t kind, uint32_t client, uint32_t service, uint32_t characteristic)
 {
     step *s = new_step(p);
     if (p->going) {
         draw_this_call(&p->d, p->r, kind, NONE, s);
         s->who = client;
+        s->service = service;
         s->what = kind == SUBSCRIBE ? characteristic : s->what;
         take_step(p);
     }
 }
 
-/* Clients come and subscribe, many to all there is, and a group is put on. */
+/* Clients come and subscribe, many to all there is in either service, and groups are put on. */
 void open_desk(play *p)
 {
     for (uint32_t client = 0; client < REF_CLIENTS; client++) {
@@ -29,15 +30,17 @@ void open_desk(play *p)
         if (one_in(&p->d, 4)) {
             continue;
         }
-        call_of(p, CONNECT, client, 0);
-        for (uint32_t k = 0; k < REF_SLOTS; k++) {
+        call_of(p, CONNECT, client, 0, 0);
+        for (uint32_t place = 0; place < PLACES; place++) {
             if (!one_in(&p->d, left_out)) {
-                call_of(p, SUBSCRIBE, client, slot_at(k));
+                call_of(p, SUBSCRIBE, client, place / SLOTS, slot_at(place % SLOTS));
             }
         }
     }
-    if (!one_in(&p->d, 8)) {
-        call_of(p, ACTIVATE, 0, 0);
+    for (uint32_t service = 0; service < MCS_SERVICES; service++) {
+        if (!one_in(&p->d, 8)) {
+            call_of(p, ACTIVATE, 0, service, 0);
+        }
     }
 }
 

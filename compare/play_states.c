@@ -23,11 +23,14 @@ void set_valid_state(play *p)
 static void nearly_start(play *p, uint8_t *octets)
 {
     memset(octets, 0, MCS_STATE_OCTETS);
-    octets[MCS_AT_ORDER] = 3;
+    octets[MCS_AT_LAYOUT] = MCS_STATE_MARK;
     octets[MCS_AT_TURN] = 3;
     for (uint32_t k = 0; k < REF_CLIENTS; k++) {
-        octets[MCS_AT_CLIENT(k) + MCS_IN_MTU] = 23;
-        octets[MCS_AT_CLIENT(k) + MCS_IN_MARK] = 9;
+        octets[MCS_AT_LINK(k) + MCS_IN_MTU] = 23;
+        octets[MCS_AT_LINK(k) + MCS_IN_MARK] = PLACES - 1;
+    }
+    for (uint32_t k = 0; k < REF_SERVICES; k++) {
+        octets[MCS_AT_SERVICE(k) + MCS_IN_ORDER] = 3;
     }
     for (uint32_t k = below(&p->d, 4); k > 0; k--) {
         uint32_t at = below(&p->d, MCS_STATE_OCTETS);

@@ -27,30 +27,41 @@ static void print_text(FILE *out, const uint8_t *octets, uint32_t length)
 }
 
 /* What the parts mean; behind a stroke what means nothing. */
+static void print_service(FILE *out, const ref_service *s)
+{
+    const ref_player *p = &s->player;
+    uint32_t end = REF_NAME_ROOM;
+    fprintf(out, " mask 0x%08x ccid %u media %u order %u speed %d seeking %d group %u track %u position %u name (%u)",
+            (unsigned)p->mask, p->ccid, p->media, p->order, p->speed, p->seeking, (unsigned)p->group, (unsigned)p->track,
+            (unsigned)p->position, (unsigned)p->name_len);
+    for (; end > p->name_len && p->name[end - 1u] == 0; end--) {
+    }
+    for (uint32_t k = 0; k < end; k++) {
+        fprintf(out, k == p->name_len ? " | %02x" : " %02x", p->name[k]);
+    }
+    for (uint32_t k = 0; k < REF_CLIENTS; k++) {
+        const ref_account *a = &s->accounts[k];
+        fprintf(out, "\n       client %u: subscribed 0x%03x owed 0x%03x read 0x%06x results (%u)", (unsigned)k,
+                (unsigned)a->subscribed, (unsigned)a->owed, (unsigned)a->fresh, (unsigned)a->waiting);
+        for (uint32_t j = 0; j < REF_RESULTS; j++) {
+            fprintf(out, j == a->waiting ? " | %02x %u" : " %02x %u", a->results[j].opcode, a->results[j].code);
+        }
+    }
+}
+
 static void print_state(FILE *out, const uint8_t octets[MCS_STATE_OCTETS])
 {
     static ref_state s;
-    uint32_t end = REF_NAME_ROOM;
     state_of_octets(octets, &s);
-    fprintf(out,
-            " mask 0x%08x ccid %u media %u order %u speed %d seeking %d group %u track %u position %u turn %u name (%u)",
-            (unsigned)s.mask, s.ccid, s.media, s.order, s.speed, s.seeking, (unsigned)s.group, (unsigned)s.track,
-            (unsigned)s.position, (unsigned)s.turn, (unsigned)s.name_len);
-    for (; end > s.name_len && s.name[end - 1u] == 0; end--) {
-    }
-    for (uint32_t k = 0; k < end; k++) {
-        fprintf(out, k == s.name_len ? " | %02x" : " %02x", s.name[k]);
-    }
+    fprintf(out, " begun with 0x%02x, turn %u", s.layout, (unsigned)s.turn);
     for (uint32_t k = 0; k < REF_CLIENTS; k++) {
-        const ref_client *c = &s.clients[k];
-        fprintf(out,
-                "\n     client %u: connected %u encrypted %u mtu %u subscribed 0x%03x owed 0x%03x read 0x%06x mark %u "
-                "results (%u)",
-                (unsigned)k, c->connected, c->encrypted, (unsigned)c->mtu, (unsigned)c->subscribed, (unsigned)c->owed,
-                (unsigned)c->fresh, (unsigned)c->mark, (unsigned)c->waiting);
-        for (uint32_t j = 0; j < REF_RESULTS; j++) {
-            fprintf(out, j == c->waiting ? " | %02x %u" : " %02x %u", c->results[j].opcode, c->results[j].code);
-        }
+        const ref_link *l = &s.links[k];
+        fprintf(out, "\n     client %u: connected %u encrypted %u mtu %u mark %u", (unsigned)k, l->connected, l->encrypted,
+                (unsigned)l->mtu, (unsigned)l->mark);
+    }
+    for (uint32_t k = 0; k < REF_SERVICES; k++) {
+        fprintf(out, "\n     service %u:", (unsigned)k);
+        print_service(out, &s.services[k]);
     }
 }
 
@@ -65,7 +76,12 @@ static void print_step(FILE *out, step *s)
         print_state(out, s->octets);
     } else if (s->kind == ADD_TEXT || s->kind == ADD_STARTS) {
         print_text(out, s->octets, s->length);
-    } else if (s->kind == START || s->kind == SET_NAME || s->kind == WRITE || s->kind == POKE_STATE) {
+    } else if (s->kind == START) {
+        for (uint32_t k = 0; k < MCS_SERVICES; k++) {
+            fprintf(out, k == 0 ? " names" : " and");
+            print_octets(out, s->octets + START_NAME_AT(k), s->players[k].length);
+        }
+    } else if (s->kind == SET_NAME || s->kind == WRITE || s->kind == POKE_STATE) {
         fprintf(out, " octets");
         print_octets(out, s->octets, s->length);
     }
@@ -93,8 +109,9 @@ static void print_answer(FILE *out, const char *program, const step *s, const an
     } else if (s->kind == READ && a->number == 0) {
         print_octets(out, a->out, a->length < OUT_ROOM ? a->length : OUT_ROOM);
     } else if (s->kind == TAKE && a->number == 0) {
-        fprintf(out, ", client %u, characteristic %u,", (unsigned)a->served[0], (unsigned)a->served[1]);
-        print_octets(out, a->out, a->served[2] < OUT_ROOM ? a->served[2] : OUT_ROOM);
+        fprintf(out, ", client %u, service %u, characteristic %u,", (unsigned)a->served[SERVED_CLIENT],
+                (unsigned)a->served[SERVED_SERVICE], (unsigned)a->served[SERVED_CHARACTERISTIC]);
+        print_octets(out, a->out, a->served[SERVED_LENGTH] < OUT_ROOM ? a->served[SERVED_LENGTH] : OUT_ROOM);
     } else if (s->kind == CARD_LOAD && a->number != 0) {
         fprintf(out, ", block %u", (unsigned)a->block);
     } else if (s->kind == CARD_LOAD) {

@@ -55,7 +55,7 @@ static uint32_t group_with_tracks(dice *d, const tables *t)
     return groups;
 }
 
-static void random_player(dice *d, const tables *t, ref_state *s)
+static void random_player(dice *d, const tables *t, ref_player *s)
 {
     static const int8_t RUNG[8] = {-32, -16, -8, -4, 4, 8, 16, 32};
     uint32_t group = group_with_tracks(d, t);
@@ -78,41 +78,51 @@ static void random_player(dice *d, const tables *t, ref_state *s)
     s->position = random_position(d, t, s->track);
 }
 
-static void random_record(dice *d, ref_client *c)
+static void random_link(dice *d, ref_link *l)
+{
+    l->mtu = 23;
+    l->mark = PLACES - 1;
+    l->connected = !one_in(d, 4);
+    if (l->connected) {
+        l->encrypted = !one_in(d, 6);
+        l->mtu = random_mtu(d);
+        l->mark = below(d, PLACES);
+    }
+}
+
+/* Of a client with that link. */
+static void random_account(dice *d, const ref_link *l, ref_account *a)
 {
     for (uint32_t k = 0; k < REF_RESULTS; k++) {
-        c->results[k].opcode = (uint8_t)any_word(d);
-        c->results[k].code = (uint8_t)between(d, 1, 4);
+        a->results[k].opcode = (uint8_t)any_word(d);
+        a->results[k].code = (uint8_t)between(d, 1, 4);
     }
-    c->mtu = 23;
-    c->mark = REF_SLOTS - 1u;
-    c->connected = !one_in(d, 4);
-    if (!c->connected) {
+    for (uint32_t k = 0; l->connected && k < READABLES; k++) {
+        a->fresh |= one_in(d, 2) ? 1u << readable_at(k) : 0u;
+    }
+    if (!l->encrypted) {
         return;
     }
-    c->encrypted = !one_in(d, 6);
-    c->mtu = random_mtu(d);
-    c->mark = below(d, REF_SLOTS);
-    for (uint32_t k = 0; k < READABLES; k++) {
-        c->fresh |= one_in(d, 2) ? 1u << readable_at(k) : 0u;
-    }
-    if (!c->encrypted) {
-        return;
-    }
-    c->subscribed = one_in(d, 3) ? ALL_SLOTS : one_in(d, 4) ? 0 : any_word(d) & ALL_SLOTS;
-    c->owed = one_in(d, 3) ? 0 : c->subscribed & any_word(d) & ~(1u << RESULTS_BIT);
-    if ((c->subscribed >> RESULTS_BIT & 1u) != 0 && !one_in(d, 3)) {
-        c->waiting = one_in(d, 3) ? 8u : between(d, 1, 8);
-        c->owed |= 1u << RESULTS_BIT;
+    a->subscribed = one_in(d, 3) ? ALL_SLOTS : one_in(d, 4) ? 0 : any_word(d) & ALL_SLOTS;
+    a->owed = one_in(d, 3) ? 0 : a->subscribed & any_word(d) & ~(1u << RESULTS_BIT);
+    if ((a->subscribed >> RESULTS_BIT & 1u) != 0 && !one_in(d, 3)) {
+        a->waiting = one_in(d, 3) ? 8u : between(d, 1, 8);
+        a->owed |= 1u << RESULTS_BIT;
     }
 }
 
 void random_state(dice *d, const tables *t, ref_state *s)
 {
     memset(s, 0, sizeof *s);
-    random_player(d, t, s);
-    for (uint32_t k = 0; k < REF_CLIENTS; k++) {
-        random_record(d, &s->clients[k]);
-    }
+    s->layout = MCS_STATE_MARK;
     s->turn = below(d, REF_CLIENTS);
+    for (uint32_t k = 0; k < REF_CLIENTS; k++) {
+        random_link(d, &s->links[k]);
+    }
+    for (uint32_t k = 0; k < REF_SERVICES; k++) {
+        random_player(d, t, &s->services[k].player);
+        for (uint32_t client = 0; client < REF_CLIENTS; client++) {
+            random_account(d, &s->links[client], &s->services[k].accounts[client]);
+        }
+    }
 }

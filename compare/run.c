@@ -1,5 +1,6 @@
 #include "run.h"
 #include "alter.h"
+#include "apart.h"
 #include "guard.h"
 #include "lend.h"
 #include "octets.h"
@@ -27,6 +28,7 @@ void begin_run(run *r, const tables *t)
     r->lent_sheet.length = 0;
     memset(r->octets, 0, sizeof r->octets);
     state_of_octets(r->octets, &r->second);
+    memset(&r->waited, 0, sizeof r->waited);
     remember(r);
     r->difference[0] = 0;
 }
@@ -55,30 +57,47 @@ static int differs_in(run *r, const char *when, const char *buffer)
 }
 
 /* "A refusal returns its number alone and alters nothing." */
-static int states_stay(run *r, const uint8_t *octets, const ref_state *second)
+static int states_stay(run *r, const uint8_t *octets)
 {
     if (memcmp(r->octets, octets, MCS_STATE_OCTETS) != 0) {
         return differs(r, "a refusal of the library altered the state");
     }
-    if (memcmp(&r->second, second, sizeof *second) != 0) {
+    if (memcmp(&r->second, &r->before, sizeof r->before) != 0) {
         return differs(r, "a refusal of the second program altered the state");
     }
     return 1;
 }
 
-/* A yes or no that is neither 1 nor 0 is refused with 201, before which 200 and 205 come. A start looks at no state. */
-static int truths_are_plain(run *r, const step *s, const uint8_t *octets)
+/* A state of another layout, and a yes or no that is neither 1 nor 0, are refused with 201, before which 200 and 205 come. A
+ * start looks at no state. */
+static int wrong_octets_are_refused(run *r, const step *s, const uint8_t *octets)
 {
     uint32_t number = r->library_said.number;
     uint32_t should = has_output(s->kind) && s->room[0] < MCS_OUTPUT_OCTETS ? MCS_SMALL_OUTPUT : MCS_BAD_STATE;
-    if (s->kind == START || number == MCS_BAD_CATALOGUE || number == should || plain_truths(octets)) {
+    if (s->kind == START || number == MCS_BAD_CATALOGUE || number == should) {
         return 1;
     }
-    return differs(r, "a yes or no that is neither 1 nor 0 is not refused with 201 in its turn");
+    if (octets[MCS_AT_LAYOUT] != MCS_STATE_MARK) {
+        return differs(r, "a state that does not begin with its mark is not refused with 201 in its turn");
+    }
+    return plain_truths(octets) || differs(r, "a yes or no that is neither 1 nor 0 is not refused with 201 in its turn");
+}
+
+/* What both did to the services, and in which order they served, is what it has to be. */
+static int services_are_apart(run *r, const step *s, const uint8_t *octets)
+{
+    const answer *a = &r->library_said;
+    const char *wrong = wrong_service(s, a);
+    if (wrong == NULL && a->number == 0) {
+        wrong = s->kind == TAKE ? not_in_turn(a, octets, r->octets) : NULL;
+        wrong = wrong == NULL ? not_apart(s, a, octets, r->octets) : wrong;
+        wrong = wrong == NULL ? too_late(&r->waited, s, a, octets, r->octets) : wrong;
+    }
+    return wrong == NULL || differs(r, wrong);
 }
 
 /* After an accepted call every octet is what it has to be; and where nothing of what they mean has changed, what it was. */
-static int same_states(run *r, const step *s, const uint8_t *octets, const ref_state *second)
+static int same_states(run *r, const step *s, const uint8_t *octets)
 {
     static uint8_t should[MCS_STATE_OCTETS];
     r->seen_dead = octets_after(octets, s, &r->second, &r->second_said, should);
@@ -94,7 +113,7 @@ static int same_states(run *r, const step *s, const uint8_t *octets, const ref_s
         }
         return 0;
     }
-    r->unchanged = s->kind != START && same_meaning(second, &r->second, NULL, 0);
+    r->unchanged = s->kind != START && same_meaning(&r->before, &r->second, NULL, 0);
     if (r->unchanged && memcmp(r->octets, octets, MCS_STATE_OCTETS) != 0) {
         return differs(r, "a call of the library that changes nothing altered octets of the state");
     }
@@ -137,6 +156,9 @@ static int carried_alone(run *r, const step *s, uint32_t block, uint32_t line)
     if (a->line != line && a->number != MCS_BAD_LINE && a->number != MCS_NOT_RISING) {
         return differs(r, "both wrote the line of a cue sheet that carries none");
     }
+    if (a->number == MCS_BAD_NAME && place.octet == MCS_NOWHERE) {
+        return differs(r, "both refuse a name that is right");
+    }
     if (a->track != (place.track == MCS_NOWHERE ? untouched.track : place.track)) {
         return differs(r, "both say something else of the lowest track with a bad title than is to be seen in the catalogue");
     }
@@ -150,7 +172,6 @@ static int do_call(run *r, const step *s)
 {
     static call plain, second, made[2];
     static uint8_t octets_before[MCS_STATE_OCTETS];
-    static ref_state second_before;
     uint32_t number[2], makings = s->twice ? 2 : 1, block, line;
     const char *buffer;
     lend_plainly(r, s, &plain);
@@ -163,8 +184,7 @@ static int do_call(run *r, const step *s)
     second.state = &r->second;
     r->library_said = r->second_said;
     memcpy(octets_before, r->octets, MCS_STATE_OCTETS);
-    memcpy(&second_before, &r->second, sizeof r->second);
-    r->position_before = r->second.position;
+    memcpy(&r->before, &r->second, sizeof r->second);
     r->unchanged = r->library_faulted = 0;
     r->seen_dead = 0;
 
@@ -206,9 +226,9 @@ static int do_call(run *r, const step *s)
     if (!has_state(s->kind)) {
         return 1;
     }
-    return truths_are_plain(r, s, octets_before) &&
-           (r->library_said.number != 0 ? states_stay(r, octets_before, &second_before)
-                                        : same_states(r, s, octets_before, &second_before));
+    return wrong_octets_are_refused(r, s, octets_before) &&
+           (r->library_said.number != 0 ? states_stay(r, octets_before) : same_states(r, s, octets_before)) &&
+           services_are_apart(r, s, octets_before);
 }
 
 int do_step(run *r, const step *s)

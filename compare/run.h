@@ -3,6 +3,7 @@
 #define RUN_H
 
 #include "card.h"
+#include "service.h"
 #include "sheet.h"
 #include "state.h"
 #include "step.h"
@@ -13,13 +14,19 @@
 typedef struct {
     uint32_t number;
     uint32_t length;       /* of a read; the count of a cue sheet; the blocks of a card write */
-    uint32_t served[3];    /* of a take */
+    uint32_t served[SERVED_WORDS]; /* of a take */
     uint32_t counts[4];    /* of a card load */
     uint32_t block;        /* of a card load */
     uint32_t line;         /* of a cue sheet */
     uint32_t track, octet; /* of a call that is lent the catalogue: where a text is wrong */
     uint8_t out[OUT_ROOM]; /* of a read or a take; behind what was lent it stays as it was filled */
 } answer;
+
+/* How many takes were answered since a place of a client was owed, or served last and owed still. */
+typedef struct {
+    uint32_t takes[REF_CLIENTS][PLACES];
+    uint32_t of_served; /* the takes before the last one, of what that one served */
+} waits;
 
 /* What a step altered in the tables since they were remembered. */
 typedef struct {
@@ -43,7 +50,8 @@ typedef struct {
     uint32_t starts[STARTS_ROOM]; /* by its last cue sheet */
     card written;                 /* by its last card write; its length is that of the blocks, 0 where it was refused */
     int library_faulted, second_faulted;
-    uint32_t position_before; /* the player's, before the last call */
+    ref_state before;         /* the second program's state before the last call */
+    waits waited;             /* for what is owed now, and in the last take for what it served */
     int unchanged;            /* the last call was accepted, was no start, and left the meaning of the state as it was */
     uint32_t seen_dead;       /* the rules for octets that mean nothing that the last call has shown, as bits (octets.h) */
     answer library_said, second_said;

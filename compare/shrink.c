@@ -58,30 +58,29 @@ static int drop_steps(trial *t, run *r)
     return dropped;
 }
 
-/* ---- Fewer clients */
+/* ---- Fewer clients, fewer services */
 
-static int has_client(const step *s) { return s->kind >= CONNECT && s->kind <= WRITE; }
-
-/* What one client did is done by another. */
-static int client_for_client(trial *t, run *r, uint32_t from, uint32_t to)
+/* What one client or service did is done by another, in all calls that have one. */
+static int one_for_another(trial *t, run *r, int (*has)(uint32_t kind), size_t place, uint32_t from, uint32_t to)
 {
     int changed = 0;
     try_copy(t);
     for (uint32_t k = 0; k < tried.count; k++) {
-        if (has_client(&tried.steps[k]) && tried.steps[k].who == from) {
-            tried.steps[k].who = to;
+        uint32_t *which = number_at(&tried.steps[k], place);
+        if (is_call(&tried.steps[k]) && has(tried.steps[k].kind) && *which == from) {
+            *which = to;
             changed = 1;
         }
     }
     return changed && time_is_left() && holds(t, r);
 }
 
-static int fewer_clients(trial *t, run *r)
+static int fewer(trial *t, run *r, int (*has)(uint32_t kind), size_t place, uint32_t count)
 {
     int changed = 0;
-    for (uint32_t from = REF_CLIENTS - 1u; from > 0; from--) {
+    for (uint32_t from = count - 1u; from > 0; from--) {
         for (uint32_t to = 0; to < from; to++) {
-            changed |= client_for_client(t, r, from, to);
+            changed |= one_for_another(t, r, has, place, from, to);
         }
     }
     return changed;
@@ -95,7 +94,8 @@ unsigned long shrink_trial(trial *t, run *r, unsigned seconds)
     while (changed && time_is_left()) {
         changed = drop_steps(t, r);
         changed |= smaller_catalogue(t, r);
-        changed |= fewer_clients(t, r);
+        changed |= fewer(t, r, has_client, offsetof(step, who), MCS_CLIENTS);
+        changed |= fewer(t, r, has_service, offsetof(step, service), MCS_SERVICES);
         changed |= plainer_arguments(t, r);
     }
     return plays;

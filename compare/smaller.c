@@ -114,16 +114,17 @@ static int smaller_track(trial *t, run *r, uint32_t track)
     return changed;
 }
 
-/* Numbers above `number` become less by so much, in every state that is set; and the groups that are activated. */
-static void renumber(uint32_t at, uint32_t number, uint32_t by)
+/* Numbers above `number` become less by so much, in both services of every state that is set; and the groups that are
+ * activated. */
+static void renumber(uint32_t in, uint32_t number, uint32_t by)
 {
     for (uint32_t k = 0; k < tried.count; k++) {
         step *s = &tried.steps[k];
-        uint8_t *octets = s->octets + at;
-        if (s->kind == SET_STATE && word_at(octets) > number) {
-            put_word(octets, word_at(octets) - by);
+        for (uint32_t service = 0; s->kind == SET_STATE && service < MCS_SERVICES; service++) {
+            uint8_t *octets = s->octets + MCS_AT_SERVICE(service) + in;
+            put_word(octets, word_at(octets) - (word_at(octets) > number ? by : 0));
         }
-        if (s->kind == ACTIVATE && at == MCS_AT_GROUP && s->number > number) {
+        if (s->kind == ACTIVATE && in == MCS_IN_GROUP && s->number > number) {
             s->number -= by;
         }
     }
@@ -135,9 +136,9 @@ static int without_group(trial *t, run *r, uint32_t group)
     int dropped;
     try_copy(t);
     dropped = drop_group(&tried.catalogue, group);
-    renumber(MCS_AT_GROUP, group, 1);
+    renumber(MCS_IN_GROUP, group, 1);
     if (count > 0) {
-        renumber(MCS_AT_TRACK, first + count - 1u, count);
+        renumber(MCS_IN_TRACK, first + count - 1u, count);
     }
     return with_catalogue(t, r, dropped);
 }
@@ -147,7 +148,7 @@ static int without_track(trial *t, run *r, uint32_t track)
     int dropped;
     try_copy(t);
     dropped = drop_track(&tried.catalogue, track);
-    renumber(MCS_AT_TRACK, track, 1);
+    renumber(MCS_IN_TRACK, track, 1);
     return with_catalogue(t, r, dropped);
 }
 

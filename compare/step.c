@@ -3,18 +3,24 @@
 #define WHO(words) {words, offsetof(step, who), 0}
 #define WHAT(words, plainest) {words, offsetof(step, what), plainest}
 #define NUMBER(words, plainest) {words, offsetof(step, number), plainest}
+#define SERVICE {"service", offsetof(step, service), 0}
 #define ROOM(words, k, plainest) {words, offsetof(step, room) + (k) * sizeof(uint32_t), plainest}
+#define PLAYER(words, service, part, plainest)                                                                             \
+    {words, offsetof(step, players) + (service) * sizeof(step_player) + offsetof(step_player, part), plainest}
 
 const step_number STEP_NUMBERS[KINDS][MOST_NUMBERS] = {
-    [START] = {NUMBER("mask", MCS_ALL_OPCODES), WHAT("Content Control ID", 0)},
-    [ACTIVATE] = {NUMBER("group", 0)},
-    [ADVANCE] = {NUMBER("hundredths", 0)},
+    [START] = {PLAYER("generic mask", MCS_GENERIC, mask, MCS_ALL_OPCODES), PLAYER("Content Control ID", MCS_GENERIC, ccid, 0),
+               PLAYER("named mask", MCS_NAMED, mask, MCS_ALL_OPCODES), PLAYER("Content Control ID", MCS_NAMED, ccid, 0)},
+    [SET_NAME] = {SERVICE},
+    [ACTIVATE] = {SERVICE, NUMBER("group", 0)},
+    [DEACTIVATE] = {SERVICE},
+    [ADVANCE] = {SERVICE, NUMBER("hundredths", 0)},
     [CONNECT] = {WHO("client"), NUMBER("ATT_MTU", 23), WHAT("encrypted", 1)},
     [DISCONNECT] = {WHO("client")},
-    [SUBSCRIBE] = {WHO("client"), WHAT("characteristic", 0)},
-    [UNSUBSCRIBE] = {WHO("client"), WHAT("characteristic", 0)},
-    [READ] = {WHO("client"), WHAT("characteristic", 0), NUMBER("offset", 0), ROOM("room", 0, MCS_OUTPUT_OCTETS)},
-    [WRITE] = {WHO("client"), WHAT("characteristic", 0)},
+    [SUBSCRIBE] = {WHO("client"), SERVICE, WHAT("characteristic", 0)},
+    [UNSUBSCRIBE] = {WHO("client"), SERVICE, WHAT("characteristic", 0)},
+    [READ] = {WHO("client"), SERVICE, WHAT("characteristic", 0), NUMBER("offset", 0), ROOM("room", 0, MCS_OUTPUT_OCTETS)},
+    [WRITE] = {WHO("client"), SERVICE, WHAT("characteristic", 0)},
     [TAKE] = {ROOM("room", 0, MCS_OUTPUT_OCTETS)},
     [CARD_LOAD] = {ROOM("room of groups", 0, 0), ROOM("of tracks", 1, 0), ROOM("of segments", 2, 0), ROOM("of text", 3, 0)},
     [CUE_SHEET] = {ROOM("room", 0, 0)},

@@ -27,6 +27,12 @@ enum {
     KINDS
 };
 
+/* What a start gives to the player of a service, but for the name. */
+typedef struct {
+    uint32_t mask, ccid;
+    uint32_t length; /* of the name */
+} step_player;
+
 typedef struct {
     uint8_t kind;
     uint8_t against;                  /* which barred page the lent buffers touch */
@@ -34,14 +40,20 @@ typedef struct {
     uint8_t null;                     /* a buffer of no octets is lent as a null pointer */
     uint8_t fill;                     /* what lent outputs hold before the call; of a call made twice also the stack */
     uint32_t who;                     /* client */
-    uint32_t what;                    /* characteristic; of start the Content Control ID, of connect whether encrypted */
-    uint32_t number;                  /* mask, group, hundredths, ATT_MTU, offset */
+    uint32_t service;
+    uint32_t what;                    /* characteristic; of connect whether encrypted */
+    uint32_t number;                  /* group, hundredths, ATT_MTU, offset */
     uint32_t room[4];                 /* of the output of a read or a take; in entries of a card load's tables, of starts; of a card */
-    uint32_t length;                  /* of octets */
-    uint8_t octets[MCS_STATE_OCTETS]; /* name, value or text */
+    uint32_t length;                  /* of octets, but of a start */
+    uint8_t octets[MCS_STATE_OCTETS]; /* name, value or text; of a start both names */
+    step_player players[MCS_SERVICES]; /* of a start */
 } step;
 
 static inline int is_call(const step *s) { return s->kind < CALLS; }
+
+/* Where the name of a service's player lies in a start's octets, and the room that it has there. */
+#define START_NAME_ROOM (MCS_STATE_OCTETS / MCS_SERVICES)
+#define START_NAME_AT(service) (START_NAME_ROOM * (service))
 
 /* The numbers that steps of each kind have, in words and by their places in a step, with what is plainest; a list that is not
  * full ends at a null pointer. */
@@ -50,7 +62,7 @@ typedef struct {
     size_t place;
     uint32_t plainest;
 } step_number;
-#define MOST_NUMBERS 5u
+#define MOST_NUMBERS 6u
 extern const step_number STEP_NUMBERS[KINDS][MOST_NUMBERS];
 extern const char *const STEP_NAME[KINDS];
 

@@ -22,7 +22,8 @@ static const struct {
     {"segments", TAKE, SEGMENTS, 0, MCS_BAD_CATALOGUE},
     {"text", START, TEXT, 0, MCS_BAD_CATALOGUE},
     {"text", TAKE, TEXT, 0, MCS_BAD_CATALOGUE},
-    {"the name of a start", START, OCTETS, 0, MCS_BAD_NAME},
+    {"the generic player's name", START, NAMES + MCS_GENERIC, 0, MCS_BAD_NAME},
+    {"the named player's name", START, NAMES + MCS_NAMED, 0, MCS_BAD_NAME},
     {"a name", SET_NAME, OCTETS, 0, MCS_BAD_NAME},
     {"a position", WRITE, OCTETS, MCS_POSITION, MCS_BAD_LENGTH},
     {"a playback speed", WRITE, OCTETS, MCS_PLAYBACK_SPEED, MCS_BAD_LENGTH},
@@ -44,7 +45,7 @@ static tables sample, loaded;
 static card made, written;
 static uint8_t octets[MCS_STATE_OCTETS], out[MCS_OUTPUT_OCTETS], line_of_0[17];
 static ref_state state;
-static uint32_t word, served[3], counts[4], block, line, track, octet, starts[1];
+static uint32_t word, served[SERVED_WORDS], counts[4], block, line, track, octet, starts[1];
 
 /* A call on the sample that is accepted: the octet 1 is a name, a speed, an order and Play. */
 static call right_call(uint32_t kind, uint32_t what)
@@ -52,6 +53,10 @@ static call right_call(uint32_t kind, uint32_t what)
     static const uint8_t ONE[4] = {1};
     call c = {.kind = kind, .what = what, .catalogue = lent(&sample), .octets = ONE, .out = out, .out_len = sizeof out};
     c.number = kind == CONNECT ? 23 : 0;
+    for (uint32_t k = 0; k < MCS_SERVICES; k++) {
+        c.players[k].name = ONE;
+        c.players[k].name_len = 1;
+    }
     c.length = what == MCS_POSITION ? 4 : 1;
     c.word = &word;
     c.served = served;

@@ -4,11 +4,11 @@
     check.py [--suite TEXT] COMMAND [ARGUMENT ...]
 
 Every case of the suite has one row of the page, with its name and items. It applies where the page's table of answers says yes to
-each of its items; then the program has run it, once, with an expectation at least, and printed the row's verdict, file and
-function. Where an answer is no, the row says so with the answer's reason, and the program has not run it. The answer is yes for
-the characteristics and opcodes that the header has, and for no others. A choice of document 01 that a verdict names has its row
-in the page's table of choices, which names the cases. Numbers in the page are those of the run. With --suite, TEXT is the suite's
-own text, and suite.txt must say the same.
+each of its items; then the program has run it, once, on the core's service that the header has for it (MCS_GENERIC for GMCS,
+MCS_NAMED for MCS), with an expectation at least, and printed the row's verdict, file and function. Where an answer is no, the row
+says so with the answer's reason, and the program has not run it. The answer is yes for the characteristics and opcodes that the
+header has, and for no others. A choice of document 01 that a verdict names has its row in the page's table of choices, which names
+the cases. Numbers in the page are those of the run. With --suite, TEXT is the suite's own text, and suite.txt must say the same.
 
 Exit 1 and a line for each difference, or exit 0 and one line."""
 import collections
@@ -20,7 +20,8 @@ import sys
 HERE = pathlib.Path(__file__).resolve().parent
 CASES = 234  # of MCS.TS.p5
 TCID = r"G?MCS/SR(?:/[A-Z]+)+/B[VI]-\d+-C"
-RUN = re.compile(r"(%s) (.+) \[(\S+) (\w+), (\d+) expectations\]" % TCID)
+RUN = re.compile(r"(%s) (.+) \[service (\d+), (\S+) (\w+), (\d+) expectations\]" % TCID)
+SERVICES = {"GMCS": "MCS_GENERIC", "MCS": "MCS_NAMED"}  # the front of a TCID to the service's name in the header
 CHOICE, NOT = "document 01's choice", "does not apply"
 KINDS = ("pass", CHOICE, "pass in part", NOT)
 
@@ -39,6 +40,11 @@ def once(table, key, value, where):
 
 def the_text(name):
     return (HERE / name).read_text(encoding="utf-8")
+
+
+def the_header_numbers():
+    """The numbers of include/mcs.h by their names."""
+    return dict(re.findall(r"^#define (MCS_\w+) (\d+)u", the_text("../include/mcs.h"), re.MULTILINE))
 
 
 def the_suite():
@@ -70,12 +76,13 @@ def the_run(command):
     ended = subprocess.run(command, stdout=subprocess.PIPE, text=True)
     lines = ended.stdout.splitlines() or [""]
     run = {}
+    numbers = the_header_numbers()
     for line in lines[1:-1]:
         match = RUN.fullmatch(line)
-        if match is None or match[5] == "0":
+        if match is None or match[3] != numbers[SERVICES[match[1].split("/")[0]]] or match[6] == "0":
             differences.append(line)
         else:
-            once(run, match[1], (match[2], "`%s` `%s`" % match.group(3, 4)), "in the run")
+            once(run, match[1], (match[2], "`%s` `%s`" % match.group(4, 5)), "in the run")
     if ended.returncode != 0 or not lines[-1].startswith("%d cases, 0 failures, " % len(run)):
         differs("the program ended with %d: %s", ended.returncode, lines[-1])
     return run, lines[0], lines[-1]
@@ -117,7 +124,7 @@ def compare_header(suite, answers):
     """The answer is yes for what the header has. Of the cases on characteristics the n-th is on that of 001, 3.n, whose number is n
     here; the items 3/n are the opcodes, in the order of their bits."""
     header = the_text("../include/mcs_desk.h")
-    numbers = dict(re.findall(r"^#define (MCS_\w+) (\d+)u", the_text("../include/mcs.h"), re.MULTILINE))
+    numbers = the_header_numbers()
     characteristics = {int(numbers[name]) for name in re.findall(r"ROW\((MCS_\w+), MCS_MAY", header)}
     opcodes = len(re.findall(r"ROW\(MCS_OPCODE_", header))
     there = {items: int(number) in characteristics

@@ -27,7 +27,8 @@ static bool run(const char *tcid, const struct tested_case *c)
     c->run(&t);
     end_case(&t);
     if (t.failures == 0) {
-        printf("%s %s [%s %s, %u expectations]\n", tcid, c->verdict, file_name(c->file), c->function, t.expectations);
+        printf("%s %s [service %u, %s %s, %u expectations]\n", tcid, c->verdict, (unsigned)TESTED(&t), file_name(c->file),
+               c->function, t.expectations);
     } else {
         printf("%s FAIL %s (%u failures)\n", tcid, t.first_failure, t.failures);
     }
@@ -54,7 +55,7 @@ int main(int argc, char **argv)
     printf("%u wrong things shown to the tester, %u seen\n", shown, seen);
     for (size_t f = 0; f < sizeof families / sizeof families[0]; f++) {
         for (const struct tested_case *c = families[f]; c->tcid != NULL; c++) {
-            for (size_t s = 0; s < SERVICES; s++) {
+            for (size_t s = 0; s < MCS_SERVICES; s++) {
                 char tcid[64];
                 (void)snprintf(tcid, sizeof tcid, "%s%s", SERVICE[s].tcid, c->tcid);
                 if (named(tcid, argc - first, argv + first)) {

@@ -19,7 +19,7 @@ static void begin(struct tester *t)
 
 unsigned show_wrong_things(struct tester *t, unsigned *seen)
 {
-    static const uint8_t order_5[1] = {5}, order_9[1] = {9}, unknown[1] = {0xFF};
+    static const uint8_t order_5[1] = {5}, order_9[1] = {9}, others_order[1] = {OTHERS_ORDER}, unknown[1] = {0xFF};
     const struct setting beyond_the_end = {3, 1, 0, 6001, MCS_PAUSED}, in_another_group = {3, 1, 3, 0, MCS_PAUSED};
     const char *title = LONG_TITLES_LINES.tracks[0].title;
     unsigned shown = 0;
@@ -117,16 +117,29 @@ unsigned show_wrong_things(struct tester *t, unsigned *seen)
     WRONG(expect_result(t, MCS_OPCODE_PLAY, MCS_RESULT_SUCCESS));
     lower_controls(t, MCS_OPCODE_PAUSE, 0);
     WRONG(expect_result(t, MCS_OPCODE_PAUSE, MCS_RESULT_NOT_COMPLETED));
-    (void)mcs_desk_subscribe(&t->desk, UPPER(t), MCS_NAME);
+    (void)mcs_desk_subscribe(&t->desk, UPPER(t), TESTED(t), MCS_NAME);
     lower_unsubscribes(t, CCCD(MCS_NAME));
     WRONG(upper_renames(t, "Desk 9"));
 
     /* At the end something is owed, or a take is refused. */
     begin(t);
-    (void)mcs_desk_set_name(&t->desk, NULL, 0);
+    (void)mcs_desk_set_name(&t->desk, TESTED(t), NULL, 0);
     WRONG(end_case(t));
-    t->desk.state[MCS_AT_ORDER] = 0;
+    t->desk.state[MCS_AT_SERVICE(TESTED(t)) + MCS_IN_ORDER] = 0;
     WRONG(end_case(t));
+
+    /* The other service is altered and nothing of it is notified; it is notified and is as it was before; its player is altered
+     * where a client disconnects. */
+    begin(t);
+    (void)mcs_desk_advance(&t->desk, OTHER(t), 1);
+    WRONG(upper_lets_pass(t, 0));
+    begin(t);
+    (void)mcs_desk_write(&t->desk, UPPER(t), OTHER(t), MCS_PLAYING_ORDER, order_5, 1);
+    (void)mcs_desk_write(&t->desk, UPPER(t), OTHER(t), MCS_PLAYING_ORDER, others_order, 1);
+    WRONG(upper_lets_pass(t, 0));
+    begin(t);
+    (void)mcs_desk_advance(&t->desk, OTHER(t), 1);
+    WRONG(lower_drops_bearer(t));
 
     /* Commands that are not ignored: the state is altered, or a result comes. */
     begin(t);

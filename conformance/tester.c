@@ -6,9 +6,9 @@
 #include <stdio.h>
 #include <string.h>
 
-const struct service SERVICE[SERVICES] = {
-    {"MCS", "Desk 4", 0x07, 0, 1, 2, 247, MCS_OPCODE_FAST_FORWARD},
-    {"GMCS", "Transcription office, ground floor", 0xC4, 3, 2, 1, 23, MCS_OPCODE_FAST_REWIND},
+const struct service SERVICE[MCS_SERVICES] = {
+    {"MCS", MCS_NAMED, "Desk 4", 0x07, 0, 1, 2, 247, MCS_OPCODE_FAST_FORWARD},
+    {"GMCS", MCS_GENERIC, "Transcription office, ground floor", 0xC4, 3, 2, 1, 23, MCS_OPCODE_FAST_REWIND},
 };
 
 const char *file_name(const char *path)
@@ -64,19 +64,37 @@ void nothing_else_came(struct tester *t)
     t->received = 0;
 }
 
-/* Takes what is owed, as long as there is room: more than that no case expects. All is the Lower Tester's, and each has at most
- * ATT_MTU - 3 octets. */
-static void receive(struct tester *t)
+/* The octets of a service in the state, and those of its player, which stand before the clients' accounts. */
+#define SERVICE_OCTETS (MCS_AT_SERVICE(1u) - MCS_AT_SERVICE(0u))
+#define PLAYER_OCTETS MCS_IN_ACCOUNT(0u)
+
+/* Keeps what the other services are, and says whether so many octets of each still are that. */
+static void keep_others(struct tester *t) { memcpy(t->beside, t->desk.state, sizeof t->beside); }
+static bool others_stand(const struct tester *t, size_t octets)
+{
+    for (uint32_t s = 0; s < MCS_SERVICES; s++) {
+        if (s != TESTED(t) && memcmp(t->beside + MCS_AT_SERVICE(s), t->desk.state + MCS_AT_SERVICE(s), octets) != 0) {
+            return false;
+        }
+    }
+    return true;
+}
+
+/* Takes what is owed, as long as there is room: more than that no case expects. All is the Lower Tester's and of the service
+ * that is tested, and each has at most ATT_MTU - 3 octets. */
+static void take_all(struct tester *t)
 {
     while (t->received < INBOX_ROOM) {
         struct notification *next = &t->inbox[t->received];
-        struct mcs_served served = {0, MCS_NOTHING, 0};
+        struct mcs_served served = {0, 0, MCS_NOTHING, 0};
         uint32_t number = mcs_desk_take(&t->desk, next->octets, sizeof next->octets, &served);
         if (!require(t, number == MCS_OK, "a take: %s", meaning(number)) || served.characteristic == MCS_NOTHING) {
             return;
         }
         require(t, served.client == LOWER(t), "%s was notified to client %u, which is subscribed to nothing",
                 called(served.characteristic), (unsigned)served.client);
+        require(t, served.service == TESTED(t), "%s was notified of service %u, and tested is %u", called(served.characteristic),
+                (unsigned)served.service, (unsigned)TESTED(t));
         require(t, served.length <= t->mtu - 3u, "%s was notified in %u octets at an ATT_MTU of %u",
                 called(served.characteristic), (unsigned)served.length, (unsigned)t->mtu);
         next->characteristic = served.characteristic;
@@ -84,6 +102,13 @@ static void receive(struct tester *t)
         next->expected = t->forgets;
         t->received++;
     }
+}
+
+/* The end of every step: document 02, W-208, "Calls to one never alter replies, state or owed values of the other". */
+static void receive(struct tester *t)
+{
+    take_all(t);
+    require(t, others_stand(t, SERVICE_OCTETS), "the service that is not tested was altered");
 }
 
 void begin_case(struct tester *t, const struct service *service, bool tell_all)
@@ -112,11 +137,61 @@ static void made(struct tester *t, const char *what, uint32_t number)
     receive(t);
 }
 
+/* Connecting and disconnecting act on the client's accounts in all services (document 02, W-208), and on no player. */
+static uint32_t linked(struct tester *t, uint32_t number)
+{
+    require(t, others_stand(t, PLAYER_OCTETS), "the player that is not tested was altered by a connection");
+    keep_others(t);
+    return number;
+}
+
 /* ---- The Upper Tester ---------------------------------------------------------------------------------------------------- */
+
+/* Start with this mask for the service that is tested. */
+static uint32_t started(struct tester *t, uint32_t mask)
+{
+    struct mcs_player players[MCS_SERVICES];
+    uint32_t number;
+    for (size_t s = 0; s < MCS_SERVICES; s++) {
+        struct mcs_player *player = &players[SERVICE[s].number];
+        player->name = (const uint8_t *)SERVICE[s].player_name;
+        player->name_len = strlen(SERVICE[s].player_name);
+        player->mask = &SERVICE[s] == t->service ? mask : 1u << opcode_place(MCS_OPCODE_PLAY);
+        player->ccid = SERVICE[s].ccid;
+    }
+    number = mcs_desk_start(&t->desk, players);
+    keep_others(t);
+    return number;
+}
+
+/* The players that are not tested play in the catalogue's last group with tracks. The Lower Tester subscribes when they are where
+ * they stay, so that nothing of them is owed. */
+static void begin_others(struct tester *t)
+{
+    static const uint8_t order = OTHERS_ORDER, speed = 0xA0, play = MCS_OPCODE_PLAY, position[4] = {77, 0, 0, 0};
+    uint32_t group = t->lines->group_count - 1u;
+    while (t->lines->groups[group].tracks == 0) {
+        group--;
+    }
+    for (uint32_t s = 0; s < MCS_SERVICES; s++) {
+        bool done = true;
+        if (s != TESTED(t)) {
+            done = mcs_desk_write(&t->desk, UPPER(t), s, MCS_PLAYING_ORDER, &order, 1) == MCS_OK &&
+                   mcs_desk_write(&t->desk, UPPER(t), s, MCS_PLAYBACK_SPEED, &speed, 1) == MCS_OK &&
+                   mcs_desk_activate(&t->desk, s, group) == MCS_OK &&
+                   mcs_desk_write(&t->desk, UPPER(t), s, MCS_POSITION, position, sizeof position) == MCS_OK &&
+                   mcs_desk_write(&t->desk, UPPER(t), s, MCS_CONTROL_POINT, &play, 1) == MCS_OK;
+            for (uint32_t bit = 0; bit < SLOTS; bit++) {
+                done = done && mcs_desk_subscribe(&t->desk, LOWER(t), s, slot_at(bit)) == MCS_OK;
+            }
+        }
+        require(t, done, "service %u does not stand beside the one that is tested", (unsigned)s);
+    }
+    keep_others(t);
+}
 
 void preamble_with(struct tester *t, const catalogue_lines *lines, uint32_t mask, uint32_t mtu)
 {
-    const char *name = t->service->player_name;
     if (t->lines != lines) {
         t->lines = lines;
         tables_of_lines(lines, &t->made);
@@ -124,9 +199,10 @@ void preamble_with(struct tester *t, const catalogue_lines *lines, uint32_t mask
     }
     t->mtu = mtu;
     memset(t->desk.state, 0xEE, sizeof t->desk.state); /* what the octets held before a start does not matter */
-    STEP(t, "start", mcs_desk_start(&t->desk, (const uint8_t *)name, strlen(name), mask, t->service->ccid));
+    STEP(t, "start", started(t, mask));
     lower_connects(t);
-    STEP(t, "connecting the panel", mcs_desk_connect(&t->desk, UPPER(t), 23, 1));
+    STEP(t, "connecting the panel", linked(t, mcs_desk_connect(&t->desk, UPPER(t), 23, 1)));
+    begin_others(t);
     lower_subscribes(t, t->cccds);
 }
 
@@ -137,32 +213,32 @@ void preamble(struct tester *t, const catalogue_lines *lines)
 
 void upper_activates(struct tester *t, uint32_t group)
 {
-    STEP(t, "activating a group", mcs_desk_activate(&t->desk, group));
+    STEP(t, "activating a group", mcs_desk_activate(&t->desk, TESTED(t), group));
 }
 
 void upper_renames(struct tester *t, const char *name)
 {
-    STEP(t, "renaming the player", mcs_desk_set_name(&t->desk, (const uint8_t *)name, strlen(name)));
+    STEP(t, "renaming the player", mcs_desk_set_name(&t->desk, TESTED(t), (const uint8_t *)name, strlen(name)));
 }
 
 void upper_lets_pass(struct tester *t, uint32_t hundredths)
 {
-    STEP(t, "letting time pass", mcs_desk_advance(&t->desk, hundredths));
+    STEP(t, "letting time pass", mcs_desk_advance(&t->desk, TESTED(t), hundredths));
 }
 
 void upper_writes(struct tester *t, uint32_t characteristic, const uint8_t *octets, size_t length)
 {
-    STEP(t, "the panel's write", mcs_desk_write(&t->desk, UPPER(t), characteristic, octets, length));
+    STEP(t, "the panel's write", mcs_desk_write(&t->desk, UPPER(t), TESTED(t), characteristic, octets, length));
 }
 
 void upper_controls(struct tester *t, uint8_t opcode) { upper_writes(t, MCS_CONTROL_POINT, &opcode, 1); }
 
 static bool is_at(const struct tester *t, struct setting setting)
 {
-    const uint8_t *state = t->desk.state;
-    return state[MCS_AT_ORDER] == setting.order && word_at(state + MCS_AT_GROUP) == setting.group &&
-           word_at(state + MCS_AT_TRACK) == setting.track && word_at(state + MCS_AT_POSITION) == setting.position &&
-           state[MCS_AT_MEDIA_STATE] == setting.state;
+    const uint8_t *player = t->desk.state + MCS_AT_SERVICE(TESTED(t));
+    return player[MCS_IN_ORDER] == setting.order && word_at(player + MCS_IN_GROUP) == setting.group &&
+           word_at(player + MCS_IN_TRACK) == setting.track && word_at(player + MCS_IN_POSITION) == setting.position &&
+           player[MCS_IN_MEDIA_STATE] == setting.state;
 }
 
 void upper_orders(struct tester *t, struct setting setting)
@@ -189,7 +265,7 @@ void upper_orders(struct tester *t, struct setting setting)
     }
     require(t, is_at(t, setting), "the player is not where it was put");
     if (then_deactivates) {
-        STEP(t, "deactivating", mcs_desk_deactivate(&t->desk));
+        STEP(t, "deactivating", mcs_desk_deactivate(&t->desk, TESTED(t)));
     }
     t->forgets = false;
 }
@@ -204,11 +280,11 @@ void upper_confirms(struct tester *t, struct setting setting)
 /* ---- The Lower Tester ---------------------------------------------------------------------------------------------------- */
 
 static void each_cccd(struct tester *t, uint32_t cccds, const char *what,
-                      uint32_t (*call)(struct mcs_desk *, uint32_t, uint32_t))
+                      uint32_t (*call)(struct mcs_desk *, uint32_t, uint32_t, uint32_t))
 {
     for (uint32_t characteristic = 0; characteristic < CHARACTERISTIC_BOUND; characteristic++) {
         if ((cccds & CCCD(characteristic)) != 0) {
-            STEP(t, what, call(&t->desk, LOWER(t), characteristic));
+            STEP(t, what, call(&t->desk, LOWER(t), TESTED(t), characteristic));
         }
     }
 }
@@ -216,12 +292,12 @@ static void each_cccd(struct tester *t, uint32_t cccds, const char *what,
 void lower_subscribes(struct tester *t, uint32_t cccds) { each_cccd(t, cccds, "subscribing", mcs_desk_subscribe); }
 void lower_unsubscribes(struct tester *t, uint32_t cccds) { each_cccd(t, cccds, "unsubscribing", mcs_desk_unsubscribe); }
 
-void lower_drops_bearer(struct tester *t) { STEP(t, "disconnecting", mcs_desk_disconnect(&t->desk, LOWER(t))); }
-void lower_connects(struct tester *t) { STEP(t, "connecting", mcs_desk_connect(&t->desk, LOWER(t), t->mtu, 1)); }
+void lower_drops_bearer(struct tester *t) { STEP(t, "disconnecting", linked(t, mcs_desk_disconnect(&t->desk, LOWER(t)))); }
+void lower_connects(struct tester *t) { STEP(t, "connecting", linked(t, mcs_desk_connect(&t->desk, LOWER(t), t->mtu, 1))); }
 
 void third_connects_unencrypted(struct tester *t)
 {
-    STEP(t, "connecting unencrypted", mcs_desk_connect(&t->desk, THIRD(t), 23, 0));
+    STEP(t, "connecting unencrypted", linked(t, mcs_desk_connect(&t->desk, THIRD(t), 23, 0)));
 }
 
 /* A number as the octets of a characteristic say it, and how many there are: document 01, "6, 7, 19 four octets; 16 two; ... the
@@ -262,7 +338,7 @@ static void expect_number(struct tester *t, const char *how, uint32_t characteri
 void expect_reads(struct tester *t, uint32_t characteristic, long long number)
 {
     uint8_t octets[MCS_OUTPUT_OCTETS] = {0};
-    uint32_t length = 0, answer = mcs_desk_read(&t->desk, LOWER(t), characteristic, 0, octets, sizeof octets, &length);
+    uint32_t length = 0, answer = mcs_desk_read(&t->desk, LOWER(t), TESTED(t), characteristic, 0, octets, sizeof octets, &length);
     if (require(t, answer == MCS_OK, "reading %s: %s", called(characteristic), meaning(answer))) {
         expect_number(t, "reads", characteristic, octets, length, number);
     }
@@ -279,7 +355,7 @@ void expect_reads_text(struct tester *t, uint32_t characteristic, const char *te
         const uint32_t rest = whole - offset;
         uint32_t answer;
         part = 0;
-        answer = mcs_desk_read(&t->desk, LOWER(t), characteristic, offset, octets, sizeof octets, &part);
+        answer = mcs_desk_read(&t->desk, LOWER(t), TESTED(t), characteristic, offset, octets, sizeof octets, &part);
         if (!require(t, answer == MCS_OK, "reading %s at %u: %s", called(characteristic), (unsigned)offset, meaning(answer)) ||
             !expect(t, part == (rest < most ? rest : most) && memcmp(octets, text + offset, part) == 0,
                     "%s at %u reads %u octets, at an ATT_MTU of %u not those of \"%s\"", called(characteristic),
@@ -292,7 +368,7 @@ void expect_reads_text(struct tester *t, uint32_t characteristic, const char *te
 
 void lower_writes(struct tester *t, uint32_t characteristic, const uint8_t *octets, size_t length)
 {
-    STEP(t, "a write", mcs_desk_write(&t->desk, LOWER(t), characteristic, octets, length));
+    STEP(t, "a write", mcs_desk_write(&t->desk, LOWER(t), TESTED(t), characteristic, octets, length));
 }
 
 void lower_writes_position(struct tester *t, int64_t position)
@@ -311,7 +387,7 @@ void lower_commands(struct tester *t, uint32_t characteristic, const uint8_t *oc
     uint32_t number;
     nothing_else_came(t);
     keep_state(t);
-    number = mcs_desk_write(&t->desk, LOWER(t), characteristic, octets, length);
+    number = mcs_desk_write(&t->desk, LOWER(t), TESTED(t), characteristic, octets, length);
     require(t, number == MCS_OK || MCS_IS_ATT_ERROR(number), "a command, a fault of the host: %s", meaning(number));
     require(t, number == MCS_OK || unaltered(t), "a command was refused and altered the state");
     receive(t);
@@ -351,18 +427,18 @@ void expect_read_refused(struct tester *t, uint32_t client, uint32_t characteris
     uint8_t octets[MCS_OUTPUT_OCTETS];
     uint32_t length;
     REFUSED(t, "a read", characteristic, number,
-            mcs_desk_read(&t->desk, client, characteristic, offset, octets, sizeof octets, &length));
+            mcs_desk_read(&t->desk, client, TESTED(t), characteristic, offset, octets, sizeof octets, &length));
 }
 
 void expect_write_refused(struct tester *t, uint32_t client, uint32_t characteristic, const uint8_t *octets, size_t length,
                           uint32_t number)
 {
-    REFUSED(t, "a write", characteristic, number, mcs_desk_write(&t->desk, client, characteristic, octets, length));
+    REFUSED(t, "a write", characteristic, number, mcs_desk_write(&t->desk, client, TESTED(t), characteristic, octets, length));
 }
 
 void expect_subscription_refused(struct tester *t, uint32_t client, uint32_t characteristic, uint32_t number)
 {
-    REFUSED(t, "a subscription", characteristic, number, mcs_desk_subscribe(&t->desk, client, characteristic));
+    REFUSED(t, "a subscription", characteristic, number, mcs_desk_subscribe(&t->desk, client, TESTED(t), characteristic));
 }
 
 /* The first of this characteristic that no expectation has met yet. */
@@ -476,7 +552,7 @@ void expect_repositioned(struct tester *t, uint32_t from, uint32_t to)
 
 uint32_t expect_time_passing(struct tester *t, uint32_t position, uint32_t hundredths)
 {
-    const int64_t end = t->lines->tracks[word_at(t->desk.state + MCS_AT_TRACK)].duration;
+    const int64_t end = t->lines->tracks[word_at(t->desk.state + MCS_AT_SERVICE(TESTED(t)) + MCS_IN_TRACK)].duration;
     int64_t to = position;
     if (hundredths == 0) {
         return position;

@@ -26,10 +26,16 @@ extern const catalogue_lines LONG_TITLES_LINES; /* two groups of one track, each
 
 /* ---- The tester ---------------------------------------------------------------------------------------------------------- */
 
-/* The suite's two services differ in their UUID alone (3.2), which is the host's: the core is the same, started anew as each.
- * So that the second run is not the first once more, each has its own name, CCID, client numbers, ATT_MTU and way of seeking. */
+/* The suite's two services differ in their UUID alone (3.2), which is the host's. The core has both on one desk, and each case
+ * is run on each of them. So that the second run is not the first once more, each has its own name, CCID, client numbers,
+ * ATT_MTU and way of seeking.
+ *
+ * While a case is run on one service, the other stands beside it: its player plays, at a position and a speed that no case asks
+ * for, and supports Play alone; the Lower Tester is subscribed to all of its slots. After every step its octets in the state have
+ * to be what they were before, and nothing of it may have been notified. */
 struct service {
     const char *tcid; /* the front of its cases' TCIDs */
+    uint32_t number;  /* among the services of the core */
     const char *player_name;
     uint8_t ccid;
     uint32_t lower_client;
@@ -39,8 +45,7 @@ struct service {
     uint8_t seeks_by; /* the opcode by which the Upper Tester brings the player into Seeking */
 };
 
-enum { SERVICES = 2 };
-extern const struct service SERVICE[SERVICES];
+extern const struct service SERVICE[MCS_SERVICES];
 
 #define INBOX_ROOM 32u
 
@@ -59,6 +64,7 @@ struct tester {
     tables made;
     struct mcs_desk desk;
     uint8_t before[MCS_STATE_OCTETS]; /* the state before a call that the core may refuse */
+    uint8_t beside[MCS_STATE_OCTETS]; /* a state in which the other service's octets are what they have to be */
     uint32_t mtu;
     uint8_t seeks_by;
 
@@ -73,6 +79,10 @@ struct tester {
     bool tell_all; /* every failure on standard error */
 };
 
+/* The service that is tested, and one that is not; the playing order of that one's player. */
+#define TESTED(t) ((t)->service->number)
+#define OTHER(t) ((TESTED(t) + 1u) % MCS_SERVICES)
+#define OTHERS_ORDER 8u
 #define LOWER(t) ((t)->service->lower_client)
 #define UPPER(t) ((t)->service->upper_client)
 #define THIRD(t) ((t)->service->third_client)
@@ -99,7 +109,8 @@ bool require(struct tester *t, bool holds, const char *format, ...);
 /* ---- The Upper Tester ---------------------------------------------------------------------------------------------------- */
 
 /* The preambles 4.2.1 to 4.2.5 and the initial condition's subscriptions: a core freshly started, the Lower Tester and the panel
- * connected, both encrypted. Handles are the numbers of the characteristics; bonding is the host's. */
+ * connected, both encrypted. Handles are the numbers of the characteristics in the service that is tested, which has the mask;
+ * bonding is the host's. */
 void preamble(struct tester *t, const catalogue_lines *lines);
 void preamble_with(struct tester *t, const catalogue_lines *lines, uint32_t mask, uint32_t mtu);
 

@@ -1,28 +1,47 @@
 #include "books.h"
 
 #include <stdio.h>
+#include <string.h>
 
 #include "devices.h"
 #include "lines.h"
 
 #define MOST_OPEN 64u
 
+/* A device at a player. */
 typedef struct {
     open_press open[MOST_OPEN]; /* oldest first */
     uint32_t open_count;
     uint32_t pressed, refused, unasked, results, dropped, missing, told;
     uint32_t wrong; /* results that were not those of the device's oldest press */
+    int knows[CHARACTERISTIC_BOUND];
+    known_value known[CHARACTERISTIC_BOUND];
 } page;
 
-static page pages[MCS_CLIENTS];
+static page pages[MCS_CLIENTS][MCS_SERVICES];
 
-uint32_t book_press(uint32_t who, uint8_t opcode, int accepted)
+/* What is counted of all together, and how often it was wrong. */
+typedef struct {
+    uint32_t all, wrong;
+} tally;
+static tally calls, takes, agreements;
+
+static int count(tally *t, int right)
 {
-    page *p = &pages[who];
+    t->all += 1u;
+    t->wrong += right ? 0u : 1u;
+    return right;
+}
+
+/* ---- Presses and results */
+
+uint32_t book_press(uint32_t who, uint32_t service, uint8_t opcode, int accepted)
+{
+    page *p = &pages[who][service];
     p->pressed += 1u;
     if (!accepted) {
         p->refused += 1u;
-    } else if (!wants(who, MCS_CONTROL_POINT)) {
+    } else if (!wants(who, service, MCS_CONTROL_POINT)) {
         p->unasked += 1u;
     } else if (p->open_count == MOST_OPEN) {
         p->missing += 1u; /* the desk took more presses than it keeps results */
@@ -34,15 +53,15 @@ uint32_t book_press(uint32_t who, uint8_t opcode, int accepted)
     return p->pressed;
 }
 
-open_press oldest_press(uint32_t who)
+open_press oldest_press(uint32_t who, uint32_t service)
 {
     static const open_press NONE = {0, 0};
-    return pages[who].open_count > 0 ? pages[who].open[0] : NONE;
+    return pages[who][service].open_count > 0 ? pages[who][service].open[0] : NONE;
 }
 
-int book_result(uint32_t who, uint8_t opcode)
+int book_result(uint32_t who, uint32_t service, uint8_t opcode)
 {
-    page *p = &pages[who];
+    page *p = &pages[who][service];
     uint32_t k;
     p->results += 1u;
     if (p->open_count == 0 || p->open[0].opcode != opcode) {
@@ -56,48 +75,135 @@ int book_result(uint32_t who, uint8_t opcode)
     return 1;
 }
 
-void book_told(uint32_t who) { pages[who].told += 1u; }
+/* ---- What is known */
 
-void book_leave(uint32_t who, uint32_t held)
+void book_value(uint32_t who, uint32_t service, uint32_t characteristic, const uint8_t *octets, uint32_t length)
 {
-    page *p = &pages[who];
-    /* What the desk held is dropped, as it should be. A result that it did not hold got lost before. */
-    p->dropped += held;
-    p->missing += p->open_count > held ? p->open_count - held : 0;
-    p->open_count = 0;
+    known_value *known = &pages[who][service].known[characteristic];
+    pages[who][service].knows[characteristic] = 1;
+    known->length = length;
+    memcpy(known->octets, octets, length);
+}
+
+const known_value *value_known(uint32_t who, uint32_t service, uint32_t characteristic)
+{
+    const page *p = &pages[who][service];
+    return p->knows[characteristic] ? &p->known[characteristic] : NULL;
+}
+
+int book_agreement(int agrees) { return count(&agreements, agrees); }
+
+/* ---- Coming and going, and the round of the takes */
+
+/* The device that was served last, and of each the place: after start the round begins with device 0, and when a device comes,
+ * with the lowest slot of the generic player. */
+static uint32_t turn = MCS_CLIENTS - 1u;
+static uint32_t mark[MCS_CLIENTS];
+
+void book_join(uint32_t who) { mark[who] = PLACES - 1u; }
+
+void book_leave(uint32_t who, const uint32_t held[MCS_SERVICES])
+{
+    uint32_t service;
+    for (service = 0; service < MCS_SERVICES; service++) {
+        page *p = &pages[who][service];
+        /* What the desk held is dropped, as it should be. A result that it did not hold got lost before. */
+        p->dropped += held[service];
+        p->missing += p->open_count > held[service] ? p->open_count - held[service] : 0;
+        p->open_count = 0;
+        memset(p->knows, 0, sizeof p->knows);
+    }
+}
+
+/* The first bit of a set behind a place, round so many; the place itself where there is none. */
+static uint32_t next_after(uint32_t set, uint32_t place, uint32_t round)
+{
+    uint32_t next = (place + 1u) % round;
+    while (next != place && (set >> next & 1u) == 0) {
+        next = (next + 1u) % round;
+    }
+    return next;
+}
+
+int book_take(const uint32_t owed[MCS_CLIENTS], uint32_t who, uint32_t place, int left_alone)
+{
+    uint32_t k, waiting = 0;
+    int right;
+    for (k = 0; k < MCS_CLIENTS; k++) {
+        waiting |= owed[k] != 0 ? 1u << k : 0;
+    }
+    right = (owed[who] >> place & 1u) != 0 && who == next_after(waiting, turn, MCS_CLIENTS) &&
+            place == next_after(owed[who], mark[who], PLACES);
+    turn = who;
+    mark[who] = place;
+    pages[who][place / SLOTS].told += 1u;
+    return count(&takes, right && left_alone);
+}
+
+int book_call(int left_alone) { return count(&calls, left_alone); }
+
+/* ---- At the end of the day */
+
+/* A line on what was counted of all together. How often it was wrong. */
+static uint32_t print_tally(const char *what, const tally *t, const char *right)
+{
+    printf("%u %s: ", t->all, what);
+    if (t->wrong > 0) {
+        printf("%u WENT WRONG\n", t->wrong);
+    } else {
+        printf("%s\n", right);
+    }
+    return t->wrong;
+}
+
+static uint32_t print_page(uint32_t who, uint32_t service)
+{
+    const page *p = &pages[who][service];
+    /* Nothing is owed by now: a press without its result is as wrong as a result without its press. */
+    uint32_t missing = p->missing + p->open_count;
+    print_device(who, 14);
+    print_player(service, 9);
+    printf("%9u%9u%11u%9u%9u%9u%13u", p->pressed, p->refused, p->unasked, p->results, p->dropped, missing, p->told);
+    if (p->wrong + missing > 0) {
+        paint(RED);
+        printf("  WRONG");
+    } else if (p->results > 0) {
+        printf("  own presses, in order");
+    }
+    end_line();
+    return p->wrong + missing;
 }
 
 int print_books(void)
 {
-    uint32_t who, pressed = 0, results = 0, dropped = 0, faults = 0;
+    uint32_t who, service, pressed = 0, results = 0, dropped = 0, wrong = 0, others;
     putchar('\n');
     paint(BOLD);
-    printf("%-14s%9s%9s%11s%9s%9s%9s%13s", "The books", "pressed", "refused", "not asked", "results", "dropped", "missing",
-           "told in all");
+    printf("%-14s%-9s%9s%9s%11s%9s%9s%9s%13s", "The books", "player", "pressed", "refused", "not asked", "results", "dropped",
+           "missing", "told in all");
     end_line();
     for (who = 0; who < MCS_CLIENTS; who++) {
-        const page *p = &pages[who];
-        /* Nothing is owed by now: a press without its result is as wrong as a result without its press. */
-        uint32_t missing = p->missing + p->open_count;
-        print_device(who, 14);
-        printf("%9u%9u%11u%9u%9u%9u%13u", p->pressed, p->refused, p->unasked, p->results, p->dropped, missing, p->told);
-        if (p->wrong + missing > 0) {
-            paint(RED);
-            printf("  WRONG");
-        } else if (p->results > 0) {
-            printf("  own presses, in order");
+        for (service = 0; service < MCS_SERVICES; service++) {
+            const page *p = &pages[who][service];
+            if (follows(who, service) || p->pressed + p->results + p->told > 0) {
+                wrong += print_page(who, service);
+            }
+            pressed += p->pressed;
+            results += p->results;
+            dropped += p->dropped;
         }
-        end_line();
-        pressed += p->pressed;
-        results += p->results;
-        dropped += p->dropped;
-        faults += p->wrong + missing;
     }
-    printf("\n%u presses, %u results: ", pressed, results);
-    if (faults > 0) {
-        printf("%u WENT WRONG\n", faults);
-        return 0;
+    putchar('\n');
+    others = print_tally("calls to one player", &calls, "the other, and what it owed, was the same after each");
+    others += print_tally("takes", &takes, "each to the device and of the slot whose turn it was, through both players");
+    others += print_tally("values compared when nothing was owed", &agreements, "each device agreed with the player it follows");
+    printf("%u presses, %u results: ", pressed, results);
+    if (wrong > 0) {
+        printf("%u WENT WRONG\n", wrong);
+    } else {
+        printf("each went to the device that pressed, from the player where it pressed, in the order of its presses; "
+               "%u dropped with a connection\n",
+               dropped);
     }
-    printf("each went to the device that pressed, in the order of its presses; %u dropped with a connection\n", dropped);
-    return 1;
+    return wrong + others == 0;
 }

@@ -1,31 +1,52 @@
-/* The books: what each device pressed and was told, kept apart from the desk, and held against what the desk hands out. */
+/* The books: what each device pressed and was told at each player, kept apart from the desk, and held against what the desk hands
+ * out. */
 #ifndef BOOKS_H
 #define BOOKS_H
 
 #include <stdint.h>
 
-/* A press whose result is still to come. Presses are counted for each device from 1; no press has the number 0. */
+#include "service.h"
+
+/* A press whose result is still to come. Presses are counted for each device and player from 1; no press has the number 0. */
 typedef struct {
     uint32_t number;
     uint8_t opcode;
 } open_press;
 
 /* A press, accepted or refused. Its number. */
-uint32_t book_press(uint32_t who, uint8_t opcode, int accepted);
+uint32_t book_press(uint32_t who, uint32_t service, uint8_t opcode, int accepted);
 
-/* The oldest press of a device whose result is still to come. */
-open_press oldest_press(uint32_t who);
+/* The oldest press of a device at a player whose result is still to come. */
+open_press oldest_press(uint32_t who, uint32_t service);
 
-/* A result is handed to a device. Whether it is that of its oldest press, which it then answers. */
-int book_result(uint32_t who, uint8_t opcode);
+/* A result of a player is handed to a device. Whether it is that of its oldest press there, which it then answers. */
+int book_result(uint32_t who, uint32_t service, uint8_t opcode);
 
-/* Anything is handed to a device. */
-void book_told(uint32_t who);
+/* What a device knows of a slot of a player: what it was when the device subscribed, was told since, or has itself written. */
+typedef struct {
+    uint32_t length;
+    uint8_t octets[MCS_OUTPUT_OCTETS];
+} known_value;
+void book_value(uint32_t who, uint32_t service, uint32_t characteristic, const uint8_t *octets, uint32_t length);
 
-/* A device goes, for which the desk held so many results. */
-void book_leave(uint32_t who, uint32_t held);
+/* Null where it knows none. */
+const known_value *value_known(uint32_t who, uint32_t service, uint32_t characteristic);
 
-/* Prints the books. Whether every result went to the device that pressed, in the order of its presses, and none is missing. */
+/* A device comes; and it goes, and of each player the desk held so many results for it. */
+void book_join(uint32_t who);
+void book_leave(uint32_t who, const uint32_t held[MCS_SERVICES]);
+
+/* A take. Before it these places were owed to each device: bit SLOTS * service + slot. Whether it served the one whose turn it
+ * was, and left alone the player that it was not of. */
+int book_take(const uint32_t owed[MCS_CLIENTS], uint32_t who, uint32_t place, int left_alone);
+
+/* A call to one player, and whether it left the other alone. A value that a device knows, and whether its player has that value.
+ * Each hands back what it was told. */
+int book_call(int left_alone);
+int book_agreement(int agrees);
+
+/* Prints the books. Whether every result went to the device that pressed, at its player, in the order of its presses, and none is
+ * missing; every take was in turn; every call left the other player alone; and every device agreed with its players. */
 int print_books(void);
 
 #endif

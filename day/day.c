@@ -1,8 +1,10 @@
-/* An office's day on a card: four devices on one desk, and a person sees each result go to the pedal that asked.
+/* An office's day on a card: four devices on one desk with two players, the generic one and a named one, over the same tables.
+ * The pedals are at the generic player, the screen at the named one, and the headset at both. A person sees each result go to
+ * the device that asked, and a press at one player leave the other alone.
  *
  *     day [CARD]      the card's file; without one, the sample card
  *
- * Exit status 0, or 1 where the card is refused or a result went to the wrong device or out of order.
+ * Exit status 0, or 1 where the card is refused, or where the books say that something went wrong (books.h).
  */
 #define _POSIX_C_SOURCE 200809L /* isatty */
 
@@ -11,7 +13,6 @@
 #include <unistd.h>
 
 #include "books.h"
-#include "devices.h"
 #include "file.h"
 #include "lines.h"
 #include "office.h"
@@ -22,36 +23,60 @@
 
 #define NO_OPCODE 0x7Fu /* one that the standard does not have */
 
-static void morning(uint32_t group)
+static void morning(uint32_t first, uint32_t last)
 {
-    print_heading("Eight o'clock: left pedal, headset and screen are switched on, and the desk opens the first group with tracks");
+    print_heading("Eight o'clock: left pedal, headset and screen are switched on, and the desk opens a group at each player");
     join(LEFT_PEDAL);
     join(HEADSET);
     join(SCREEN);
-    open_group(group);
+    open_group(GENERIC, first);
+    open_group(NAMED, last);
     tell_all();
-    read_long(SCREEN, MCS_TITLE);
+    read_long(SCREEN, NAMED, MCS_TITLE);
 
-    print_heading("The typist at the left pedal begins");
-    press(LEFT_PEDAL, MCS_OPCODE_PLAY);
+    print_heading("The typist at the left pedal begins; the screen is at the other player, and hears nothing of it");
+    press(LEFT_PEDAL, GENERIC, MCS_OPCODE_PLAY);
     tell_all();
-    let_pass(track_end() / 3u);
+    let_pass(GENERIC, track_end(GENERIC) / 3u);
     tell_all();
-    press(LEFT_PEDAL, MCS_OPCODE_PREVIOUS_SEGMENT);
+    press(LEFT_PEDAL, GENERIC, MCS_OPCODE_PREVIOUS_SEGMENT);
     tell_all();
 
     print_heading("The tape runs on, and a second press within three seconds leads to the segment before");
-    let_pass(100);
-    press(LEFT_PEDAL, MCS_OPCODE_PREVIOUS_SEGMENT);
+    let_pass(GENERIC, 100);
+    press(LEFT_PEDAL, GENERIC, MCS_OPCODE_PREVIOUS_SEGMENT);
     tell_all();
 
     print_heading("On with it");
-    press(LEFT_PEDAL, MCS_OPCODE_FAST_FORWARD);
-    press(LEFT_PEDAL, MCS_OPCODE_FAST_FORWARD);
+    press(LEFT_PEDAL, GENERIC, MCS_OPCODE_FAST_FORWARD);
+    press(LEFT_PEDAL, GENERIC, MCS_OPCODE_FAST_FORWARD);
     tell_all();
-    let_pass(track_end() / 16u);
-    press(LEFT_PEDAL, MCS_OPCODE_PAUSE);
+    let_pass(GENERIC, track_end(GENERIC) / 16u);
+    press(LEFT_PEDAL, GENERIC, MCS_OPCODE_PAUSE);
     tell_all();
+}
+
+static void both_players(void)
+{
+    print_heading("Nine o'clock: at the screen someone reads along; the typist's player stays where it is");
+    show_player(GENERIC);
+    press(SCREEN, NAMED, MCS_OPCODE_FIRST_GROUP);
+    press(SCREEN, NAMED, MCS_OPCODE_PLAY);
+    let_pass(NAMED, track_end(NAMED) / 4u);
+    show_player(GENERIC);
+    tell_all();
+
+    print_heading("The headset asks both players; its round goes on where it stopped, through generic and named");
+    press(HEADSET, NAMED, MCS_OPCODE_PAUSE);
+    press(HEADSET, GENERIC, MCS_OPCODE_PLAY);
+    press(HEADSET, NAMED, MCS_OPCODE_FIRST_SEGMENT);
+    press(HEADSET, GENERIC, MCS_OPCODE_PAUSE);
+    tell_all();
+
+    print_heading("The reading room's player is given another name, of which the screen shows what a notification holds");
+    rename_player(NAMED, "Reading room on the second floor, window side");
+    tell_all();
+    read_long(SCREEN, NAMED, MCS_NAME);
 }
 
 /* Results of two pedals wait at once: the case in which they once went to the neighbour. */
@@ -59,19 +84,19 @@ static void second_pedal(void)
 {
     print_heading("Ten o'clock: a second pedal joins, and both press before the desk comes to tell anyone");
     join(RIGHT_PEDAL);
-    press(LEFT_PEDAL, MCS_OPCODE_PLAY);
-    press(RIGHT_PEDAL, MCS_OPCODE_NEXT_SEGMENT);
-    press(LEFT_PEDAL, MCS_OPCODE_PREVIOUS_SEGMENT);
-    press_with(RIGHT_PEDAL, MCS_OPCODE_MOVE_RELATIVE, 250);
-    press(LEFT_PEDAL, MCS_OPCODE_PAUSE);
-    press_with(RIGHT_PEDAL, MCS_OPCODE_GOTO_SEGMENT, 2);
+    press(LEFT_PEDAL, GENERIC, MCS_OPCODE_PLAY);
+    press(RIGHT_PEDAL, GENERIC, MCS_OPCODE_NEXT_SEGMENT);
+    press(LEFT_PEDAL, GENERIC, MCS_OPCODE_PREVIOUS_SEGMENT);
+    press_with(RIGHT_PEDAL, GENERIC, MCS_OPCODE_MOVE_RELATIVE, 250);
+    press(LEFT_PEDAL, GENERIC, MCS_OPCODE_PAUSE);
+    press_with(RIGHT_PEDAL, GENERIC, MCS_OPCODE_GOTO_SEGMENT, 2);
     tell_all();
 
     print_heading("Left asks for the next track, right for the one before");
-    press(LEFT_PEDAL, MCS_OPCODE_NEXT_TRACK);
-    press(RIGHT_PEDAL, MCS_OPCODE_PREVIOUS_TRACK);
-    press(LEFT_PEDAL, MCS_OPCODE_PLAY);
-    press(RIGHT_PEDAL, MCS_OPCODE_FIRST_SEGMENT);
+    press(LEFT_PEDAL, GENERIC, MCS_OPCODE_NEXT_TRACK);
+    press(RIGHT_PEDAL, GENERIC, MCS_OPCODE_PREVIOUS_TRACK);
+    press(LEFT_PEDAL, GENERIC, MCS_OPCODE_PLAY);
+    press(RIGHT_PEDAL, GENERIC, MCS_OPCODE_FIRST_SEGMENT);
     tell_all();
 }
 
@@ -79,79 +104,107 @@ static void headset_and_screen(void)
 {
     uint32_t part;
 
-    print_heading("The headset sets order and speed: the others are told, it is not");
-    set_order(HEADSET, 6);
-    set_speed(HEADSET, -32);
+    print_heading("The headset sets order and speed: the others at that player are told, it is not");
+    set_order(HEADSET, GENERIC, 6);
+    set_speed(HEADSET, GENERIC, -32);
+    set_order(HEADSET, NAMED, 4);
     tell_all();
-    press_with(RIGHT_PEDAL, MCS_OPCODE_GOTO_TRACK, -1);
-    press(HEADSET, MCS_OPCODE_NEXT_TRACK);
+    press_with(RIGHT_PEDAL, GENERIC, MCS_OPCODE_GOTO_TRACK, -1);
+    press(HEADSET, GENERIC, MCS_OPCODE_NEXT_TRACK);
     tell_all();
-    set_order(HEADSET, 3);
-    press_with(LEFT_PEDAL, MCS_OPCODE_GOTO_TRACK, 1000);
-    tell_all();
-
-    print_heading("The screen reads a title in parts; a pedal moves on between two of them");
-    press(RIGHT_PEDAL, MCS_OPCODE_FIRST_TRACK);
-    tell_all();
-    part = read_part(SCREEN, MCS_TITLE, 0);
-    press(LEFT_PEDAL, MCS_OPCODE_NEXT_TRACK);
-    read_part(SCREEN, MCS_TITLE, part);
-    read_long(SCREEN, MCS_TITLE);
+    set_order(HEADSET, GENERIC, 3);
+    press_with(LEFT_PEDAL, GENERIC, MCS_OPCODE_GOTO_TRACK, 1000);
     tell_all();
 
-    print_heading("The screen writes the position, counted from the end; the pedals go through the groups");
-    set_position(SCREEN, -100);
+    print_heading("The screen reads a title in parts: a track more at the generic player is nothing to it, one at its own is");
+    press(RIGHT_PEDAL, GENERIC, MCS_OPCODE_FIRST_TRACK);
+    press(HEADSET, NAMED, MCS_OPCODE_FIRST_TRACK);
     tell_all();
-    press(RIGHT_PEDAL, MCS_OPCODE_NEXT_GROUP);
-    press(LEFT_PEDAL, MCS_OPCODE_FIRST_GROUP);
-    press(HEADSET, MCS_OPCODE_LAST_GROUP);
+    part = read_part(SCREEN, NAMED, MCS_TITLE, 0);
+    press(LEFT_PEDAL, GENERIC, MCS_OPCODE_NEXT_TRACK);
+    read_part(SCREEN, NAMED, MCS_TITLE, part);
+    press(HEADSET, NAMED, MCS_OPCODE_NEXT_TRACK);
+    read_part(SCREEN, NAMED, MCS_TITLE, part);
+    read_long(SCREEN, NAMED, MCS_TITLE);
+    tell_all();
+
+    print_heading("The screen writes the position, counted from the end; the pedals go through the groups of the other player");
+    set_position(SCREEN, NAMED, -100);
+    tell_all();
+    press(RIGHT_PEDAL, GENERIC, MCS_OPCODE_NEXT_GROUP);
+    press(LEFT_PEDAL, GENERIC, MCS_OPCODE_FIRST_GROUP);
+    press(HEADSET, GENERIC, MCS_OPCODE_LAST_GROUP);
+    show_player(NAMED);
     tell_all();
 }
 
 static void noon(void)
 {
-    static const uint8_t MANY[8] = {MCS_OPCODE_PLAY, MCS_OPCODE_NEXT_SEGMENT, MCS_OPCODE_PAUSE, MCS_OPCODE_PREVIOUS_SEGMENT, MCS_OPCODE_FAST_REWIND, MCS_OPCODE_FIRST_SEGMENT, MCS_OPCODE_STOP, MCS_OPCODE_LAST_SEGMENT};
+    static const uint8_t MANY[8] = {
+        MCS_OPCODE_PLAY,        MCS_OPCODE_NEXT_SEGMENT,  MCS_OPCODE_PAUSE, MCS_OPCODE_PREVIOUS_SEGMENT,
+        MCS_OPCODE_FAST_REWIND, MCS_OPCODE_FIRST_SEGMENT, MCS_OPCODE_STOP,  MCS_OPCODE_LAST_SEGMENT,
+    };
     uint32_t k;
 
-    print_heading("Noon: left presses nine times with no one told, and the ninth finds eight results waiting; right presses too");
+    print_heading("Noon: the headset presses nine times with no one told; the ninth finds eight results waiting, at that player");
     for (k = 0; k < 8u; k++) {
-        press(LEFT_PEDAL, MANY[k]);
+        press(HEADSET, GENERIC, MANY[k]);
     }
-    press(LEFT_PEDAL, MCS_OPCODE_PLAY);
-    press(RIGHT_PEDAL, MCS_OPCODE_NEXT_TRACK);
-    press_with(RIGHT_PEDAL, MCS_OPCODE_GOTO_TRACK, 0);
+    press(HEADSET, GENERIC, MCS_OPCODE_PLAY);
+    press(HEADSET, NAMED, MCS_OPCODE_PLAY);
+    press(RIGHT_PEDAL, GENERIC, MCS_OPCODE_NEXT_TRACK);
+    press_with(RIGHT_PEDAL, GENERIC, MCS_OPCODE_GOTO_TRACK, 0);
     tell_all();
 }
 
 static void afternoon(void)
 {
-    print_heading("The left pedal goes off with two results waiting, and comes back: what it is told then is of its new presses alone");
-    press(LEFT_PEDAL, MCS_OPCODE_PLAY);
-    press(RIGHT_PEDAL, MCS_OPCODE_PAUSE);
-    press(LEFT_PEDAL, MCS_OPCODE_NEXT_SEGMENT);
+    print_heading("Left pedal and headset go off with results waiting, and come back: they are told of new presses alone");
+    press(LEFT_PEDAL, GENERIC, MCS_OPCODE_PLAY);
+    press(RIGHT_PEDAL, GENERIC, MCS_OPCODE_PAUSE);
+    press(LEFT_PEDAL, GENERIC, MCS_OPCODE_NEXT_SEGMENT);
+    press(HEADSET, GENERIC, MCS_OPCODE_STOP);
+    press(HEADSET, NAMED, MCS_OPCODE_PAUSE);
+    press(HEADSET, NAMED, MCS_OPCODE_PLAY);
     leave(LEFT_PEDAL);
+    leave(HEADSET);
     join(LEFT_PEDAL);
-    press(LEFT_PEDAL, MCS_OPCODE_FAST_FORWARD);
+    join(HEADSET);
+    press(LEFT_PEDAL, GENERIC, MCS_OPCODE_FAST_FORWARD);
+    press(HEADSET, NAMED, MCS_OPCODE_FAST_REWIND);
     tell_all();
 
     print_heading("An opcode that there is not, and a press by the screen, which has not asked for results");
-    press(RIGHT_PEDAL, NO_OPCODE);
-    press(SCREEN, MCS_OPCODE_STOP);
+    press(RIGHT_PEDAL, GENERIC, NO_OPCODE);
+    press(SCREEN, NAMED, MCS_OPCODE_STOP);
     tell_all();
 
-    print_heading("The tape runs to the end of its track");
-    press(RIGHT_PEDAL, MCS_OPCODE_PLAY);
+    print_heading("The tape runs to the end of its track, at one player and then at the other");
+    press(RIGHT_PEDAL, GENERIC, MCS_OPCODE_PLAY);
+    press(SCREEN, NAMED, MCS_OPCODE_PLAY);
     tell_all();
-    let_pass(track_end());
+    let_pass(GENERIC, track_end(GENERIC));
+    tell_all();
+    let_pass(NAMED, track_end(NAMED));
     tell_all();
 }
 
 static void evening(void)
 {
-    print_heading("Six o'clock: the desk closes the group, and a pedal presses once more");
-    close_group();
-    press(RIGHT_PEDAL, MCS_OPCODE_PLAY);
-    press(LEFT_PEDAL, MCS_OPCODE_NEXT_TRACK);
+    print_heading("Half past five: nothing is owed any more, and what each device knows of its player is what the player has");
+    set_order(SCREEN, NAMED, 5);
+    set_speed(SCREEN, NAMED, 32);
+    press(SCREEN, NAMED, MCS_OPCODE_LAST_TRACK);
+    press(LEFT_PEDAL, GENERIC, MCS_OPCODE_FAST_FORWARD);
+    tell_all();
+    show_agreement();
+
+    print_heading("Six o'clock: the desk closes a group at each player, and a device presses once more at each");
+    close_group(GENERIC);
+    close_group(NAMED);
+    press(RIGHT_PEDAL, GENERIC, MCS_OPCODE_PLAY);
+    press(LEFT_PEDAL, GENERIC, MCS_OPCODE_NEXT_TRACK);
+    press(HEADSET, NAMED, MCS_OPCODE_PLAY);
     tell_all();
     leave(LEFT_PEDAL);
     leave(RIGHT_PEDAL);
@@ -159,14 +212,19 @@ static void evening(void)
     leave(SCREEN);
 }
 
-/* The first group with tracks, or the number of groups where there is none. */
-static uint32_t first_group_with_tracks(const struct mcs_catalogue *c, uint32_t groups)
+/* The first and the last group with tracks. Whether there is one. */
+static int groups_with_tracks(const struct mcs_catalogue *c, uint32_t groups, uint32_t *first, uint32_t *last)
 {
-    uint32_t g = 0;
-    while (g < groups && c->groups[MCS_GROUP_WORDS * g + TRACK_COUNT] == 0) {
-        g++;
+    uint32_t g;
+    int found = 0;
+    for (g = 0; g < groups; g++) {
+        if (c->groups[MCS_GROUP_WORDS * g + TRACK_COUNT] != 0) {
+            *first = found ? *first : g;
+            *last = g;
+            found = 1;
+        }
     }
-    return g;
+    return found;
 }
 
 int main(int count, char **words)
@@ -177,7 +235,7 @@ int main(int count, char **words)
     struct mcs_room room = whole_room(&loaded);
     struct mcs_catalogue c;
     struct mcs_place place;
-    uint32_t number, block = 0, groups, group;
+    uint32_t number, block = 0, groups, first = 0, last = 0;
     size_t len;
 
     if (isatty(STDOUT_FILENO) && getenv("NO_COLOR") == NULL) {
@@ -202,13 +260,13 @@ int main(int count, char **words)
     groups = (uint32_t)c.groups_len / MCS_GROUP_WORDS;
     printf("Card: %u groups, %u tracks, %u segments, %u octets of text\n", groups, (uint32_t)c.tracks_len / MCS_TRACK_WORDS,
            (uint32_t)c.segments_len, (uint32_t)c.text_len);
-    group = first_group_with_tracks(&c, groups);
-    if (group == groups) {
+    if (!groups_with_tracks(&c, groups, &first, &last)) {
         printf("No group of the card has tracks: there is nothing to play.\n");
         return 0;
     }
     introduce();
-    morning(group);
+    morning(first, last);
+    both_players();
     second_pedal();
     headset_and_screen();
     noon();

@@ -2,9 +2,8 @@
 
 #include <stdio.h>
 
-#include "devices.h"
-
-#define LABEL_WIDTH 11
+#define WHAT_WIDTH 9
+#define PLAYER_WIDTH 9
 #define COLUMN_WIDTH 24
 
 static int colours;
@@ -18,16 +17,17 @@ void paint(const char *colour)
     }
 }
 
-void begin_desk_line(const char *label)
+void begin_desk_line(const char *what, uint32_t service)
 {
     paint(FAINT);
-    printf("  %-*s", LABEL_WIDTH, label);
+    printf("  %-*s", WHAT_WIDTH, what);
+    print_player(service, PLAYER_WIDTH);
     paint(PLAIN);
 }
 
-void begin_line(const char *label, uint32_t who)
+void begin_line(const char *what, uint32_t service, uint32_t who)
 {
-    begin_desk_line(label);
+    begin_desk_line(what, service);
     printf("%*s", (int)who * COLUMN_WIDTH, "");
     paint(DEVICES[who].colour);
 }
@@ -45,6 +45,8 @@ void print_device(uint32_t who, int width)
     paint(PLAIN);
 }
 
+void print_player(uint32_t service, int width) { printf("%-*s", width, service == NO_PLAYER ? "" : PLAYERS[service].word); }
+
 void print_heading(const char *title)
 {
     uint32_t who;
@@ -52,7 +54,7 @@ void print_heading(const char *title)
     paint(BOLD);
     printf("%s", title);
     end_line();
-    begin_desk_line("");
+    begin_desk_line("", NO_PLAYER);
     for (who = 0; who < MCS_CLIENTS; who++) {
         print_device(who, who + 1u < MCS_CLIENTS ? COLUMN_WIDTH : 0);
     }

@@ -1,8 +1,11 @@
-/* Lines of the output. Each device has its own column, so that the eye follows who pressed and who was told. */
+/* Lines of the output. Each says what is done and at which player; then each device has its own column, so that the eye follows
+ * who pressed and who was told. */
 #ifndef LINES_H
 #define LINES_H
 
 #include <stdint.h>
+
+#include "devices.h"
 
 #define BOLD "\x1B[1m"
 #define FAINT "\x1B[2m"
@@ -13,15 +16,17 @@
 void use_colours(void);
 void paint(const char *colour);
 
-/* A line that begins in the column of a device, and one of the desk's own. */
-void begin_line(const char *label, uint32_t who);
-void begin_desk_line(const char *label);
+/* A line of the desk's own, and one that begins in the column of a device; at a player, or at none (NO_PLAYER). */
+#define NO_PLAYER MCS_SERVICES
+void begin_desk_line(const char *what, uint32_t service);
+void begin_line(const char *what, uint32_t service, uint32_t who);
 void end_line(void);
 
 /* A title, and the names of the devices over their columns. */
 void print_heading(const char *title);
 
-/* A device's name, in so many places. */
+/* A device's name and a player's word, in so many places. */
 void print_device(uint32_t who, int width);
+void print_player(uint32_t service, int width);
 
 #endif

@@ -2,120 +2,119 @@
 
 #include <stdio.h>
 #include <stdlib.h>
+#include <string.h>
 
 #include "books.h"
-#include "devices.h"
 #include "lines.h"
-#include "service.h"
 #include "tables.h"
 #include "values.h"
 #include "words.h"
-
-#define CONTENT_CONTROL_ID 1u
 
 static struct mcs_desk desk;
 
 /* ---- What the state says, at the offsets that mcs.h gives */
 
-static int is_active(void) { return desk.state[MCS_AT_MEDIA_STATE] != MCS_INACTIVE; }
-static uint32_t current_track(void) { return word_at(desk.state + MCS_AT_TRACK); }
-static const uint32_t *track_record(void) { return desk.catalogue.tracks + (size_t)MCS_TRACK_WORDS * current_track(); }
+static const uint8_t *player_at(uint32_t service) { return desk.state + MCS_AT_SERVICE(service); }
+static const uint8_t *account_at(uint32_t who, uint32_t service) { return player_at(service) + MCS_IN_ACCOUNT(who); }
 
-uint32_t track_end(void) { return is_active() ? end_of_track(track_record()[DURATION]) : 0; }
-
-static const uint8_t *client_at(uint32_t who) { return desk.state + MCS_AT_CLIENT(who); }
-static uint32_t waiting_of(uint32_t who) { return word_at(client_at(who) + MCS_IN_WAITING); }
-
-static uint32_t values_owed(uint32_t who)
+static int is_active(uint32_t service) { return player_at(service)[MCS_IN_MEDIA_STATE] != MCS_INACTIVE; }
+static uint32_t current_track(uint32_t service) { return word_at(player_at(service) + MCS_IN_TRACK); }
+static const uint32_t *track_record(uint32_t service)
 {
-    uint32_t owed = word_at(client_at(who) + MCS_IN_OWED), count = 0, slot;
+    return desk.catalogue.tracks + (size_t)MCS_TRACK_WORDS * current_track(service);
+}
+
+uint32_t track_end(uint32_t service) { return is_active(service) ? end_of_track(track_record(service)[DURATION]) : 0; }
+
+static uint32_t waiting_of(uint32_t who, uint32_t service) { return word_at(account_at(who, service) + MCS_IN_WAITING); }
+static uint32_t owed_to(uint32_t who, uint32_t service) { return word_at(account_at(who, service) + MCS_IN_OWED); }
+
+static uint32_t values_owed(uint32_t who, uint32_t service)
+{
+    uint32_t owed = owed_to(who, service), count = 0, slot;
     for (slot = 0; slot < SLOTS; slot++) {
         count += slot_at(slot) != MCS_CONTROL_POINT ? owed >> slot & 1u : 0;
     }
     return count;
 }
 
-/* The state line. The title comes last, since it may be long. */
-static void show_desk(void)
+/* Where a player stands. The title comes last, since it may be long. */
+void show_player(uint32_t service)
 {
-    begin_desk_line("desk");
+    const uint8_t *player = player_at(service);
+    begin_desk_line("player", service);
     paint(BOLD);
-    printf("%-8s  ", mcs_media_state_words(desk.state[MCS_AT_MEDIA_STATE]));
-    if (is_active()) {
-        printf("group %u  track %u  ", word_at(desk.state + MCS_AT_GROUP), current_track());
-        print_time(word_at(desk.state + MCS_AT_POSITION));
-        if (track_record()[DURATION] == MCS_RUNNING) {
+    printf("%-8s  ", mcs_media_state_words(player[MCS_IN_MEDIA_STATE]));
+    if (is_active(service)) {
+        printf("group %u  track %u  ", word_at(player + MCS_IN_GROUP), current_track(service));
+        print_time(word_at(player + MCS_IN_POSITION));
+        if (track_record(service)[DURATION] == MCS_RUNNING) {
             printf(", still recording  ");
         } else {
             printf(" of ");
-            print_time(track_end());
+            print_time(track_end(service));
             printf("  ");
         }
     }
-    printf("%s  speed ", mcs_playing_order_words(desk.state[MCS_AT_ORDER]));
-    print_value(MCS_PLAYBACK_SPEED, desk.state + MCS_AT_SPEED, 1);
-    if (desk.state[MCS_AT_SEEKING] != 0) {
+    printf("%s  speed ", mcs_playing_order_words(player[MCS_IN_ORDER]));
+    print_value(MCS_PLAYBACK_SPEED, player + MCS_IN_SPEED, 1);
+    if (player[MCS_IN_SEEKING] != 0) {
         printf("  seeking ");
-        print_value(MCS_SEEKING_SPEED, desk.state + MCS_AT_SEEKING, 1);
+        print_value(MCS_SEEKING_SPEED, player + MCS_IN_SEEKING, 1);
     }
-    if (is_active()) {
+    if (is_active(service)) {
         printf("  ");
-        print_value(MCS_TITLE, desk.catalogue.text + track_record()[TITLE], track_record()[TITLE_LENGTH]);
+        print_value(MCS_TITLE, desk.catalogue.text + track_record(service)[TITLE], track_record(service)[TITLE_LENGTH]);
     }
     end_line();
 }
 
-/* How much waits for each device. */
+/* So many of a thing, behind a mark. */
+static void print_count(const char *mark, uint32_t count, const char *thing)
+{
+    if (count > 0) {
+        printf("%s %u %s%s", mark, count, thing, count == 1u ? "" : "s");
+    }
+}
+
+/* How much of a player waits for each device. Whether anything does. */
+static int show_owed_of(uint32_t service)
+{
+    uint32_t who, devices = 0;
+    for (who = 0; who < MCS_CLIENTS; who++) {
+        uint32_t values = values_owed(who, service), results = waiting_of(who, service);
+        if (values + results > 0) {
+            if (devices == 0) {
+                begin_desk_line("owes", service);
+            }
+            printf("%s", devices > 0 ? "; " : "");
+            print_device(who, 0);
+            print_count("", values, "value");
+            print_count(values > 0 ? "," : "", results, "result");
+            devices += 1u;
+        }
+    }
+    if (devices > 0) {
+        end_line();
+    }
+    return devices > 0;
+}
+
 static void show_owed(void)
 {
-    uint32_t who, all = 0;
-    begin_desk_line("owes");
-    for (who = 0; who < MCS_CLIENTS; who++) {
-        uint32_t values = values_owed(who), results = waiting_of(who);
-        if (values + results > 0) {
-            printf("%s", all > 0 ? "; " : "");
-            print_device(who, 0);
-            if (values > 0) {
-                printf(" %u value%s", values, values == 1u ? "" : "s");
-            }
-            if (results > 0) {
-                printf("%s %u result%s", values > 0 ? "," : "", results, results == 1u ? "" : "s");
-            }
-        }
-        all += values + results;
+    uint32_t service;
+    int any = 0;
+    for (service = 0; service < MCS_SERVICES; service++) {
+        any = show_owed_of(service) || any;
     }
-    printf("%s", all > 0 ? "" : "nothing");
-    end_line();
-}
-
-/* ---- The desk */
-
-uint32_t open_office(const struct mcs_catalogue *c, struct mcs_place *place)
-{
-    static const uint8_t NAME[] = "Mantelhona";
-    uint32_t number;
-    desk.catalogue = *c;
-    number = mcs_desk_start(&desk, NAME, sizeof NAME - 1u, MCS_ALL_OPCODES, CONTENT_CONTROL_ID);
-    *place = desk.place;
-    return number;
-}
-
-void introduce(void)
-{
-    const uint32_t *slot;
-    uint32_t who;
-    printf("\n%-14s%9s  is told of\n", "Device", "ATT_MTU");
-    for (who = 0; who < MCS_CLIENTS; who++) {
-        print_device(who, 14);
-        printf("%9u  ", DEVICES[who].mtu);
-        for (slot = DEVICES[who].slots; *slot != 0; slot++) {
-            printf("%s%s", slot == DEVICES[who].slots ? "" : ", ", mcs_characteristic_words(*slot));
-        }
-        putchar('\n');
+    if (!any) {
+        begin_desk_line("owes", NO_PLAYER);
+        printf("nothing");
+        end_line();
     }
-    printf("\nA column for each device. press, write, read: what it does. take: what the desk hands to it.\n"
-           "'#3 Play: Success' is the result of that device's own third press.\n");
 }
+
+/* ---- Calls */
 
 /* What no card can have refused: the day ends where it is. */
 static void must(uint32_t number, const char *what)
@@ -127,57 +126,186 @@ static void must(uint32_t number, const char *what)
     }
 }
 
-void open_group(uint32_t group)
+static uint8_t before[MCS_STATE_OCTETS];
+static void keep_state(void) { memcpy(before, desk.state, sizeof before); }
+
+/* Whether every player but one, with what it owes, is octet for octet what it was before. */
+static int others_left_alone(uint32_t service)
 {
-    must(mcs_desk_activate(&desk, group), "activate");
-    begin_desk_line("open");
+    uint32_t other;
+    int same = 1;
+    for (other = 0; other < MCS_SERVICES; other++) {
+        size_t at = MCS_AT_SERVICE(other), octets = MCS_AT_SERVICE(other + 1u) - at;
+        same = same && (other == service || memcmp(before + at, desk.state + at, octets) == 0);
+    }
+    return same;
+}
+
+/* A call to one player. */
+#define AT_PLAYER(service, call) (keep_state(), called(service, call))
+static uint32_t called(uint32_t service, uint32_t number)
+{
+    if (!book_call(others_left_alone(service))) {
+        begin_desk_line("WRONG", service);
+        printf("the other player was altered");
+        end_line();
+    }
+    return number;
+}
+
+/* ---- The desk */
+
+uint32_t open_office(const struct mcs_catalogue *c, struct mcs_place *place)
+{
+    struct mcs_player players[MCS_SERVICES];
+    uint32_t service, number;
+    for (service = 0; service < MCS_SERVICES; service++) {
+        players[service].name = (const uint8_t *)PLAYERS[service].name;
+        players[service].name_len = strlen(PLAYERS[service].name);
+        players[service].mask = MCS_ALL_OPCODES;
+        players[service].ccid = PLAYERS[service].content_control_id;
+    }
+    desk.catalogue = *c;
+    number = mcs_desk_start(&desk, players);
+    *place = desk.place;
+    return number;
+}
+
+void introduce(void)
+{
+    const uint32_t *slot;
+    uint32_t who, service;
+    printf("\n%-14s%-32sis called\n", "Player", "service");
+    for (service = 0; service < MCS_SERVICES; service++) {
+        print_player(service, 14);
+        printf("%u %-30s\"%s\"\n", service, mcs_service_words(service), PLAYERS[service].name);
+    }
+    printf("\n%-14s%-9s%-9sis told of\n", "Device", "ATT_MTU", "player");
+    for (who = 0; who < MCS_CLIENTS; who++) {
+        for (service = 0; service < MCS_SERVICES; service++) {
+            if (follows(who, service)) {
+                print_device(who, 14);
+                printf("%-9u", DEVICES[who].mtu);
+                print_player(service, 9);
+                for (slot = DEVICES[who].slots[service]; *slot != 0; slot++) {
+                    printf("%s%s", slot == DEVICES[who].slots[service] ? "" : ", ", mcs_characteristic_words(*slot));
+                }
+                putchar('\n');
+            }
+        }
+    }
+    printf("\nFirst what is done and at which player, then a column for each device.\n"
+           "press, write, read: what the device does. take: what the desk hands to it.\n"
+           "'#3 Play: Success' is the result of that device's own third press at that player.\n"
+           "The takes go round the devices, and within a device on from its last, through generic and then named.\n");
+}
+
+void open_group(uint32_t service, uint32_t group)
+{
+    must(AT_PLAYER(service, mcs_desk_activate(&desk, service, group)), "activate");
+    begin_desk_line("open", service);
     printf("group %u", group);
     end_line();
-    show_desk();
+    show_player(service);
 }
 
-void close_group(void)
+void close_group(uint32_t service)
 {
-    must(mcs_desk_deactivate(&desk), "deactivate");
-    begin_desk_line("close");
+    must(AT_PLAYER(service, mcs_desk_deactivate(&desk, service)), "deactivate");
+    begin_desk_line("close", service);
     printf("the group");
     end_line();
-    show_desk();
+    show_player(service);
 }
 
-void let_pass(uint32_t hundredths)
+void let_pass(uint32_t service, uint32_t hundredths)
 {
-    must(mcs_desk_advance(&desk, hundredths), "advance");
-    begin_desk_line("time");
+    must(AT_PLAYER(service, mcs_desk_advance(&desk, service, hundredths)), "advance");
+    begin_desk_line("time", service);
     print_time(hundredths);
     printf(" pass");
     end_line();
-    show_desk();
+    show_player(service);
+}
+
+void rename_player(uint32_t service, const char *name)
+{
+    must(AT_PLAYER(service, mcs_desk_set_name(&desk, service, (const uint8_t *)name, strlen(name))), "set name");
+    begin_desk_line("name", service);
+    printf("\"%s\"", name);
+    end_line();
+}
+
+/* ---- What a device knows */
+
+/* Whether a player can be asked for a value, to hold what a device knows against it. The position is left out: while it plays it
+ * runs on, and nobody is told. */
+static int is_compared(uint32_t characteristic)
+{
+    return (properties_of(characteristic) & MCS_MAY_READ) != 0 && characteristic != MCS_POSITION;
+}
+
+/* The present value, as far as a notification reaches. A copy of the desk is asked, since the desk itself would note that the
+ * device has read it. */
+static uint32_t value_now(uint32_t who, uint32_t service, uint32_t characteristic, uint8_t out[MCS_OUTPUT_OCTETS])
+{
+    struct mcs_desk asked = desk;
+    uint32_t length = 0, most = DEVICES[who].mtu - 3u;
+    must(mcs_desk_read(&asked, who, service, characteristic, 0, out, MCS_OUTPUT_OCTETS, &length), "read");
+    return length < most ? length : most;
 }
 
 /* ---- The devices */
 
+static void subscribe(uint32_t who, uint32_t service, uint32_t characteristic)
+{
+    uint8_t now[MCS_OUTPUT_OCTETS];
+    must(AT_PLAYER(service, mcs_desk_subscribe(&desk, who, service, characteristic)), "subscribe");
+    if (is_compared(characteristic)) {
+        book_value(who, service, characteristic, now, value_now(who, service, characteristic, now));
+    }
+}
+
 void join(uint32_t who)
 {
     const uint32_t *slot;
+    uint32_t service, followed = 0;
     must(mcs_desk_connect(&desk, who, DEVICES[who].mtu, 1), "connect");
-    for (slot = DEVICES[who].slots; *slot != 0; slot++) {
-        must(mcs_desk_subscribe(&desk, who, *slot), "subscribe");
+    book_join(who);
+    for (service = 0; service < MCS_SERVICES; service++) {
+        for (slot = DEVICES[who].slots[service]; *slot != 0; slot++) {
+            subscribe(who, service, *slot);
+        }
     }
-    begin_line("join", who);
-    printf("connected");
+    begin_line("join", NO_PLAYER, who);
+    printf("connected, follows");
+    for (service = 0; service < MCS_SERVICES; service++) {
+        if (follows(who, service)) {
+            printf("%s", followed > 0 ? " and " : " ");
+            print_player(service, 0);
+            followed += 1u;
+        }
+    }
     end_line();
 }
 
 void leave(uint32_t who)
 {
-    uint32_t held = waiting_of(who);
+    uint32_t service, held[MCS_SERVICES];
+    for (service = 0; service < MCS_SERVICES; service++) {
+        held[service] = waiting_of(who, service);
+    }
     must(mcs_desk_disconnect(&desk, who), "disconnect");
     book_leave(who, held);
-    begin_line("leave", who);
+    begin_line("leave", NO_PLAYER, who);
     printf("disconnected");
-    if (held > 0) {
-        printf(", %u result%s dropped", held, held == 1u ? "" : "s");
+    for (service = 0; service < MCS_SERVICES; service++) {
+        if (held[service] > 0) {
+            print_count(",", held[service], "result");
+            printf(" of ");
+            print_player(service, 0);
+            printf(" dropped");
+        }
     }
     end_line();
 }
@@ -194,33 +322,36 @@ static void print_reply(uint32_t number)
     }
 }
 
-static void write_control(uint32_t who, const uint8_t *value, size_t len)
+static void write_control(uint32_t who, uint32_t service, const uint8_t *value, size_t len)
 {
-    uint32_t number = mcs_desk_write(&desk, who, MCS_CONTROL_POINT, value, len);
-    begin_line("press", who);
-    printf("#%u ", book_press(who, value[0], number == MCS_OK));
+    uint32_t number = AT_PLAYER(service, mcs_desk_write(&desk, who, service, MCS_CONTROL_POINT, value, len));
+    begin_line("press", service, who);
+    printf("#%u ", book_press(who, service, value[0], number == MCS_OK));
     print_opcode(value[0]);
     if (len == 5u) {
         printf(" %lld", (long long)signed_word(value + 1));
     }
     print_reply(number);
     end_line();
-    show_desk();
+    show_player(service);
 }
 
-void press(uint32_t who, uint8_t opcode) { write_control(who, &opcode, 1); }
+void press(uint32_t who, uint32_t service, uint8_t opcode) { write_control(who, service, &opcode, 1); }
 
-void press_with(uint32_t who, uint8_t opcode, int32_t number)
+void press_with(uint32_t who, uint32_t service, uint8_t opcode, int32_t number)
 {
     uint8_t value[5];
-    write_control(who, value, control_value(value, opcode, number));
+    write_control(who, service, value, control_value(value, opcode, number));
 }
 
 /* Any other write. */
-static void write_value(uint32_t who, uint32_t characteristic, const uint8_t *value, size_t len)
+static void write_value(uint32_t who, uint32_t service, uint32_t characteristic, const uint8_t *value, uint32_t len)
 {
-    uint32_t number = mcs_desk_write(&desk, who, characteristic, value, len);
-    begin_line("write", who);
+    uint32_t number = AT_PLAYER(service, mcs_desk_write(&desk, who, service, characteristic, value, len));
+    if (number == MCS_OK && wants(who, service, characteristic)) {
+        book_value(who, service, characteristic, value, len);
+    }
+    begin_line("write", service, who);
     printf("%s ", mcs_characteristic_words(characteristic));
     if (characteristic == MCS_POSITION && signed_word(value) < 0) {
         printf("%lld from the end", (long long)signed_word(value));
@@ -229,30 +360,30 @@ static void write_value(uint32_t who, uint32_t characteristic, const uint8_t *va
     }
     print_reply(number);
     end_line();
-    show_desk();
+    show_player(service);
 }
 
-void set_order(uint32_t who, uint8_t order) { write_value(who, MCS_PLAYING_ORDER, &order, 1); }
+void set_order(uint32_t who, uint32_t service, uint8_t order) { write_value(who, service, MCS_PLAYING_ORDER, &order, 1); }
 
-void set_speed(uint32_t who, int8_t speed)
+void set_speed(uint32_t who, uint32_t service, int8_t speed)
 {
     uint8_t octet = (uint8_t)speed;
-    write_value(who, MCS_PLAYBACK_SPEED, &octet, 1);
+    write_value(who, service, MCS_PLAYBACK_SPEED, &octet, 1);
 }
 
-void set_position(uint32_t who, int32_t position)
+void set_position(uint32_t who, uint32_t service, int32_t position)
 {
     uint8_t value[4];
     put_word(value, (uint32_t)position);
-    write_value(who, MCS_POSITION, value, sizeof value);
+    write_value(who, service, MCS_POSITION, value, sizeof value);
 }
 
-uint32_t read_part(uint32_t who, uint32_t characteristic, uint32_t offset)
+uint32_t read_part(uint32_t who, uint32_t service, uint32_t characteristic, uint32_t offset)
 {
     uint8_t out[MCS_OUTPUT_OCTETS];
     uint32_t length = 0;
-    uint32_t number = mcs_desk_read(&desk, who, characteristic, offset, out, sizeof out, &length);
-    begin_line("read", who);
+    uint32_t number = AT_PLAYER(service, mcs_desk_read(&desk, who, service, characteristic, offset, out, sizeof out, &length));
+    begin_line("read", service, who);
     printf("%s at %u", mcs_characteristic_words(characteristic), offset);
     if (number == MCS_OK) {
         printf(": ");
@@ -264,31 +395,30 @@ uint32_t read_part(uint32_t who, uint32_t characteristic, uint32_t offset)
     return number == MCS_OK ? length : NOT_READ;
 }
 
-void read_long(uint32_t who, uint32_t characteristic)
+void read_long(uint32_t who, uint32_t service, uint32_t characteristic)
 {
     uint32_t offset = 0, length;
     do {
-        length = read_part(who, characteristic, offset);
+        length = read_part(who, service, characteristic, offset);
         offset += length;
     } while (length != 0 && length != NOT_READ);
 }
 
 /* ---- Takes */
 
-/* A result is handed to a device: it must be that of its oldest press. */
-static void show_result(uint32_t who, const uint8_t *value, size_t len)
+/* A result of a player is handed to a device: it must be that of its oldest press there. */
+static void show_result(const struct mcs_served *served, const uint8_t *value)
 {
-    open_press asked = oldest_press(who);
-    int right = book_result(who, value[0]);
-    if (right) {
+    open_press asked = oldest_press(served->client, served->service);
+    if (book_result(served->client, served->service, value[0])) {
         paint(BOLD);
         printf("#%u ", asked.number);
-        print_value(MCS_CONTROL_POINT, value, len);
+        print_value(MCS_CONTROL_POINT, value, served->length);
         return;
     }
     paint(RED);
-    print_value(MCS_CONTROL_POINT, value, len);
-    printf("  WRONG: this device waits for ");
+    print_value(MCS_CONTROL_POINT, value, served->length);
+    printf("  WRONG: at this player this device waits for ");
     if (asked.number == 0) {
         printf("none");
     } else {
@@ -297,34 +427,111 @@ static void show_result(uint32_t who, const uint8_t *value, size_t len)
     }
 }
 
-static void show_take(uint32_t take, const struct mcs_served *served, const uint8_t *value)
+static void print_with_words(uint32_t characteristic, const uint8_t *value, uint32_t len)
+{
+    printf("%s%s", mcs_characteristic_words(characteristic), characteristic == MCS_TRACK_CHANGED ? "" : " ");
+    print_value(characteristic, value, len);
+}
+
+static void show_take(uint32_t take, const struct mcs_served *served, const uint8_t *value, int right)
 {
     char label[16];
     snprintf(label, sizeof label, "take %u", take);
-    begin_line(label, served->client);
-    book_told(served->client);
+    begin_line(label, served->service, served->client);
     if (served->characteristic == MCS_CONTROL_POINT) {
-        show_result(served->client, value, served->length);
+        show_result(served, value);
     } else {
-        printf("%s%s", mcs_characteristic_words(served->characteristic),
-               served->characteristic == MCS_TRACK_CHANGED ? "" : " ");
-        print_value(served->characteristic, value, served->length);
+        print_with_words(served->characteristic, value, served->length);
+        book_value(served->client, served->service, served->characteristic, value, served->length);
+    }
+    if (!right) {
+        paint(RED);
+        printf("  WRONG: out of turn, or the other player was altered");
     }
     end_line();
+}
+
+/* The place of a slot in the round of a client. */
+static uint32_t place_of(uint32_t service, uint32_t characteristic)
+{
+    uint32_t slot = 0;
+    while (slot_at(slot) != characteristic) {
+        slot++;
+    }
+    return SLOTS * service + slot;
+}
+
+/* What is owed to each device, as places of its round. */
+static void places_owed(uint32_t owed[MCS_CLIENTS])
+{
+    uint32_t who, service;
+    for (who = 0; who < MCS_CLIENTS; who++) {
+        owed[who] = 0;
+        for (service = 0; service < MCS_SERVICES; service++) {
+            owed[who] |= owed_to(who, service) << SLOTS * service;
+        }
+    }
+}
+
+/* ---- Agreement */
+
+/* Holds what a device knows of a player against it, and shows it, or only what is wrong. */
+static void compare_known(uint32_t who, uint32_t service, int shown)
+{
+    uint32_t slot;
+    for (slot = 0; slot < SLOTS; slot++) {
+        uint32_t characteristic = slot_at(slot);
+        const known_value *known = value_known(who, service, characteristic);
+        if (known != NULL && is_compared(characteristic)) {
+            uint8_t now[MCS_OUTPUT_OCTETS];
+            uint32_t length = value_now(who, service, characteristic, now);
+            int right = book_agreement(length == known->length && memcmp(now, known->octets, length) == 0);
+            if (shown || !right) {
+                begin_line(right ? "agrees" : "WRONG", service, who);
+                print_with_words(characteristic, known->octets, known->length);
+                printf("%s", right ? "" : " is not what the player has");
+                end_line();
+            }
+        }
+    }
+}
+
+static void compare_all(int shown)
+{
+    uint32_t who, service;
+    for (who = 0; who < MCS_CLIENTS; who++) {
+        for (service = 0; service < MCS_SERVICES; service++) {
+            compare_known(who, service, shown);
+        }
+    }
 }
 
 void tell_all(void)
 {
     uint8_t out[MCS_OUTPUT_OCTETS];
     struct mcs_served served;
-    uint32_t take = 0;
+    uint32_t take = 0, owed[MCS_CLIENTS];
     show_owed();
     for (;;) {
+        uint32_t place;
+        keep_state();
+        places_owed(owed);
         must(mcs_desk_take(&desk, out, sizeof out, &served), "take");
         if (served.characteristic == MCS_NOTHING) {
-            return;
+            break;
         }
         take += 1u;
-        show_take(take, &served, out);
+        place = place_of(served.service, served.characteristic);
+        show_take(take, &served, out, book_take(owed, served.client, place, others_left_alone(served.service)));
     }
+    compare_all(0);
+}
+
+void show_agreement(void)
+{
+    uint32_t service;
+    for (service = 0; service < MCS_SERVICES; service++) {
+        show_player(service);
+    }
+    compare_all(1);
 }

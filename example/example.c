@@ -1,14 +1,19 @@
-/* The smallest use of the library: one group, one track, one pedal that presses Play and is told so. It includes mcs_desk.h and
- * nothing else, and is C as well as C++; its exit status is 0, or the number of the first step that did not give what document 01
- * says. */
+/* The smallest use of the library: one group, one track, one pedal that presses Play on the generic player and is told so, while
+ * the named player, over the same track, stays as it is. It includes mcs_desk.h and nothing else, and is C as well as C++; its
+ * exit status is 0, or the number of the first step that did not give what documents 01 and 02 say. */
 #include "mcs_desk.h"
 
 /* One group, with one track of ten seconds without segments, whose title is the whole text. */
 static const uint32_t groups[] = {0, 0, 1};
 static const uint32_t tracks[] = {1000, 7, 0, 0, 0, 9};
 static const uint8_t text[] = {'I', 'n', 't', 'e', 'r', 'v', 'i', 'e', 'w'};
-static const uint8_t name[] = {'D', 'e', 's', 'k'};
+static const uint8_t generic_name[] = {'D', 'e', 's', 'k'};
+static const uint8_t named_name[] = {'D', 'e', 's', 'k', ' ', '4'};
 static const uint8_t bad_name[] = {'D', 'e', 's', 'k', 0xC3};
+
+/* The two players, in the order of their services: MCS_GENERIC, MCS_NAMED. Each has a Content Control ID of its own. */
+static const struct mcs_player players[MCS_SERVICES] = {{generic_name, sizeof generic_name, MCS_ALL_OPCODES, 5},
+                                                        {named_name, sizeof named_name, MCS_ALL_OPCODES, 6}};
 
 static struct mcs_desk desk = {{groups, 3, tracks, 6, NULL, 0, text, sizeof text}, {0}, {0, 0}};
 
@@ -20,22 +25,22 @@ int main(void)
     struct mcs_served served;
     uint32_t length, number;
 
-    if (mcs_desk_start(&desk, name, sizeof name, MCS_ALL_OPCODES, 5) != MCS_OK)
+    if (mcs_desk_start(&desk, players) != MCS_OK)
         return 1;
-    if (mcs_desk_activate(&desk, 0) != MCS_OK)
+    if (mcs_desk_activate(&desk, MCS_GENERIC, 0) != MCS_OK)
         return 2;
     if (mcs_desk_connect(&desk, pedal, 64, 1) != MCS_OK)
         return 3;
-    if (mcs_desk_subscribe(&desk, pedal, MCS_CONTROL_POINT) != MCS_OK)
+    if (mcs_desk_subscribe(&desk, pedal, MCS_GENERIC, MCS_CONTROL_POINT) != MCS_OK)
         return 4;
-    if (mcs_desk_write(&desk, pedal, MCS_CONTROL_POINT, &play, 1) != MCS_OK)
+    if (mcs_desk_write(&desk, pedal, MCS_GENERIC, MCS_CONTROL_POINT, &play, 1) != MCS_OK)
         return 5;
 
     /* The pedal is owed the result of its own write: Play, Success. */
     if (mcs_desk_take(&desk, out, sizeof out, &served) != MCS_OK)
         return 6;
-    if (served.client != pedal || served.characteristic != MCS_CONTROL_POINT || served.length != 2 || out[0] != play ||
-        out[1] != MCS_RESULT_SUCCESS)
+    if (served.client != pedal || served.service != MCS_GENERIC || served.characteristic != MCS_CONTROL_POINT ||
+        served.length != 2 || out[0] != play || out[1] != MCS_RESULT_SUCCESS)
         return 7;
 
     /* Nothing else is owed. */
@@ -43,25 +48,31 @@ int main(void)
         return 8;
 
     /* After 2.5 seconds the position is 250 hundredths. */
-    if (mcs_desk_advance(&desk, 250) != MCS_OK)
+    if (mcs_desk_advance(&desk, MCS_GENERIC, 250) != MCS_OK)
         return 9;
-    if (mcs_desk_read(&desk, pedal, MCS_POSITION, 0, out, sizeof out, &length) != MCS_OK)
+    if (mcs_desk_read(&desk, pedal, MCS_GENERIC, MCS_POSITION, 0, out, sizeof out, &length) != MCS_OK)
         return 10;
     if (length != 4 || out[0] != 250 || out[1] != 0 || out[2] != 0 || out[3] != 0)
         return 11;
 
     /* A refusal: a client that is not connected may not write, and nothing is altered. It is the host that is at fault, so the
      * number is no ATT error. */
-    number = mcs_desk_write(&desk, 0, MCS_CONTROL_POINT, &play, 1);
+    number = mcs_desk_write(&desk, 0, MCS_GENERIC, MCS_CONTROL_POINT, &play, 1);
     if (number != MCS_NOT_CONNECTED || MCS_IS_ATT_ERROR(number))
         return 12;
     /* One that the client is to be told: the value of the playing order has one octet. */
-    number = mcs_desk_write(&desk, pedal, MCS_PLAYING_ORDER, out, 2);
+    number = mcs_desk_write(&desk, pedal, MCS_GENERIC, MCS_PLAYING_ORDER, out, 2);
     if (number != MCS_BAD_LENGTH || !MCS_IS_ATT_ERROR(number))
         return 13;
     /* One that whoever typed the name is to be told: at octet 4 it is not UTF-8. It is no title that is wrong, so there is no track. */
-    number = mcs_desk_set_name(&desk, bad_name, sizeof bad_name);
+    number = mcs_desk_set_name(&desk, MCS_NAMED, bad_name, sizeof bad_name);
     if (number != MCS_BAD_NAME || desk.place.octet != 4 || desk.place.track != MCS_NOWHERE)
         return 14;
+
+    /* All that was the generic player's: the named one is Inactive still. */
+    if (mcs_desk_read(&desk, pedal, MCS_NAMED, MCS_MEDIA_STATE, 0, out, sizeof out, &length) != MCS_OK)
+        return 15;
+    if (length != 1 || out[0] != MCS_INACTIVE)
+        return 16;
     return 0;
 }

@@ -25,13 +25,18 @@ enum {
 
 extern const char *const CALL_NAME[CALLS];
 
+/* The words that say what a take served. */
+enum { SERVED_CLIENT, SERVED_SERVICE, SERVED_CHARACTERISTIC, SERVED_LENGTH, SERVED_WORDS };
+
 typedef struct {
     uint32_t kind;
-    uint32_t who;    /* client */
-    uint32_t what;   /* characteristic; of start the Content Control ID, of connect whether encrypted */
-    uint32_t number; /* mask, group, hundredths, ATT_MTU, offset */
+    uint32_t who;     /* client */
+    uint32_t service;
+    uint32_t what;    /* characteristic; of connect whether encrypted */
+    uint32_t number;  /* group, hundredths, ATT_MTU, offset */
     struct mcs_catalogue catalogue;
-    const uint8_t *octets; /* name or value, card, cue sheet */
+    struct mcs_player players[MCS_SERVICES]; /* of a start */
+    const uint8_t *octets;                   /* new name or value, card, cue sheet */
     size_t length;
     void *state; /* MCS_STATE_OCTETS octets, or the second program's struct */
     uint8_t *out;
@@ -49,6 +54,14 @@ typedef struct {
 /* A card load and a cue sheet are lent neither a state nor a catalogue, a card write no state. */
 static inline int has_state(uint32_t kind) { return kind < CARD_LOAD; }
 static inline int has_catalogue(uint32_t kind) { return has_state(kind) || kind == CARD_WRITE; }
+
+/* Which calls name a client, and which a service: those that are calls to one. A take and a start are calls to neither service,
+ * and a link is to both. */
+static inline int has_client(uint32_t kind) { return kind >= CONNECT && kind <= WRITE; }
+static inline int has_service(uint32_t kind)
+{
+    return (kind >= SET_NAME && kind <= ADVANCE) || (kind >= SUBSCRIBE && kind <= WRITE);
+}
 
 /* Each makes the call and returns its number. */
 uint32_t call_library(const call *c);

@@ -1,4 +1,4 @@
-/* The characteristics and opcodes of include/mcs_desk.h as tables. */
+/* The characteristics and opcodes of include/mcs_desk.h as tables; both services have the same. */
 #ifndef SERVICE_H
 #define SERVICE_H
 
@@ -12,6 +12,8 @@ enum {
     CHARACTERISTICS = 0 MCS_EACH_CHARACTERISTIC(COUNT_ONE),
     READABLES = 0 MCS_EACH_CHARACTERISTIC(COUNT_READABLE),
     SLOTS = 0 MCS_EACH_CHARACTERISTIC(COUNT_NOTIFYING),
+    PLACES = SLOTS * (int)MCS_SERVICES, /* of a client's round: the slots of service 0, and behind them those of service 1 */
+    BOUND = PLACES * (int)MCS_CLIENTS,  /* of demand 3: what is owed is handed out by so many answered takes */
     OPCODES = 0 MCS_EACH_OPCODE(COUNT_ONE)
 };
 

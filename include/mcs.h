@@ -10,7 +10,7 @@
  * What is the caller's to see to, as for any function of C:
  * - a pointer with a length points to that many octets or words (a length of 0: it is not followed, and may be null);
  *   words are aligned as uint32_t is; state points to MCS_STATE_OCTETS octets, length, block, blocks, count, line, track and octet
- *   to 1 word each, served to 3, counts to 4;
+ *   to 1 word each, served and counts to 4;
  * - what a call writes (state, output, length, served, track, octet, the tables, counts and block of a card load, the card and blocks
  *   of a card write, and starts, count and line of a cue sheet) overlaps nothing else lent to it;
  * - no other thread touches what is lent while the call runs. The library keeps nothing of its own and calls no function
@@ -26,12 +26,12 @@
 extern "C" {
 #endif
 
-/* MCS_VERSION moves when a function of this file is added or changes its arguments or the numbers that it returns: it is 5 since
- * every call that is lent the catalogue is also lent the two words of MCS_PLACE, for what 200 and 207 carry.
- * MCS_STATE_LAYOUT moves when the octets of a state change their number, place or meaning: a host that stores states stores it
- * with them. */
-#define MCS_VERSION 5u
-#define MCS_STATE_LAYOUT 1u
+/* MCS_VERSION moves when a function of this file is added or changes its arguments or the numbers that it returns: it is 6 since
+ * a desk has two services, so that start takes both players, every call to a service its number, and a take's answer names it.
+ * MCS_STATE_LAYOUT moves when the octets of a state change their number, place or meaning. A state's first octet says it
+ * (MCS_STATE_MARK), so a stored state of another layout is refused, and not misread. */
+#define MCS_VERSION 6u
+#define MCS_STATE_LAYOUT 2u
 
 /* ---- Numbers that a call returns ------------------------------------------------------------------------------------------ */
 
@@ -43,10 +43,13 @@ extern "C" {
 #define MCS_BAD_CATALOGUE 200u
 /* The lent output of a read or a take is under MCS_OUTPUT_OCTETS octets. */
 #define MCS_SMALL_OUTPUT 205u
-/* The state breaks a rule for this catalogue, or one of its octets that say yes or no is neither 1 nor 0. */
+/* The state breaks a rule for this catalogue, in either service or for any client; or it does not begin with MCS_STATE_MARK, or
+ * one of its octets that say yes or no is neither 1 nor 0. */
 #define MCS_BAD_STATE 201u
 /* The client's number is over 3. */
 #define MCS_NO_CLIENT 202u
+/* The service's number is over 1. */
+#define MCS_NO_SERVICE 219u
 /* The client is not connected. */
 #define MCS_NOT_CONNECTED 203u
 /* Connect, and the client is connected. */
@@ -62,8 +65,8 @@ extern "C" {
 #define MCS_NOT_WRITABLE 0x03u
 /* Read, write, subscribe or unsubscribe by a client that is connected unencrypted (ATT: Insufficient Encryption). */
 #define MCS_NOT_ENCRYPTED 0x0Fu
-/* Read at an offset above 0, and the value changed since the client's last read of it at 0, or there was no such read since it
- * connected (Media Control Service: Value Changed During Read Long). */
+/* Read at an offset above 0, and the service's value changed since the client's last read of it at 0, or there was no such read
+ * since it connected (Media Control Service: Value Changed During Read Long). */
 #define MCS_VALUE_CHANGED 0x80u
 /* The offset is above the value's length (ATT: Invalid Offset). */
 #define MCS_BEYOND_END 0x07u
@@ -71,10 +74,10 @@ extern "C" {
 #define MCS_BAD_LENGTH 0x0Du
 /* The written playing order is not 1 to 8 (ATT: Value Not Allowed). */
 #define MCS_BAD_ORDER 0x13u
-/* Eight results of the client wait (ATT: Insufficient Resources). */
+/* Eight results of the client wait in this service (ATT: Insufficient Resources). */
 #define MCS_TOO_MANY_RESULTS 0x11u
 /* The name has over 128 octets, and *octet is 128; or it is not UTF-8, and *octet is the offset, within the name, of the first octet
- * that does not start a whole valid character. */
+ * that does not start a whole valid character. Start, which takes two names, tells of the first bad one, and not which it is. */
 #define MCS_BAD_NAME 207u
 /* The group is absent or has no tracks. */
 #define MCS_BAD_GROUP 208u
@@ -110,11 +113,18 @@ extern "C" {
 /* ---- Sizes ---------------------------------------------------------------------------------------------------------------- */
 
 #define MCS_CLIENTS 4u          /* clients 0 to 3 */
+#define MCS_SERVICES 2u         /* services 0 and 1, with names below */
 #define MCS_OUTPUT_OCTETS 128u  /* the least output that a read or a take may be lent */
 #define MCS_BLOCK_OCTETS 512u   /* a block of a card */
 #define MCS_CARD_OCTETS 65536u  /* the longest card */
 #define MCS_CARD_BLOCKS 89u     /* the most blocks that card write fills, with all four tables full: 45,568 octets */
 #define MCS_SHEET_OCTETS 65536u /* the longest cue sheet */
+
+/* The services, over one catalogue and to the same clients. Each has its own player and for each client its own subscriptions,
+ * owed values, results and marks of what was read. A call to one alters nothing of the other; only the order of takes is
+ * shared. */
+#define MCS_GENERIC 0u /* the Generic Media Control Service */
+#define MCS_NAMED 1u   /* the Media Control Service of one named player */
 
 /* Words of a group, a track and a segment record, and the most of each, in records; of text, in octets. */
 #define MCS_GROUP_WORDS 3u   /* parent, first track, number of tracks */
@@ -192,36 +202,51 @@ extern "C" {
  * refused. So the octets of a state that is taken, apart from those that mean nothing, are the encoding of what they mean, and
  * a call other than mcs_start that changes nothing leaves every octet as it was.
  */
-#define MCS_STATE_OCTETS 338u
+#define MCS_STATE_OCTETS 633u
 
-#define MCS_AT_NAME 0u            /* 128 octets, of which the first MCS_AT_NAME_LENGTH says are the name. Those behind it mean nothing:
-                                   * mcs_start makes them 0, and every other call leaves those that no name covers as they were */
-#define MCS_AT_NAME_LENGTH 128u   /* 1 octet, 0 to 128 */
-#define MCS_AT_CCID 129u          /* 1 octet */
-#define MCS_AT_MEDIA_STATE 130u   /* 1 octet */
-#define MCS_AT_ORDER 131u         /* 1 octet, 1 to 8 */
-#define MCS_AT_SPEED 132u         /* 1 octet, signed */
-#define MCS_AT_SEEKING 133u       /* 1 octet, signed */
-#define MCS_AT_MASK 134u          /* 4 octets: bit 0 to 20 for each opcode; the others are kept and count as 0 */
-#define MCS_AT_GROUP 138u         /* 4 octets; 0 while Inactive, as are the two that follow */
-#define MCS_AT_TRACK 142u         /* 4 octets */
-#define MCS_AT_POSITION 146u      /* 4 octets, hundredths of a second */
-#define MCS_AT_TURN 150u          /* 4 octets: the client that was served last, 0 to 3 */
-#define MCS_AT_CLIENT(client) (154u + 46u * (client))
+/* The first octet of a state. A state of layout 1 began with a name, and no UTF-8 text begins with an octet 0x80 to 0xBF. */
+#define MCS_STATE_MARK (0x80u + MCS_STATE_LAYOUT)
 
-/* In the 46 octets of a client. Slots are the bits 0 to 9 for the characteristics 1, 4, 5, 6, 7, 8, 9, 15, 17, 18. */
+#define MCS_AT_LAYOUT 0u          /* 1 octet, MCS_STATE_MARK: mcs_start writes it, and every other call leaves it */
+#define MCS_AT_TURN 1u            /* 4 octets: the client that was served last, 0 to 3 */
+#define MCS_AT_LINK(client) (5u + 10u * (client))
+#define MCS_AT_SERVICE(service) (45u + 294u * (service))
+
+/* In the 10 octets of a client's link, which is the same to both services. */
 #define MCS_IN_CONNECTED 0u       /* 1 octet, yes or no: 1 or 0 */
 #define MCS_IN_ENCRYPTED 1u       /* 1 octet, yes or no: 1 or 0 */
 #define MCS_IN_MTU 2u             /* 4 octets; 23 while not connected */
-#define MCS_IN_SUBSCRIBED 6u      /* 4 octets, a set of slots */
-#define MCS_IN_OWED 10u           /* 4 octets, a set of slots */
-#define MCS_IN_READ 14u           /* 4 octets: bit c where characteristic c was read at 0 since connecting and has not changed since */
-#define MCS_IN_MARK 18u           /* 4 octets: the slot that was served last, 0 to 9 */
-#define MCS_IN_WAITING 22u        /* 8 octets: how many results wait, 0 to 8 */
-#define MCS_IN_RESULTS 30u        /* 8 times 2 octets: requested opcode, result; oldest first. Those that do not wait mean nothing: start,
-                                   * connect and disconnect make a record's results 0; a new result is written over the first of
-                                   * them; a take that hands one out moves all eight forward by one and makes the last 0, 0;
-                                   * everything else, unsubscribing too, leaves them where they were */
+#define MCS_IN_MARK 6u            /* 4 octets: the place that was served last, 0 to 19, which is 10 times the service plus the
+                                   * slot; 19 while not connected and after connect. A take looks from the next place on, round
+                                   * the twenty */
+
+/* In the 294 octets of a service: its player, and an account for each client. */
+#define MCS_IN_NAME 0u            /* 128 octets, of which the first MCS_IN_NAME_LENGTH says are the name. Those behind it mean
+                                   * nothing: mcs_start makes them 0, and every other call leaves those that no name covers as
+                                   * they were */
+#define MCS_IN_NAME_LENGTH 128u   /* 1 octet, 0 to 128 */
+#define MCS_IN_CCID 129u          /* 1 octet */
+#define MCS_IN_MEDIA_STATE 130u   /* 1 octet */
+#define MCS_IN_ORDER 131u         /* 1 octet, 1 to 8 */
+#define MCS_IN_SPEED 132u         /* 1 octet, signed */
+#define MCS_IN_SEEKING 133u       /* 1 octet, signed */
+#define MCS_IN_MASK 134u          /* 4 octets: bit 0 to 20 for each opcode; the others are kept and count as 0 */
+#define MCS_IN_GROUP 138u         /* 4 octets; 0 while Inactive, as are the two that follow */
+#define MCS_IN_TRACK 142u         /* 4 octets */
+#define MCS_IN_POSITION 146u      /* 4 octets, hundredths of a second */
+#define MCS_IN_ACCOUNT(client) (150u + 36u * (client))
+
+/* In the 36 octets of a client's account in a service. Slots are the bits 0 to 9 for the characteristics 1, 4, 5, 6, 7, 8, 9, 15,
+ * 17, 18. */
+#define MCS_IN_SUBSCRIBED 0u      /* 4 octets, a set of slots */
+#define MCS_IN_OWED 4u            /* 4 octets, a set of slots */
+#define MCS_IN_READ 8u            /* 4 octets: bit c where characteristic c was read at 0 since connecting and has not changed
+                                   * since */
+#define MCS_IN_WAITING 12u        /* 8 octets: how many results wait, 0 to 8 */
+#define MCS_IN_RESULTS 20u        /* 8 times 2 octets: requested opcode, result; oldest first. Those that do not wait mean
+                                   * nothing: start, connect and disconnect make an account's results 0; a new result is written
+                                   * over the first of them; a take that hands one out moves all eight forward by one and makes
+                                   * the last 0, 0; everything else, unsubscribing too, leaves them where they were */
 
 /* ---- Calls ------------------------------------------------------------------------------------------------------------------
  * The catalogue is lent to every call but card load and cue sheet: three tables of words and the text, lengths in words and in
@@ -259,47 +284,51 @@ uint32_t mcs_card_write(MCS_CATALOGUE, uint8_t *card, size_t card_len, uint32_t 
 uint32_t mcs_cue_sheet(const uint8_t *sheet, size_t sheet_len, uint32_t *starts, size_t starts_len, uint32_t *count,
                        uint32_t *line);
 
-/* Start: a state with this name, opcode mask and Content Control ID, Inactive, order 3, speed 0, no client connected. What the
- * state's octets held before does not matter. Refusals: 200, 207. */
-uint32_t mcs_start(MCS_CATALOGUE, const uint8_t *name, size_t name_len, uint32_t mask, uint8_t ccid,
-                   uint8_t state[MCS_STATE_OCTETS], MCS_PLACE);
+/* Start: a state in which each service has this name, opcode mask and Content Control ID, and is Inactive, order 3, speed 0, and
+ * no client is connected. What the state's octets held before does not matter. Service 0's name is wholly checked before service
+ * 1's. Refusals: 200, 207. */
+uint32_t mcs_start(MCS_CATALOGUE, const uint8_t *name0, size_t name0_len, uint32_t mask0, uint8_t ccid0, const uint8_t *name1,
+                   size_t name1_len, uint32_t mask1, uint8_t ccid1, uint8_t state[MCS_STATE_OCTETS], MCS_PLACE);
 
-/* Set name. Refusals: 200, 201, 207. */
-uint32_t mcs_set_name(MCS_CATALOGUE, uint8_t state[MCS_STATE_OCTETS], const uint8_t *name, size_t name_len, MCS_PLACE);
+/* Set name. Refusals: 200, 201, 219, 207. */
+uint32_t mcs_set_name(MCS_CATALOGUE, uint8_t state[MCS_STATE_OCTETS], uint32_t service, const uint8_t *name, size_t name_len,
+                      MCS_PLACE);
 
-/* Activate a group: its first track in the playing order, position 0, Paused. Refusals: 200, 201, 208. */
-uint32_t mcs_activate(MCS_CATALOGUE, uint8_t state[MCS_STATE_OCTETS], uint32_t group, MCS_PLACE);
+/* Activate a group: its first track in the playing order, position 0, Paused. Refusals: 200, 201, 219, 208. */
+uint32_t mcs_activate(MCS_CATALOGUE, uint8_t state[MCS_STATE_OCTETS], uint32_t service, uint32_t group, MCS_PLACE);
 
-/* Deactivate: no current track. Refusals: 200, 201. */
-uint32_t mcs_deactivate(MCS_CATALOGUE, uint8_t state[MCS_STATE_OCTETS], MCS_PLACE);
+/* Deactivate: no current track. Refusals: 200, 201, 219. */
+uint32_t mcs_deactivate(MCS_CATALOGUE, uint8_t state[MCS_STATE_OCTETS], uint32_t service, MCS_PLACE);
 
-/* Advance: d hundredths of a second pass. Refusals: 200, 201. */
-uint32_t mcs_advance(MCS_CATALOGUE, uint8_t state[MCS_STATE_OCTETS], uint32_t d, MCS_PLACE);
+/* Advance: d hundredths of a second pass for this service. Refusals: 200, 201, 219. */
+uint32_t mcs_advance(MCS_CATALOGUE, uint8_t state[MCS_STATE_OCTETS], uint32_t service, uint32_t d, MCS_PLACE);
 
-/* Connect; encrypted is 0 for no. Refusals: 200, 201, 202, 204, 206. */
+/* Connect, to both services; encrypted is 0 for no. Refusals: 200, 201, 202, 204, 206. */
 uint32_t mcs_connect(MCS_CATALOGUE, uint8_t state[MCS_STATE_OCTETS], uint32_t client, uint32_t mtu, uint8_t encrypted,
                      MCS_PLACE);
 
-/* Disconnect: the client's record is start's again. Refusals: 200, 201, 202, 203. */
+/* Disconnect, from both services: the client's link and its account in each are start's again. Refusals: 200, 201, 202, 203. */
 uint32_t mcs_disconnect(MCS_CATALOGUE, uint8_t state[MCS_STATE_OCTETS], uint32_t client, MCS_PLACE);
 
 /* Subscribe, unsubscribe: a client's Client Characteristic Configuration for notifications.
- * Refusals: 200, 201, 202, 203, 0x01, 209, 0x0F. */
-uint32_t mcs_subscribe(MCS_CATALOGUE, uint8_t state[MCS_STATE_OCTETS], uint32_t client, uint32_t characteristic, MCS_PLACE);
-uint32_t mcs_unsubscribe(MCS_CATALOGUE, uint8_t state[MCS_STATE_OCTETS], uint32_t client, uint32_t characteristic, MCS_PLACE);
+ * Refusals: 200, 201, 202, 219, 203, 0x01, 209, 0x0F. */
+uint32_t mcs_subscribe(MCS_CATALOGUE, uint8_t state[MCS_STATE_OCTETS], uint32_t client, uint32_t service, uint32_t characteristic,
+                       MCS_PLACE);
+uint32_t mcs_unsubscribe(MCS_CATALOGUE, uint8_t state[MCS_STATE_OCTETS], uint32_t client, uint32_t service,
+                         uint32_t characteristic, MCS_PLACE);
 
 /* Read at an offset: the value's octets from there on, at most ATT_MTU - 1, over the front of out; their number in *length. The
- * octets of out behind them stay. Refusals: 200, 205, 201, 202, 203, 0x01, 0x02, 0x0F, 0x80, 0x07. */
-uint32_t mcs_read(MCS_CATALOGUE, uint8_t state[MCS_STATE_OCTETS], uint32_t client, uint32_t characteristic, uint32_t offset,
-                  uint8_t *out, size_t out_len, uint32_t *length, MCS_PLACE);
+ * octets of out behind them stay. Refusals: 200, 205, 201, 202, 219, 203, 0x01, 0x02, 0x0F, 0x80, 0x07. */
+uint32_t mcs_read(MCS_CATALOGUE, uint8_t state[MCS_STATE_OCTETS], uint32_t client, uint32_t service, uint32_t characteristic,
+                  uint32_t offset, uint8_t *out, size_t out_len, uint32_t *length, MCS_PLACE);
 
-/* Write. Refusals: 200, 201, 202, 203, 0x01, 0x03, 0x0F, 0x0D, 0x13, 0x11. */
-uint32_t mcs_write(MCS_CATALOGUE, uint8_t state[MCS_STATE_OCTETS], uint32_t client, uint32_t characteristic,
+/* Write. Refusals: 200, 201, 202, 219, 203, 0x01, 0x03, 0x0F, 0x0D, 0x13, 0x11. */
+uint32_t mcs_write(MCS_CATALOGUE, uint8_t state[MCS_STATE_OCTETS], uint32_t client, uint32_t service, uint32_t characteristic,
                    const uint8_t *value, size_t value_len, MCS_PLACE);
 
-/* Take: the next notification, to be sent now. served is the client, the characteristic and the number of octets over the front
- * of out; characteristic 0, with the other two 0, where nothing is owed to anyone. Refusals: 200, 205, 201. */
-uint32_t mcs_take(MCS_CATALOGUE, uint8_t state[MCS_STATE_OCTETS], uint8_t *out, size_t out_len, uint32_t served[3], MCS_PLACE);
+/* Take: the next notification, to be sent now. served is the client, the service, the characteristic and the number of octets
+ * over the front of out; characteristic 0, with the other three 0, where nothing is owed to anyone. Refusals: 200, 205, 201. */
+uint32_t mcs_take(MCS_CATALOGUE, uint8_t state[MCS_STATE_OCTETS], uint8_t *out, size_t out_len, uint32_t served[4], MCS_PLACE);
 
 #ifdef __cplusplus
 }

@@ -2,8 +2,11 @@
  * takes it. There is nothing to link but the library: everything here is inline, and mcs.h, which is proved, lies below it.
  *
  *     static struct mcs_desk desk;
+ *     struct mcs_player players[MCS_SERVICES];
+ *     players[MCS_GENERIC] = ...;                  (name, opcodes and Content Control ID of each service's player)
+ *     players[MCS_NAMED] = ...;
  *     desk.catalogue = ...;                        (the lent tables, or mcs_catalogue_load from a card)
- *     mcs_desk_start(&desk, name, name_len, MCS_ALL_OPCODES, content_control_id);
+ *     mcs_desk_start(&desk, players);
  *
  * What a host has to know:
  *
@@ -12,26 +15,31 @@
  *       struct mcs_served served;
  *       uint8_t value[MCS_OUTPUT_OCTETS];
  *       while (mcs_desk_take(&desk, value, sizeof value, &served) == MCS_OK && served.characteristic != MCS_NOTHING) {
- *           notify(served.client, served.characteristic, value, served.length);
+ *           notify(served.client, served.service, served.characteristic, value, served.length);
  *       }
  *
  *   It may take later, or stop in between where the radio has no room: what is owed stays owed. A value is the one of the
  *   moment of the take, so it takes when it can send.
  * - Every call looks at the whole catalogue, so its cost grows with the tables: microseconds for a few tracks, milliseconds on
  *   a small chip for a full catalogue. No call belongs into an interrupt.
- * - ATT_MTU and encryption are given when a client connects and stay until it disconnects. A host connects a client here when
- *   both are settled; where one changes later, it disconnects, connects and subscribes the client again.
+ * - A desk is two services of the host's GATT server, MCS_GENERIC and MCS_NAMED, with the same characteristics. The host knows
+ *   by the attribute's handle which of them a client reads, writes or subscribes to, and a take says whose handle to notify. Both
+ *   play the same catalogue, and a call to one is nothing to the other: where time passes for both, the host advances both.
+ * - ATT_MTU and encryption are given when a client connects, which it does to both services, and stay until it disconnects. A
+ *   host connects a client here when both are settled; where one changes later, it disconnects, connects and subscribes the
+ *   client again.
  * - One thread at a time for a state. Different states have nothing in common.
  * - A number that is not MCS_OK says that nothing was altered. MCS_IS_ATT_ERROR tells which numbers are answers to the client,
  *   to be sent as the error code of an ATT Error Response; all others are faults of the host itself (a wrong catalogue, state,
- *   client number or buffer, a card or a cue sheet that is refused), and must not go on air.
+ *   client or service number or buffer, a card or a cue sheet that is refused), and must not go on air.
  * - A card that is refused for one bad block need not be thrown away. Where mcs_names_block says so of the number, the host shows
  *   number, words and block to whoever brought the card: the octets from MCS_BLOCK_OCTETS times the block on are to be looked at,
  *   or written again. By MCS_NOT_FULL all blocks from there on are, since the records of the next ones move up. The blocks before it
  *   are right; those behind it may be bad too.
  * - Where a title or a name is not UTF-8, the host can show the place to whoever typed it: after every call desk.place holds the track
  *   and the octet within its title that MCS_BAD_CATALOGUE carries, or the octet within the name that MCS_BAD_NAME carries, and
- *   MCS_NOWHERE for what the call did not carry.
+ *   MCS_NOWHERE for what the call did not carry. Of the two names of a start it is the first bad one, by the order of the
+ *   services.
  */
 #ifndef MCS_DESK_H
 #define MCS_DESK_H
@@ -57,6 +65,7 @@ static inline int mcs_names_block(uint32_t number)
     ROW(MCS_SMALL_OUTPUT, "the lent output has under 128 octets")                                                              \
     ROW(MCS_BAD_STATE, "the state breaks a rule")                                                                              \
     ROW(MCS_NO_CLIENT, "there is no such client")                                                                              \
+    ROW(MCS_NO_SERVICE, "there is no such service")                                                                            \
     ROW(MCS_NOT_CONNECTED, "the client is not connected")                                                                      \
     ROW(MCS_ALREADY_CONNECTED, "the client is connected already")                                                              \
     ROW(MCS_BAD_MTU, "ATT_MTU is not 23 to 517")                                                                               \
@@ -86,8 +95,13 @@ static inline int mcs_names_block(uint32_t number)
     ROW(MCS_NOT_RISING, "the first start is not 0, or a start is not above the one before")                                    \
     ROW(MCS_MANY_STARTS, "the cue sheet has more starts than there is room for")
 
-/* ROW(number, properties, words), by rising number. The slots, which are bits in a client's words of the state, are the
- * characteristics that notify, in this order. */
+/* ROW(number, words). */
+#define MCS_EACH_SERVICE(ROW)                                                                                                  \
+    ROW(MCS_GENERIC, "Generic Media Control Service")                                                                          \
+    ROW(MCS_NAMED, "Media Control Service")
+
+/* ROW(number, properties, words), by rising number. The slots, which are bits in the words of a client's accounts in the state,
+ * are the characteristics that notify, in this order. */
 #define MCS_MAY_READ 1u
 #define MCS_MAY_WRITE 2u
 #define MCS_MAY_NOTIFY 4u
@@ -166,6 +180,7 @@ static inline int mcs_names_block(uint32_t number)
         }                                                                                                                      \
     }
 MCS_WORDS(mcs_refusal_words, MCS_EACH_REFUSAL, MCS_WORDS_OF)
+MCS_WORDS(mcs_service_words, MCS_EACH_SERVICE, MCS_WORDS_OF)
 MCS_WORDS(mcs_characteristic_words, MCS_EACH_CHARACTERISTIC, MCS_WORDS_OF_THREE)
 MCS_WORDS(mcs_opcode_words, MCS_EACH_OPCODE, MCS_WORDS_OF_THREE)
 MCS_WORDS(mcs_result_words, MCS_EACH_RESULT, MCS_WORDS_OF)
@@ -210,17 +225,29 @@ static inline struct mcs_place *mcs_nowhere(struct mcs_place *place)
     return place;
 }
 
+/* The player of a service at start: its name in UTF-8, the opcodes that it supports, by their bits (MCS_ALL_OPCODES, or some of
+ * them), and its Content Control ID. */
+struct mcs_player {
+    const uint8_t *name;
+    size_t name_len;
+    uint32_t mask;
+    uint8_t ccid;
+};
+
+/* A player as mcs_start takes it, argument by argument. */
+#define MCS_STARTED(player) (player).name, (player).name_len, (player).mask, (player).ccid
+
 /* A desk: the catalogue that its calls are lent, its state, and what its last call carried. The state may be stored and restored by
- * its octets, together with MCS_STATE_LAYOUT; it is checked by every call. */
+ * its octets, of which the first says their layout; it is checked by every call. */
 struct mcs_desk {
     struct mcs_catalogue catalogue;
     uint8_t state[MCS_STATE_OCTETS];
     struct mcs_place place;
 };
 
-/* What a take served: so many octets of this characteristic to this client. */
+/* What a take served: to this client, of this service and this characteristic so many octets. */
 struct mcs_served {
-    uint32_t client, characteristic, length;
+    uint32_t client, service, characteristic, length;
 };
 
 /* The characteristic of a take by which nothing was owed to anyone. */
@@ -280,30 +307,31 @@ static inline uint32_t mcs_cue_load(const uint8_t *sheet, size_t sheet_len, uint
     return mcs_cue_sheet(sheet, sheet_len, starts, starts_len, &cue->count, &cue->line);
 }
 
-/* Start. The desk's catalogue is there before it. */
-static inline uint32_t mcs_desk_start(struct mcs_desk *desk, const uint8_t *name, size_t name_len, uint32_t mask, uint8_t ccid)
+/* Start, with the players in the order of their services. The desk's catalogue is there before it. */
+static inline uint32_t mcs_desk_start(struct mcs_desk *desk, const struct mcs_player players[MCS_SERVICES])
 {
-    return mcs_start(MCS_LENT(desk->catalogue), name, name_len, mask, ccid, desk->state, MCS_CARRIED(&desk->place));
+    return mcs_start(MCS_LENT(desk->catalogue), MCS_STARTED(players[MCS_GENERIC]), MCS_STARTED(players[MCS_NAMED]), desk->state,
+                     MCS_CARRIED(&desk->place));
 }
 
-static inline uint32_t mcs_desk_set_name(struct mcs_desk *desk, const uint8_t *name, size_t name_len)
+static inline uint32_t mcs_desk_set_name(struct mcs_desk *desk, uint32_t service, const uint8_t *name, size_t name_len)
 {
-    return mcs_set_name(MCS_LENT(desk->catalogue), desk->state, name, name_len, MCS_CARRIED(&desk->place));
+    return mcs_set_name(MCS_LENT(desk->catalogue), desk->state, service, name, name_len, MCS_CARRIED(&desk->place));
 }
 
-static inline uint32_t mcs_desk_activate(struct mcs_desk *desk, uint32_t group)
+static inline uint32_t mcs_desk_activate(struct mcs_desk *desk, uint32_t service, uint32_t group)
 {
-    return mcs_activate(MCS_LENT(desk->catalogue), desk->state, group, MCS_CARRIED(&desk->place));
+    return mcs_activate(MCS_LENT(desk->catalogue), desk->state, service, group, MCS_CARRIED(&desk->place));
 }
 
-static inline uint32_t mcs_desk_deactivate(struct mcs_desk *desk)
+static inline uint32_t mcs_desk_deactivate(struct mcs_desk *desk, uint32_t service)
 {
-    return mcs_deactivate(MCS_LENT(desk->catalogue), desk->state, MCS_CARRIED(&desk->place));
+    return mcs_deactivate(MCS_LENT(desk->catalogue), desk->state, service, MCS_CARRIED(&desk->place));
 }
 
-static inline uint32_t mcs_desk_advance(struct mcs_desk *desk, uint32_t hundredths)
+static inline uint32_t mcs_desk_advance(struct mcs_desk *desk, uint32_t service, uint32_t hundredths)
 {
-    return mcs_advance(MCS_LENT(desk->catalogue), desk->state, hundredths, MCS_CARRIED(&desk->place));
+    return mcs_advance(MCS_LENT(desk->catalogue), desk->state, service, hundredths, MCS_CARRIED(&desk->place));
 }
 
 static inline uint32_t mcs_desk_connect(struct mcs_desk *desk, uint32_t client, uint32_t mtu, uint8_t encrypted)
@@ -316,38 +344,39 @@ static inline uint32_t mcs_desk_disconnect(struct mcs_desk *desk, uint32_t clien
     return mcs_disconnect(MCS_LENT(desk->catalogue), desk->state, client, MCS_CARRIED(&desk->place));
 }
 
-static inline uint32_t mcs_desk_subscribe(struct mcs_desk *desk, uint32_t client, uint32_t characteristic)
+static inline uint32_t mcs_desk_subscribe(struct mcs_desk *desk, uint32_t client, uint32_t service, uint32_t characteristic)
 {
-    return mcs_subscribe(MCS_LENT(desk->catalogue), desk->state, client, characteristic, MCS_CARRIED(&desk->place));
+    return mcs_subscribe(MCS_LENT(desk->catalogue), desk->state, client, service, characteristic, MCS_CARRIED(&desk->place));
 }
 
-static inline uint32_t mcs_desk_unsubscribe(struct mcs_desk *desk, uint32_t client, uint32_t characteristic)
+static inline uint32_t mcs_desk_unsubscribe(struct mcs_desk *desk, uint32_t client, uint32_t service, uint32_t characteristic)
 {
-    return mcs_unsubscribe(MCS_LENT(desk->catalogue), desk->state, client, characteristic, MCS_CARRIED(&desk->place));
+    return mcs_unsubscribe(MCS_LENT(desk->catalogue), desk->state, client, service, characteristic, MCS_CARRIED(&desk->place));
 }
 
-static inline uint32_t mcs_desk_read(struct mcs_desk *desk, uint32_t client, uint32_t characteristic, uint32_t offset,
-                                     uint8_t *out, size_t out_len, uint32_t *length)
+static inline uint32_t mcs_desk_read(struct mcs_desk *desk, uint32_t client, uint32_t service, uint32_t characteristic,
+                                     uint32_t offset, uint8_t *out, size_t out_len, uint32_t *length)
 {
-    return mcs_read(MCS_LENT(desk->catalogue), desk->state, client, characteristic, offset, out, out_len, length,
+    return mcs_read(MCS_LENT(desk->catalogue), desk->state, client, service, characteristic, offset, out, out_len, length,
                     MCS_CARRIED(&desk->place));
 }
 
-static inline uint32_t mcs_desk_write(struct mcs_desk *desk, uint32_t client, uint32_t characteristic, const uint8_t *value,
-                                      size_t value_len)
+static inline uint32_t mcs_desk_write(struct mcs_desk *desk, uint32_t client, uint32_t service, uint32_t characteristic,
+                                      const uint8_t *value, size_t value_len)
 {
-    return mcs_write(MCS_LENT(desk->catalogue), desk->state, client, characteristic, value, value_len,
+    return mcs_write(MCS_LENT(desk->catalogue), desk->state, client, service, characteristic, value, value_len,
                      MCS_CARRIED(&desk->place));
 }
 
 static inline uint32_t mcs_desk_take(struct mcs_desk *desk, uint8_t *out, size_t out_len, struct mcs_served *served)
 {
-    uint32_t words[3] = {0, 0, 0};
+    uint32_t words[4] = {0, 0, 0, 0};
     uint32_t number = mcs_take(MCS_LENT(desk->catalogue), desk->state, out, out_len, words, MCS_CARRIED(&desk->place));
     if (number == MCS_OK) {
         served->client = words[0];
-        served->characteristic = words[1];
-        served->length = words[2];
+        served->service = words[1];
+        served->characteristic = words[2];
+        served->length = words[3];
     }
     return number;
 }

@@ -1,4 +1,4 @@
-/* The desk player core, written along document 01 and the requests of document 02 that have landed: W-201 to W-207, and W-212 for
+/* The desk player core, written along document 01 and the requests of document 02 that have landed: W-201 to W-208, and W-212 for
  * the cue sheet. A comment in quotation marks is a sentence of document 01; where a request is named, and in the cue sheet's
  * part, it is one of document 02. */
 #include "ref.h"
@@ -25,6 +25,7 @@ enum {
     KIND_WRONG = 216,
     COUNT_WRONG = 217,
     PADDING_WRONG = 218,
+    SERVICE_OVER_1 = 219,
     SHEET_LONG = 225,
     LINE_WRONG = 226,
     NOT_RISING = 227,
@@ -60,7 +61,7 @@ enum {
 static const uint32_t SLOT[REF_SLOTS] = {1, 4, 5, 6, 7, 8, 9, 15, 17, 18};
 #define ALL_SLOTS 0x3FFu
 #define CONTROL_SLOT 9u
-#define NO_SUCH_SLOT 10u
+#define NO_SUCH_SLOT REF_SLOTS
 
 /* "1 name, 4 Track Changed, 5 title, ... 22 Content Control ID" */
 static const uint32_t THIRTEEN[13] = {1, 4, 5, 6, 7, 8, 9, 15, 16, 17, 18, 19, 22};
@@ -612,30 +613,30 @@ static uint32_t order_list(const catalogue *c, uint32_t order, uint32_t group, u
 
 /* "Activate: the group's first track in the order" and, of orders 1 and 2, "when a group is activated or moved to, its
  * lowest track comes first". */
-static void enter_group(const catalogue *c, ref_state *s, uint32_t group)
+static void enter_group(const catalogue *c, ref_player *p, uint32_t group)
 {
     uint32_t list[256];
-    (void)order_list(c, s->order, group, group_first(c, group), list);
-    s->group = group;
-    s->track = list[0];
-    s->position = 0;
+    (void)order_list(c, p->order, group, group_first(c, group), list);
+    p->group = group;
+    p->track = list[0];
+    p->position = 0;
 }
 
 /* "Inactive exactly when there is no current track"; group, track and position are then those of start. */
-static void leave_group(ref_state *s)
+static void leave_group(ref_player *p)
 {
-    s->media = REF_INACTIVE;
-    s->seeking = 0;
-    s->group = 0;
-    s->track = 0;
-    s->position = 0;
+    p->media = REF_INACTIVE;
+    p->seeking = 0;
+    p->group = 0;
+    p->track = 0;
+    p->position = 0;
 }
 
-static void set_media(ref_state *s, uint8_t media)
+static void set_media(ref_player *p, uint8_t media)
 {
     /* "Outside Seeking the speed is 0." */
-    s->media = media;
-    s->seeking = 0;
+    p->media = media;
+    p->seeking = 0;
 }
 
 static uint32_t held(int64_t to, uint32_t most)
@@ -688,42 +689,42 @@ static uint32_t list_move(uint32_t count, uint32_t at, int repeats, int move, in
     return n > 0 ? (uint32_t)steps : count - 1u - (uint32_t)steps;
 }
 
-static int track_move(const catalogue *c, ref_state *s, int move, int64_t n)
+static int track_move(const catalogue *c, ref_player *p, int move, int64_t n)
 {
     uint32_t list[256];
-    uint32_t count = order_list(c, s->order, s->group, s->track, list), at = 0, to;
+    uint32_t count = order_list(c, p->order, p->group, p->track, list), at = 0, to;
 
-    while (list[at] != s->track) {
+    while (list[at] != p->track) {
         at++;
     }
     /* "Odd is once, even repeats." */
-    to = list_move(count, at, s->order % 2u == 0, move, n);
+    to = list_move(count, at, p->order % 2u == 0, move, n);
     if (to == count) {
         return 0;
     }
-    s->track = list[to];
+    p->track = list[to];
     /* "Position becomes 0." */
-    s->position = 0;
+    p->position = 0;
     return 1;
 }
 
-static int group_move(const catalogue *c, ref_state *s, int move, int64_t n)
+static int group_move(const catalogue *c, ref_player *p, int move, int64_t n)
 {
     uint32_t list[64];
     uint32_t count = 0, at = 0, to, g;
 
     /* "Group moves run over the groups of the same parent that have tracks, group 0 left out; for group 0 over itself
      * alone." */
-    if (s->group == 0) {
+    if (p->group == 0) {
         list[count++] = 0;
     } else {
         for (g = 1; g < c->group_count; g++) {
-            if (group_parent(c, g) == group_parent(c, s->group) && group_tracks(c, g) > 0) {
+            if (group_parent(c, g) == group_parent(c, p->group) && group_tracks(c, g) > 0) {
                 list[count++] = g;
             }
         }
     }
-    while (at + 1 < count && list[at] != s->group) {
+    while (at + 1 < count && list[at] != p->group) {
         at++;
     }
     /* "No repeat; Goto as above, 0 keeps the group. Then the group's first track, position 0." */
@@ -731,7 +732,7 @@ static int group_move(const catalogue *c, ref_state *s, int move, int64_t n)
     if (to == count) {
         return 0;
     }
-    enter_group(c, s, list[to]);
+    enter_group(c, p, list[to]);
     return 1;
 }
 
@@ -752,21 +753,21 @@ static uint32_t previous_start(const uint32_t *starts, uint32_t count, uint32_t 
 
 /* Next where no start is later: "or D". Request W-202, of a running recording: "Next Segment with no later start, and a
  * Goto that needs it, give result 4." Whether the move can be made. */
-static int next_without_later_start(const catalogue *c, ref_state *s)
+static int next_without_later_start(const catalogue *c, ref_player *p)
 {
-    if (is_running(c, s->track)) {
+    if (is_running(c, p->track)) {
         return 0;
     }
-    s->position = track_d(c, s->track);
+    p->position = track_d(c, p->track);
     return 1;
 }
 
 /* Whether the move can be made; where it cannot, nothing moves. */
-static int segment_move(const catalogue *c, ref_state *s, int move, int64_t n)
+static int segment_move(const catalogue *c, ref_player *p, int move, int64_t n)
 {
     static const uint32_t WHOLE[1] = {0};
     const uint32_t *starts;
-    uint32_t count = track_segments(c, s->track), k;
+    uint32_t count = track_segments(c, p->track), k;
     uint64_t steps;
 
     /* "A track without segments is one segment from 0." */
@@ -774,26 +775,26 @@ static int segment_move(const catalogue *c, ref_state *s, int move, int64_t n)
         starts = WHOLE;
         count = 1;
     } else {
-        starts = c->segments + track_first(c, s->track);
+        starts = c->segments + track_first(c, p->track);
     }
     switch (move) {
     case PREVIOUS:
-        s->position = previous_start(starts, count, s->position);
+        p->position = previous_start(starts, count, p->position);
         return 1;
     case NEXT:
         /* "Next: the least start above it, or D." */
         for (k = 0; k < count; k++) {
-            if (starts[k] > s->position) {
-                s->position = starts[k];
+            if (starts[k] > p->position) {
+                p->position = starts[k];
                 return 1;
             }
         }
-        return next_without_later_start(c, s);
+        return next_without_later_start(c, p);
     case FIRST:
-        s->position = starts[0];
+        p->position = starts[0];
         return 1;
     case LAST:
-        s->position = starts[count - 1u];
+        p->position = starts[count - 1u];
         return 1;
     default:
         break;
@@ -807,13 +808,13 @@ static int segment_move(const catalogue *c, ref_state *s, int move, int64_t n)
     steps = (uint64_t)(n > 0 ? n : -n) - 1u;
     if (n > 0) {
         if (steps >= count) {
-            return next_without_later_start(c, s);
+            return next_without_later_start(c, p);
         }
-        s->position = starts[steps];
+        p->position = starts[steps];
     } else {
-        s->position = starts[count - 1u];
-        for (; steps > 0 && s->position > 0; steps--) {
-            s->position = previous_start(starts, count, s->position);
+        p->position = starts[count - 1u];
+        for (; steps > 0 && p->position > 0; steps--) {
+            p->position = previous_start(starts, count, p->position);
         }
     }
     return 1;
@@ -834,21 +835,21 @@ static int is_rung(int8_t speed)
 }
 
 /* "Fast Forward enters Seeking at 4, Rewind at −4; while Seeking one rung up or down, staying at the end rung." */
-static void seek(ref_state *s, int up)
+static void seek(ref_player *p, int up)
 {
     uint32_t k = 0;
-    if (s->media != REF_SEEKING) {
-        s->media = REF_SEEKING;
-        s->seeking = up ? 4 : -4;
+    if (p->media != REF_SEEKING) {
+        p->media = REF_SEEKING;
+        p->seeking = up ? 4 : -4;
         return;
     }
-    while (RUNG[k] != s->seeking) {
+    while (RUNG[k] != p->seeking) {
         k++;
     }
     if (up) {
-        s->seeking = RUNG[k < 7u ? k + 1u : k];
+        p->seeking = RUNG[k < 7u ? k + 1u : k];
     } else {
-        s->seeking = RUNG[k > 0u ? k - 1u : k];
+        p->seeking = RUNG[k > 0u ? k - 1u : k];
     }
 }
 
@@ -877,57 +878,57 @@ static int carries_number(uint8_t opcode)
 
 /* The result code: "1 Success; 2 opcode unknown or not in the mask; 3 Inactive; 4 cannot be completed. First that
  * applies: 2, 3, 4, 1. After 2, 3, 4 the player is as before." */
-static uint8_t control(const catalogue *c, ref_state *s, uint8_t opcode, int64_t n)
+static uint8_t control(const catalogue *c, ref_player *p, uint8_t opcode, int64_t n)
 {
     uint32_t bit = mask_bit(opcode);
     int made;
 
     /* "Higher mask bits count as 0." */
-    if (bit == 32u || ((s->mask & ALL_OPCODES) >> bit & 1u) == 0) {
+    if (bit == 32u || ((p->mask & ALL_OPCODES) >> bit & 1u) == 0) {
         return 2;
     }
-    if (s->media == REF_INACTIVE) {
+    if (p->media == REF_INACTIVE) {
         return 3;
     }
     switch (opcode) {
     case 0x01:
         /* "Play gives Playing, Pause Paused, Stop Paused at 0." */
-        set_media(s, REF_PLAYING);
+        set_media(p, REF_PLAYING);
         break;
     case 0x02:
-        set_media(s, REF_PAUSED);
+        set_media(p, REF_PAUSED);
         break;
     case 0x03:
-        seek(s, 0);
+        seek(p, 0);
         break;
     case 0x04:
-        seek(s, 1);
+        seek(p, 1);
         break;
     case 0x05:
-        set_media(s, REF_PAUSED);
-        s->position = 0;
+        set_media(p, REF_PAUSED);
+        p->position = 0;
         break;
     case 0x10:
         /* "Move Relative: the sum, held to 0..D." "Segment moves and Move Relative keep the state." */
-        s->position = held((int64_t)s->position + n, track_d(c, s->track));
+        p->position = held((int64_t)p->position + n, track_d(c, p->track));
         break;
     case 0x20:
     case 0x21:
     case 0x22:
     case 0x23:
     case 0x24:
-        if (!segment_move(c, s, opcode - 0x20, n)) {
+        if (!segment_move(c, p, opcode - 0x20, n)) {
             return 4;
         }
         break;
     default:
-        made = opcode < 0x40 ? track_move(c, s, opcode - 0x30, n) : group_move(c, s, opcode - 0x40, n);
+        made = opcode < 0x40 ? track_move(c, p, opcode - 0x30, n) : group_move(c, p, opcode - 0x40, n);
         if (!made) {
             return 4;
         }
         /* "Track and group moves turn Seeking into Playing." */
-        if (s->media == REF_SEEKING) {
-            set_media(s, REF_PLAYING);
+        if (p->media == REF_SEEKING) {
+            set_media(p, REF_PLAYING);
         }
         break;
     }
@@ -936,48 +937,48 @@ static uint8_t control(const catalogue *c, ref_state *s, uint8_t opcode, int64_t
 
 /* "Position write: v ≥ 0 gives the lesser of v and D; v < 0 gives D + v, not below 0. While Inactive the write is taken
  * and alters nothing." Request W-202, of a running recording: "A negative position write is taken and moves nothing." */
-static void write_position(const catalogue *c, ref_state *s, int64_t v)
+static void write_position(const catalogue *c, ref_player *p, int64_t v)
 {
     uint32_t d;
-    if (s->media == REF_INACTIVE || (v < 0 && is_running(c, s->track))) {
+    if (p->media == REF_INACTIVE || (v < 0 && is_running(c, p->track))) {
         return;
     }
-    d = track_d(c, s->track);
-    s->position = held(v >= 0 ? v : (int64_t)d + v, d);
+    d = track_d(c, p->track);
+    p->position = held(v >= 0 ? v : (int64_t)d + v, d);
 }
 
 /* ---- Values */
 
 /* "Values: 1 and 5 text; 4 empty; 6, 7, 19 four octets; 16 two; 18 two; the rest one." The length; 18 has no value apart
  * from its results and comes out empty here. */
-static uint32_t value_of(const catalogue *c, const ref_state *s, uint32_t characteristic, uint8_t out[VALUE_ROOM])
+static uint32_t value_of(const catalogue *c, const ref_player *p, uint32_t characteristic, uint8_t out[VALUE_ROOM])
 {
-    int inactive = s->media == REF_INACTIVE;
+    int inactive = p->media == REF_INACTIVE;
 
     switch (characteristic) {
     case C_NAME:
-        memcpy(out, s->name, s->name_len);
-        return s->name_len;
+        memcpy(out, p->name, p->name_len);
+        return p->name_len;
     case C_TITLE:
         /* "title is then empty, duration and position read −1" */
-        if (inactive || track_title_len(c, s->track) == 0) {
+        if (inactive || track_title_len(c, p->track) == 0) {
             return 0;
         }
-        memcpy(out, c->text + track_title(c, s->track), track_title_len(c, s->track));
-        return track_title_len(c, s->track);
+        memcpy(out, c->text + track_title(c, p->track), track_title_len(c, p->track));
+        return track_title_len(c, p->track);
     case C_DURATION:
         /* Request W-202: "6 then reads −1", which is the word itself. */
-        return put_32(out, inactive ? 0xFFFFFFFFu : track_duration_word(c, s->track));
+        return put_32(out, inactive ? 0xFFFFFFFFu : track_duration_word(c, p->track));
     case C_POSITION:
-        return put_32(out, inactive ? 0xFFFFFFFFu : s->position);
+        return put_32(out, inactive ? 0xFFFFFFFFu : p->position);
     case C_SPEED:
-        out[0] = (uint8_t)s->speed;
+        out[0] = (uint8_t)p->speed;
         return 1;
     case C_SEEKING:
-        out[0] = (uint8_t)s->seeking;
+        out[0] = (uint8_t)p->seeking;
         return 1;
     case C_ORDER:
-        out[0] = s->order;
+        out[0] = p->order;
         return 1;
     case C_ORDERS:
         /* "Orders supported reads 0x00FF." */
@@ -985,12 +986,12 @@ static uint32_t value_of(const catalogue *c, const ref_state *s, uint32_t charac
         out[1] = 0x00;
         return 2;
     case C_STATE:
-        out[0] = s->media;
+        out[0] = p->media;
         return 1;
     case C_OPCODES:
-        return put_32(out, s->mask & ALL_OPCODES);
+        return put_32(out, p->mask & ALL_OPCODES);
     case C_CCID:
-        out[0] = s->ccid;
+        out[0] = p->ccid;
         return 1;
     default:
         return 0;
@@ -1033,89 +1034,116 @@ static uint32_t slot_of(uint32_t characteristic)
 
 /* ---- The state: 201 */
 
-static void start_record(ref_client *r)
+/* W-208: "Connect and disconnect act on both." */
+static void start_record(ref_state *s, uint32_t client)
 {
-    memset(r, 0, sizeof *r);
-    r->mtu = LOWEST_MTU;
-    r->mark = REF_SLOTS - 1u;
+    ref_link *link = &s->links[client];
+    uint32_t k;
+
+    memset(link, 0, sizeof *link);
+    link->mtu = LOWEST_MTU;
+    link->mark = REF_PLACES - 1u;
+    for (k = 0; k < REF_SERVICES; k++) {
+        memset(&s->services[k].accounts[client], 0, sizeof s->services[k].accounts[client]);
+    }
 }
 
-static int player_stands(const catalogue *c, const ref_state *s)
+static int player_stands(const catalogue *c, const ref_player *p)
 {
     /* "its name breaks 207" */
-    if (name_front(s->name, s->name_len) < s->name_len) {
+    if (name_front(p->name, p->name_len) < p->name_len) {
         return 0;
     }
-    if (s->order < 1 || s->order > 8 || s->media > REF_SEEKING) {
+    if (p->order < 1 || p->order > 8 || p->media > REF_SEEKING) {
         return 0;
     }
     /* "Outside Seeking the speed is 0." */
-    if (s->media == REF_SEEKING ? !is_rung(s->seeking) : s->seeking != 0) {
+    if (p->media == REF_SEEKING ? !is_rung(p->seeking) : p->seeking != 0) {
         return 0;
     }
     /* "Inactive exactly when there is no current track" */
-    if (s->media == REF_INACTIVE) {
-        return s->group == 0 && s->track == 0 && s->position == 0;
+    if (p->media == REF_INACTIVE) {
+        return p->group == 0 && p->track == 0 && p->position == 0;
     }
-    if (s->group >= c->group_count || s->track < group_first(c, s->group) ||
-        s->track - group_first(c, s->group) >= group_tracks(c, s->group)) {
+    if (p->group >= c->group_count || p->track < group_first(c, p->group) ||
+        p->track - group_first(c, p->group) >= group_tracks(c, p->group)) {
         return 0;
     }
     /* "Otherwise the position is 0 to the duration, D." */
-    return s->position <= track_d(c, s->track);
+    return p->position <= track_d(c, p->track);
 }
 
-static int record_stands(const ref_client *r)
+static int link_stands(const ref_link *link)
+{
+    /* A yes or no is 1 or 0. */
+    if (link->connected > 1 || link->encrypted > 1) {
+        return 0;
+    }
+    /* "unconnected and not start's" */
+    if (!link->connected) {
+        return !link->encrypted && link->mtu == LOWEST_MTU && link->mark == REF_PLACES - 1u;
+    }
+    /* "an ATT_MTU against 206, a round mark out of range" */
+    return link->mtu >= LOWEST_MTU && link->mtu <= HIGHEST_MTU && link->mark < REF_PLACES;
+}
+
+/* What one service has of the client whose link this is. */
+static int account_stands(const ref_link *link, const ref_account *a)
 {
     uint32_t k;
 
-    /* A yes or no is 1 or 0. */
-    if (r->connected > 1 || r->encrypted > 1) {
-        return 0;
-    }
     /* "unconnected and not start's"; the results behind those that wait are dead. */
-    if (!r->connected) {
-        return !r->encrypted && r->mtu == LOWEST_MTU && r->subscribed == 0 && r->owed == 0 && r->fresh == 0 &&
-               r->mark == REF_SLOTS - 1u && r->waiting == 0;
+    if (!link->connected) {
+        return a->subscribed == 0 && a->owed == 0 && a->fresh == 0 && a->waiting == 0;
     }
     /* "connected with over 8 results or a result code not 1..4" */
-    if (r->waiting > REF_RESULTS) {
+    if (a->waiting > REF_RESULTS) {
         return 0;
     }
-    for (k = 0; k < r->waiting; k++) {
-        if (r->results[k].code < 1 || r->results[k].code > 4) {
+    for (k = 0; k < a->waiting; k++) {
+        if (a->results[k].code < 1 || a->results[k].code > 4) {
             return 0;
         }
     }
     /* Bits outside the ten slots, and of what may not be read. */
-    if ((r->subscribed & ~ALL_SLOTS) != 0 || (r->owed & ~ALL_SLOTS) != 0) {
+    if ((a->subscribed & ~ALL_SLOTS) != 0 || (a->owed & ~ALL_SLOTS) != 0) {
         return 0;
     }
-    for (k = 0; k < 32u; k++) {
-        if ((r->fresh >> k & 1u) != 0 && !may_be_read(k)) {
+    for (k = 0; k < 32u && a->fresh >> k != 0; k++) {
+        if ((a->fresh >> k & 1u) != 0 && !may_be_read(k)) {
             return 0;
         }
     }
     /* "a slot owed but not subscribed, 18 owed otherwise than when results wait" */
-    if ((r->owed & ~r->subscribed) != 0 || (r->owed >> CONTROL_SLOT & 1u) != (r->waiting > 0 ? 1u : 0u)) {
+    if ((a->owed & ~a->subscribed) != 0 || (a->owed >> CONTROL_SLOT & 1u) != (a->waiting > 0 ? 1u : 0u)) {
         return 0;
     }
-    /* "an ATT_MTU against 206, a round mark out of range, a subscription while unencrypted" */
-    if (r->mtu < LOWEST_MTU || r->mtu > HIGHEST_MTU || r->mark >= REF_SLOTS) {
-        return 0;
-    }
-    return r->encrypted || r->subscribed == 0;
+    /* "a subscription while unencrypted" */
+    return link->encrypted || a->subscribed == 0;
 }
 
+/* Every call asks it of both players and of every client's records in both services, whichever it is a call to. */
 static int state_stands(const catalogue *c, const ref_state *s)
 {
-    uint32_t k;
-    if (!player_stands(c, s) || s->turn >= REF_CLIENTS) {
+    uint32_t k, j;
+
+    if (s->layout != REF_STATE_MARK || s->turn >= REF_CLIENTS) {
         return 0;
     }
     for (k = 0; k < REF_CLIENTS; k++) {
-        if (!record_stands(&s->clients[k])) {
+        if (!link_stands(&s->links[k])) {
             return 0;
+        }
+    }
+    for (j = 0; j < REF_SERVICES; j++) {
+        const ref_service *service = &s->services[j];
+        if (!player_stands(c, &service->player)) {
+            return 0;
+        }
+        for (k = 0; k < REF_CLIENTS; k++) {
+            if (!account_stands(&s->links[k], &service->accounts[k])) {
+                return 0;
+            }
         }
     }
     return 1;
@@ -1125,14 +1153,17 @@ static int state_stands(const catalogue *c, const ref_state *s)
 
 #define NO_CLIENT REF_CLIENTS
 
-/* The values before the call are those of `before`, after it those of `s`. `writer` is who wrote 8 or 15, or nobody;
- * `quiet` says that it was "an advance in Playing" that "stays below D". */
-static void make_owed(const catalogue *c, const ref_state *before, ref_state *s, uint32_t writer, int quiet)
+/* W-208: "Calls to one never alter replies, state or owed values of the other", so this is about one service: the values before
+ * the call are those of `before`, after it those of its player. `writer` is who wrote 8 or 15 there, or nobody; `quiet` says that
+ * it was "an advance in Playing" that "stays below D". */
+static void make_owed(const catalogue *c, const ref_player *before, ref_service *service, const ref_link links[REF_CLIENTS],
+                      uint32_t writer, int quiet)
 {
+    const ref_player *after = &service->player;
     uint8_t was[VALUE_ROOM], is[VALUE_ROOM];
     uint32_t k, j;
-    int track_changed = before->media == REF_INACTIVE ? s->media != REF_INACTIVE
-                                                      : s->media == REF_INACTIVE || s->track != before->track;
+    int track_changed = before->media == REF_INACTIVE ? after->media != REF_INACTIVE
+                                                      : after->media == REF_INACTIVE || after->track != before->track;
 
     for (k = 0; k < 13u; k++) {
         uint32_t characteristic = THIRTEEN[k], slot = slot_of(characteristic);
@@ -1143,7 +1174,7 @@ static void make_owed(const catalogue *c, const ref_state *before, ref_state *s,
             continue; /* owed by its results */
         }
         was_len = value_of(c, before, characteristic, was);
-        is_len = value_of(c, s, characteristic, is);
+        is_len = value_of(c, after, characteristic, is);
         /* "A slot is owed to a subscribed client when a call changes its value." */
         changed = was_len != is_len || memcmp(was, is, is_len) != 0;
         owed = changed;
@@ -1156,20 +1187,20 @@ static void make_owed(const catalogue *c, const ref_state *before, ref_state *s,
             owed = 1;
         }
         for (j = 0; j < REF_CLIENTS; j++) {
-            ref_client *r = &s->clients[j];
-            if (!r->connected) {
+            ref_account *a = &service->accounts[j];
+            if (!links[j].connected) {
                 continue;
             }
             /* 0x80: "some call changed the value (even if changed back)" */
             if (changed) {
-                r->fresh &= ~(1u << characteristic);
+                a->fresh &= ~(1u << characteristic);
             }
             /* "8 and 15 to the client that wrote them"; "What is already owed stays owed" */
             if ((characteristic == C_SPEED || characteristic == C_ORDER) && j == writer) {
                 continue;
             }
-            if (owed && slot != NO_SUCH_SLOT && (r->subscribed >> slot & 1u) != 0) {
-                r->owed |= 1u << slot;
+            if (owed && slot != NO_SUCH_SLOT && (a->subscribed >> slot & 1u) != 0) {
+                a->owed |= 1u << slot;
             }
         }
     }
@@ -1177,183 +1208,209 @@ static void make_owed(const catalogue *c, const ref_state *before, ref_state *s,
 
 /* ---- The calls */
 
-uint32_t ref_start(REF_CATALOGUE, const uint8_t *name, size_t name_len, uint32_t mask, uint8_t ccid, ref_state *state,
-                   REF_PLACE)
+uint32_t ref_start(REF_CATALOGUE, const uint8_t *name0, size_t name0_len, uint32_t mask0, uint8_t ccid0, const uint8_t *name1,
+                   size_t name1_len, uint32_t mask1, uint8_t ccid1, ref_state *state, REF_PLACE)
 {
+    const struct {
+        const uint8_t *name;
+        size_t name_len;
+        uint32_t mask;
+        uint8_t ccid;
+    } given[REF_SERVICES] = {{name0, name0_len, mask0, ccid0}, {name1, name1_len, mask1, ccid1}};
     catalogue c;
     uint32_t k;
-    size_t front;
 
     if (!LEND(c)) {
         return CATALOGUE_WRONG;
     }
-    front = name_front(name, name_len);
-    if (front < name_len) {
-        *bad_offset = (uint32_t)front;
-        return NAME_WRONG;
+    /* W-208: "Start names both players at once, generic (0) checked first" */
+    for (k = 0; k < REF_SERVICES; k++) {
+        size_t front = name_front(given[k].name, given[k].name_len);
+        if (front < given[k].name_len) {
+            *bad_offset = (uint32_t)front;
+            return NAME_WRONG;
+        }
     }
-    /* "Start leaves Inactive, order 3, speed 0" */
     memset(state, 0, sizeof *state);
-    if (name_len > 0) {
-        memcpy(state->name, name, name_len);
+    state->layout = REF_STATE_MARK;
+    for (k = 0; k < REF_SERVICES; k++) {
+        ref_player *p = &state->services[k].player;
+        if (given[k].name_len > 0) {
+            memcpy(p->name, given[k].name, given[k].name_len);
+        }
+        p->name_len = (uint32_t)given[k].name_len;
+        p->mask = given[k].mask;
+        p->ccid = given[k].ccid;
+        /* "Start leaves Inactive, order 3, speed 0" */
+        p->order = 3;
+        leave_group(p);
     }
-    state->name_len = (uint32_t)name_len;
-    state->mask = mask;
-    state->ccid = ccid;
-    state->order = 3;
-    leave_group(state);
     for (k = 0; k < REF_CLIENTS; k++) {
-        start_record(&state->clients[k]);
+        start_record(state, k);
     }
     /* "After start the round of clients begins at 0" */
     state->turn = REF_CLIENTS - 1u;
     return 0;
 }
 
-uint32_t ref_set_name(REF_CATALOGUE, ref_state *state, const uint8_t *name, size_t name_len, REF_PLACE)
+/* W-208: "219, service number over 1, after 202" */
+static uint32_t service_row(uint32_t service) { return service < REF_SERVICES ? 0 : SERVICE_OVER_1; }
+
+/* The rows 201 and 219 of a call to a service that no client makes. */
+static uint32_t service_rows(const catalogue *c, const ref_state *state, uint32_t service)
+{
+    return state_stands(c, state) ? service_row(service) : STATE_WRONG;
+}
+
+uint32_t ref_set_name(REF_CATALOGUE, ref_state *state, uint32_t service, const uint8_t *name, size_t name_len, REF_PLACE)
 {
     catalogue c;
-    ref_state before;
+    ref_player before, *p;
+    uint32_t refusal;
     size_t front;
 
     if (!LEND(c)) {
         return CATALOGUE_WRONG;
     }
-    if (!state_stands(&c, state)) {
-        return STATE_WRONG;
+    refusal = service_rows(&c, state, service);
+    if (refusal != 0) {
+        return refusal;
     }
     front = name_front(name, name_len);
     if (front < name_len) {
         *bad_offset = (uint32_t)front;
         return NAME_WRONG;
     }
-    before = *state;
+    p = &state->services[service].player;
+    before = *p;
     /* What lies behind the name stays, so that the same name again leaves every octet as it was. */
     if (name_len > 0) {
-        memcpy(state->name, name, name_len);
+        memcpy(p->name, name, name_len);
     }
-    state->name_len = (uint32_t)name_len;
-    make_owed(&c, &before, state, NO_CLIENT, 0);
+    p->name_len = (uint32_t)name_len;
+    make_owed(&c, &before, &state->services[service], state->links, NO_CLIENT, 0);
     return 0;
 }
 
-uint32_t ref_activate(REF_CATALOGUE, ref_state *state, uint32_t group, REF_PLACE)
+uint32_t ref_activate(REF_CATALOGUE, ref_state *state, uint32_t service, uint32_t group, REF_PLACE)
 {
     catalogue c;
-    ref_state before;
+    ref_player before, *p;
+    uint32_t refusal;
 
     if (!LEND(c)) {
         return CATALOGUE_WRONG;
     }
-    if (!state_stands(&c, state)) {
-        return STATE_WRONG;
+    refusal = service_rows(&c, state, service);
+    if (refusal != 0) {
+        return refusal;
     }
     /* "group absent or without tracks" */
     if (group >= c.group_count || group_tracks(&c, group) == 0) {
         return GROUP_WRONG;
     }
-    before = *state;
+    p = &state->services[service].player;
+    before = *p;
     /* "Activate: the group's first track in the order, position 0, Paused, seeking speed 0." */
-    enter_group(&c, state, group);
-    set_media(state, REF_PAUSED);
-    make_owed(&c, &before, state, NO_CLIENT, 0);
+    enter_group(&c, p, group);
+    set_media(p, REF_PAUSED);
+    make_owed(&c, &before, &state->services[service], state->links, NO_CLIENT, 0);
     return 0;
 }
 
-uint32_t ref_deactivate(REF_CATALOGUE, ref_state *state, REF_PLACE)
+uint32_t ref_deactivate(REF_CATALOGUE, ref_state *state, uint32_t service, REF_PLACE)
 {
     catalogue c;
-    ref_state before;
+    ref_player before, *p;
+    uint32_t refusal;
 
     if (!LEND(c)) {
         return CATALOGUE_WRONG;
     }
-    if (!state_stands(&c, state)) {
-        return STATE_WRONG;
+    refusal = service_rows(&c, state, service);
+    if (refusal != 0) {
+        return refusal;
     }
-    before = *state;
+    p = &state->services[service].player;
+    before = *p;
     /* "Deactivate leaves Inactive, order and playback speed kept." */
-    leave_group(state);
-    make_owed(&c, &before, state, NO_CLIENT, 0);
+    leave_group(p);
+    make_owed(&c, &before, &state->services[service], state->links, NO_CLIENT, 0);
     return 0;
 }
 
-uint32_t ref_advance(REF_CATALOGUE, ref_state *state, uint32_t d, REF_PLACE)
+uint32_t ref_advance(REF_CATALOGUE, ref_state *state, uint32_t service, uint32_t d, REF_PLACE)
 {
     catalogue c;
-    ref_state before;
+    ref_player before, *p;
+    uint32_t refusal;
     int quiet = 0;
 
     if (!LEND(c)) {
         return CATALOGUE_WRONG;
     }
-    if (!state_stands(&c, state)) {
-        return STATE_WRONG;
+    refusal = service_rows(&c, state, service);
+    if (refusal != 0) {
+        return refusal;
     }
-    before = *state;
-    if (state->media == REF_PLAYING) {
+    p = &state->services[service].player;
+    before = *p;
+    if (p->media == REF_PLAYING) {
         /* "Playing adds d; at D or beyond, the next track at 0, or, where none, Paused at D. One move per call." Request
          * W-202, of a running recording: "Advance never ends such a track; at 8,640,000 it stays there in its state." */
-        uint64_t to = (uint64_t)state->position + d;
-        uint32_t end = track_d(&c, state->track);
+        uint64_t to = (uint64_t)p->position + d;
+        uint32_t end = track_d(&c, p->track);
         if (to < end) {
-            state->position = (uint32_t)to;
+            p->position = (uint32_t)to;
             quiet = 1;
-        } else if (is_running(&c, state->track)) {
-            state->position = end;
-        } else if (!track_move(&c, state, NEXT, 0)) {
-            set_media(state, REF_PAUSED);
-            state->position = end;
+        } else if (is_running(&c, p->track)) {
+            p->position = end;
+        } else if (!track_move(&c, p, NEXT, 0)) {
+            set_media(p, REF_PAUSED);
+            p->position = end;
         }
-    } else if (state->media == REF_SEEKING) {
+    } else if (p->media == REF_SEEKING) {
         /* "Seeking adds d times the seeking speed, held to 0..D." */
-        state->position = held((int64_t)state->position + (int64_t)d * state->seeking, track_d(&c, state->track));
+        p->position = held((int64_t)p->position + (int64_t)d * p->seeking, track_d(&c, p->track));
     }
-    make_owed(&c, &before, state, NO_CLIENT, quiet);
+    make_owed(&c, &before, &state->services[service], state->links, NO_CLIENT, quiet);
     return 0;
+}
+
+/* The rows 201 and 202, which every call by a client has, to whichever service. */
+static uint32_t client_rows(const catalogue *c, const ref_state *state, uint32_t client)
+{
+    if (!state_stands(c, state)) {
+        return STATE_WRONG;
+    }
+    return client < REF_CLIENTS ? 0 : CLIENT_OVER_3;
 }
 
 uint32_t ref_connect(REF_CATALOGUE, ref_state *state, uint32_t client, uint32_t mtu, uint8_t encrypted, REF_PLACE)
 {
     catalogue c;
-    ref_client *r;
+    ref_link *link;
+    uint32_t refusal;
 
     if (!LEND(c)) {
         return CATALOGUE_WRONG;
     }
-    if (!state_stands(&c, state)) {
-        return STATE_WRONG;
+    refusal = client_rows(&c, state, client);
+    if (refusal != 0) {
+        return refusal;
     }
-    if (client >= REF_CLIENTS) {
-        return CLIENT_OVER_3;
-    }
-    r = &state->clients[client];
-    if (r->connected) {
+    link = &state->links[client];
+    if (link->connected) {
         return ALREADY_CONNECTED;
     }
     if (mtu < LOWEST_MTU || mtu > HIGHEST_MTU) {
         return MTU_WRONG;
     }
     /* "connect sets only that client's slot round to the lowest" */
-    start_record(r);
-    r->connected = 1;
-    r->encrypted = encrypted != 0;
-    r->mtu = mtu;
-    return 0;
-}
-
-/* The rows 200, 201, 202, 203, which five calls have in common. */
-static uint32_t common_rows(const catalogue *c, const ref_state *state, uint32_t client)
-{
-    if (!state_stands(c, state)) {
-        return STATE_WRONG;
-    }
-    if (client >= REF_CLIENTS) {
-        return CLIENT_OVER_3;
-    }
-    if (!state->clients[client].connected) {
-        return NOT_CONNECTED;
-    }
+    start_record(state, client);
+    link->connected = 1;
+    link->encrypted = encrypted != 0;
+    link->mtu = mtu;
     return 0;
 }
 
@@ -1365,18 +1422,35 @@ uint32_t ref_disconnect(REF_CATALOGUE, ref_state *state, uint32_t client, REF_PL
     if (!LEND(c)) {
         return CATALOGUE_WRONG;
     }
-    refusal = common_rows(&c, state, client);
+    refusal = client_rows(&c, state, client);
     if (refusal != 0) {
         return refusal;
     }
+    if (!state->links[client].connected) {
+        return NOT_CONNECTED;
+    }
     /* "disconnecting gives start's record" */
-    start_record(&state->clients[client]);
+    start_record(state, client);
     return 0;
 }
 
-static uint32_t subscription_rows(const catalogue *c, const ref_state *state, uint32_t client, uint32_t characteristic)
+/* The rows 201, 202, 219 and 203, which the four calls by a client to a service have in common. */
+static uint32_t common_rows(const catalogue *c, const ref_state *state, uint32_t client, uint32_t service)
 {
-    uint32_t refusal = common_rows(c, state, client);
+    uint32_t refusal = client_rows(c, state, client);
+    if (refusal == 0) {
+        refusal = service_row(service);
+    }
+    if (refusal != 0) {
+        return refusal;
+    }
+    return state->links[client].connected ? 0 : NOT_CONNECTED;
+}
+
+static uint32_t subscription_rows(const catalogue *c, const ref_state *state, uint32_t client, uint32_t service,
+                                  uint32_t characteristic)
+{
+    uint32_t refusal = common_rows(c, state, client, service);
     if (refusal != 0) {
         return refusal;
     }
@@ -1386,10 +1460,10 @@ static uint32_t subscription_rows(const catalogue *c, const ref_state *state, ui
     if (slot_of(characteristic) == NO_SUCH_SLOT) {
         return NO_SLOT;
     }
-    return state->clients[client].encrypted ? 0 : ATT_NOT_ENCRYPTED;
+    return state->links[client].encrypted ? 0 : ATT_NOT_ENCRYPTED;
 }
 
-uint32_t ref_subscribe(REF_CATALOGUE, ref_state *state, uint32_t client, uint32_t characteristic, REF_PLACE)
+uint32_t ref_subscribe(REF_CATALOGUE, ref_state *state, uint32_t client, uint32_t service, uint32_t characteristic, REF_PLACE)
 {
     catalogue c;
     uint32_t refusal;
@@ -1397,46 +1471,47 @@ uint32_t ref_subscribe(REF_CATALOGUE, ref_state *state, uint32_t client, uint32_
     if (!LEND(c)) {
         return CATALOGUE_WRONG;
     }
-    refusal = subscription_rows(&c, state, client, characteristic);
+    refusal = subscription_rows(&c, state, client, service, characteristic);
     if (refusal != 0) {
         return refusal;
     }
     /* "subscribing twice changes nothing" */
-    state->clients[client].subscribed |= 1u << slot_of(characteristic);
+    state->services[service].accounts[client].subscribed |= 1u << slot_of(characteristic);
     return 0;
 }
 
-uint32_t ref_unsubscribe(REF_CATALOGUE, ref_state *state, uint32_t client, uint32_t characteristic, REF_PLACE)
+uint32_t ref_unsubscribe(REF_CATALOGUE, ref_state *state, uint32_t client, uint32_t service, uint32_t characteristic, REF_PLACE)
 {
     catalogue c;
     uint32_t refusal, bit;
-    ref_client *r;
+    ref_account *a;
 
     if (!LEND(c)) {
         return CATALOGUE_WRONG;
     }
-    refusal = subscription_rows(&c, state, client, characteristic);
+    refusal = subscription_rows(&c, state, client, service, characteristic);
     if (refusal != 0) {
         return refusal;
     }
     /* "Unsubscribing drops what the slot owes" */
-    r = &state->clients[client];
+    a = &state->services[service].accounts[client];
     bit = 1u << slot_of(characteristic);
-    r->subscribed &= ~bit;
-    r->owed &= ~bit;
+    a->subscribed &= ~bit;
+    a->owed &= ~bit;
     if (characteristic == C_CONTROL) {
-        r->waiting = 0;
+        a->waiting = 0;
     }
     return 0;
 }
 
-uint32_t ref_read(REF_CATALOGUE, ref_state *state, uint32_t client, uint32_t characteristic, uint32_t offset,
+uint32_t ref_read(REF_CATALOGUE, ref_state *state, uint32_t client, uint32_t service, uint32_t characteristic, uint32_t offset,
                   uint8_t *out, size_t out_len, uint32_t *length, REF_PLACE)
 {
     catalogue c;
     uint32_t refusal, len, part;
     uint8_t value[VALUE_ROOM];
-    ref_client *r;
+    const ref_link *link;
+    ref_account *a;
 
     if (!LEND(c)) {
         return CATALOGUE_WRONG;
@@ -1445,7 +1520,7 @@ uint32_t ref_read(REF_CATALOGUE, ref_state *state, uint32_t client, uint32_t cha
     if (out_len < VALUE_ROOM) {
         return OUTPUT_SMALL;
     }
-    refusal = common_rows(&c, state, client);
+    refusal = common_rows(&c, state, client, service);
     if (refusal != 0) {
         return refusal;
     }
@@ -1455,46 +1530,47 @@ uint32_t ref_read(REF_CATALOGUE, ref_state *state, uint32_t client, uint32_t cha
     if (!may_be_read(characteristic)) {
         return ATT_NO_READ;
     }
-    r = &state->clients[client];
-    if (!r->encrypted) {
+    link = &state->links[client];
+    if (!link->encrypted) {
         return ATT_NOT_ENCRYPTED;
     }
     /* "read at offset above 0, and some call changed the value (even if changed back) since the client's last accepted
      * read of it at 0, or no such read since connecting" */
-    if (offset > 0 && (r->fresh >> characteristic & 1u) == 0) {
+    a = &state->services[service].accounts[client];
+    if (offset > 0 && (a->fresh >> characteristic & 1u) == 0) {
         return ATT_CHANGED;
     }
-    len = value_of(&c, state, characteristic, value);
+    len = value_of(&c, &state->services[service].player, characteristic, value);
     if (offset > len) {
         return ATT_OFFSET;
     }
     /* "A read hands out up to ATT_MTU − 1 octets; lent octets behind the answer stay." */
     part = len - offset;
-    if (part > r->mtu - 1u) {
-        part = r->mtu - 1u;
+    if (part > link->mtu - 1u) {
+        part = link->mtu - 1u;
     }
     if (part > 0) {
         memcpy(out, value + offset, part);
     }
     *length = part;
     if (offset == 0) {
-        r->fresh |= 1u << characteristic;
+        a->fresh |= 1u << characteristic;
     }
     return 0;
 }
 
-uint32_t ref_write(REF_CATALOGUE, ref_state *state, uint32_t client, uint32_t characteristic, const uint8_t *value,
-                   size_t value_len, REF_PLACE)
+uint32_t ref_write(REF_CATALOGUE, ref_state *state, uint32_t client, uint32_t service, uint32_t characteristic,
+                   const uint8_t *value, size_t value_len, REF_PLACE)
 {
     catalogue c;
-    ref_state before;
-    ref_client *r;
-    uint32_t refusal;
+    ref_player before, *p;
+    ref_account *a;
+    uint32_t refusal, spared = NO_CLIENT;
 
     if (!LEND(c)) {
         return CATALOGUE_WRONG;
     }
-    refusal = common_rows(&c, state, client);
+    refusal = common_rows(&c, state, client, service);
     if (refusal != 0) {
         return refusal;
     }
@@ -1504,8 +1580,7 @@ uint32_t ref_write(REF_CATALOGUE, ref_state *state, uint32_t client, uint32_t ch
     if (!may_be_written(characteristic)) {
         return ATT_NO_WRITE;
     }
-    r = &state->clients[client];
-    if (!r->encrypted) {
+    if (!state->links[client].encrypted) {
         return ATT_NOT_ENCRYPTED;
     }
     /* "length not 4 for 7, 1 for 8 and 15; for 18: 0, over 5, or not 1 or 5 as a known opcode asks" */
@@ -1527,41 +1602,51 @@ uint32_t ref_write(REF_CATALOGUE, ref_state *state, uint32_t client, uint32_t ch
     if (characteristic == C_ORDER && (value[0] < 1 || value[0] > 8)) {
         return ATT_VALUE;
     }
-    /* "write to 18 by a client with 8 results waiting" */
-    if (characteristic == C_CONTROL && r->waiting == REF_RESULTS) {
+    /* "write to 18 by a client with 8 results waiting", in the service that is written to */
+    a = &state->services[service].accounts[client];
+    if (characteristic == C_CONTROL && a->waiting == REF_RESULTS) {
         return ATT_FULL;
     }
-    before = *state;
+    p = &state->services[service].player;
+    before = *p;
     if (characteristic == C_POSITION) {
         /* "The writer of 7 is owed a change of it" */
-        write_position(&c, state, signed_32(octets_32(value)));
-        make_owed(&c, &before, state, NO_CLIENT, 0);
+        write_position(&c, p, signed_32(octets_32(value)));
     } else if (characteristic == C_SPEED) {
-        state->speed = (int8_t)(value[0] < 128 ? value[0] : value[0] - 256);
-        make_owed(&c, &before, state, client, 0);
+        p->speed = (int8_t)(value[0] < 128 ? value[0] : value[0] - 256);
+        spared = client;
     } else if (characteristic == C_ORDER) {
-        state->order = value[0];
-        make_owed(&c, &before, state, client, 0);
+        p->order = value[0];
+        spared = client;
     } else {
-        uint8_t code;
-        code = control(&c, state, value[0], value_len == 5 ? signed_32(octets_32(value + 1)) : 0);
-        make_owed(&c, &before, state, NO_CLIENT, 0);
+        uint8_t code = control(&c, p, value[0], value_len == 5 ? signed_32(octets_32(value + 1)) : 0);
         /* "Slot 18 holds up to 8 results, oldest first: requested opcode and result, one for each accepted control write
          * by a client subscribed to 18 at the time." */
-        if ((r->subscribed >> CONTROL_SLOT & 1u) != 0) {
-            r->results[r->waiting].opcode = value[0];
-            r->results[r->waiting].code = code;
-            r->waiting += 1;
-            r->owed |= 1u << CONTROL_SLOT;
+        if ((a->subscribed >> CONTROL_SLOT & 1u) != 0) {
+            a->results[a->waiting].opcode = value[0];
+            a->results[a->waiting].code = code;
+            a->waiting += 1;
+            a->owed |= 1u << CONTROL_SLOT;
         }
     }
+    make_owed(&c, &before, &state->services[service], state->links, spared, 0);
     return 0;
 }
 
-uint32_t ref_take(REF_CATALOGUE, ref_state *state, uint8_t *out, size_t out_len, uint32_t served[3], REF_PLACE)
+/* W-208: "a client's slots running through the generic service and then the other": bit p is place p of the client. */
+static uint32_t owed_places(const ref_state *s, uint32_t client)
+{
+    uint32_t owed = 0, k;
+    for (k = 0; k < REF_SERVICES; k++) {
+        owed |= s->services[k].accounts[client].owed << (k * REF_SLOTS);
+    }
+    return owed;
+}
+
+uint32_t ref_take(REF_CATALOGUE, ref_state *state, uint8_t *out, size_t out_len, uint32_t served[4], REF_PLACE)
 {
     catalogue c;
-    uint32_t k, j;
+    uint32_t k;
 
     if (!LEND(c)) {
         return CATALOGUE_WRONG;
@@ -1575,48 +1660,56 @@ uint32_t ref_take(REF_CATALOGUE, ref_state *state, uint8_t *out, size_t out_len,
     /* "Take starts after the client last served, in number order round the four, and serves the first that is owed
      * something" */
     for (k = 1; k <= REF_CLIENTS; k++) {
-        uint32_t client = (state->turn + k) % REF_CLIENTS;
-        ref_client *r = &state->clients[client];
-        /* "within it, the first owed slot after its last served, round the ten" */
-        for (j = 1; j <= REF_SLOTS; j++) {
-            uint32_t slot = (r->mark + j) % REF_SLOTS, len;
-            uint8_t value[VALUE_ROOM];
-            if ((r->owed >> slot & 1u) == 0) {
-                continue;
-            }
-            if (slot == CONTROL_SLOT) {
-                uint32_t m;
-                value[0] = r->results[0].opcode;
-                value[1] = r->results[0].code;
-                len = 2;
-                for (m = 1; m < r->waiting; m++) {
-                    r->results[m - 1u] = r->results[m];
-                }
-                r->waiting -= 1;
-            } else {
-                len = value_of(&c, state, SLOT[slot], value);
-            }
-            /* "The octets handed out are the present value, its first ATT_MTU − 3." */
-            if (len > r->mtu - 3u) {
-                len = r->mtu - 3u;
-            }
-            if (len > 0) {
-                memcpy(out, value, len);
-            }
-            if (slot != CONTROL_SLOT || r->waiting == 0) {
-                r->owed &= ~(1u << slot);
-            }
-            r->mark = slot;
-            state->turn = client;
-            served[0] = client;
-            served[1] = SLOT[slot];
-            served[2] = len;
-            return 0;
+        uint32_t client = (state->turn + k) % REF_CLIENTS, owed = owed_places(state, client), place, service, slot, len;
+        ref_link *link = &state->links[client];
+        ref_account *a;
+        uint8_t value[VALUE_ROOM];
+
+        if (owed == 0) {
+            continue;
         }
+        /* "within it, the first owed slot after its last served", W-208: "twenty in all" */
+        place = (link->mark + 1u) % REF_PLACES;
+        while ((owed >> place & 1u) == 0) {
+            place = (place + 1u) % REF_PLACES;
+        }
+        service = place / REF_SLOTS;
+        slot = place % REF_SLOTS;
+        a = &state->services[service].accounts[client];
+        if (slot == CONTROL_SLOT) {
+            uint32_t m;
+            value[0] = a->results[0].opcode;
+            value[1] = a->results[0].code;
+            len = 2;
+            for (m = 1; m < a->waiting; m++) {
+                a->results[m - 1u] = a->results[m];
+            }
+            a->waiting -= 1;
+        } else {
+            len = value_of(&c, &state->services[service].player, SLOT[slot], value);
+        }
+        /* "The octets handed out are the present value, its first ATT_MTU − 3." */
+        if (len > link->mtu - 3u) {
+            len = link->mtu - 3u;
+        }
+        if (len > 0) {
+            memcpy(out, value, len);
+        }
+        if (slot != CONTROL_SLOT || a->waiting == 0) {
+            a->owed &= ~(1u << slot);
+        }
+        link->mark = place;
+        state->turn = client;
+        served[0] = client;
+        served[1] = service;
+        served[2] = SLOT[slot];
+        served[3] = len;
+        return 0;
     }
     /* "Nothing owed: the answer says so and nothing changes." */
     served[0] = 0;
     served[1] = 0;
     served[2] = 0;
+    served[3] = 0;
     return 0;
 }

@@ -1,7 +1,8 @@
-/* The desk player core: card reader and writer, cue sheet reader, catalogue check, player and the layer of four clients.
+/* The desk player core: card reader and writer, cue sheet reader, catalogue check, and two players, the generic service's and the
+ * named one's, below one layer of four clients.
  *
  * Every call returns 0, or the refusal number of document 01's table (ATT codes as 0x01 to 0x80), of a card load, a card write
- * and a cue sheet those of document 02's requests W-205 and W-206, W-204, and W-212.
+ * and a cue sheet those of document 02's requests W-205 and W-206, W-204, and W-212; a call to a service also the 219 of W-208.
  * "A refusal returns its number alone and alters nothing." W-205, of a bad block: "Demand 1 reads the number and the block as the
  * whole refusal." W-207 lets 200 and 207 carry the place of a bad text as well.
  */
@@ -13,8 +14,18 @@
 
 #define REF_NAME_ROOM 128u
 #define REF_CLIENTS 4u
+/* W-208: "the generic service and one named player", 0 and 1. */
+#define REF_SERVICES 2u
 #define REF_SLOTS 10u
+/* W-208: "a client's slots running through the generic service and then the other, twenty in all", the places 0 to 19: slot s of
+ * service v is place 10 v + s. */
+#define REF_PLACES (REF_SERVICES * REF_SLOTS)
 #define REF_RESULTS 8u
+
+/* The first octet of a state, which tells the layout of those behind it. No UTF-8 text begins with such an octet, so that octets
+ * which begin with a name are not taken for a state. */
+#define REF_STATE_LAYOUT 2u
+#define REF_STATE_MARK (0x80u + REF_STATE_LAYOUT)
 
 /* "State: 0 Inactive, 1 Playing, 2 Paused, 3 Seeking." */
 enum { REF_INACTIVE = 0, REF_PLAYING = 1, REF_PAUSED = 2, REF_SEEKING = 3 };
@@ -24,17 +35,13 @@ typedef struct {
     uint8_t code;
 } ref_result;
 
+/* What is the client's, whichever service it calls. */
 typedef struct {
     uint8_t connected; /* 0 or 1; any other is refused with 201 */
     uint8_t encrypted; /* likewise */
-    uint32_t mtu;        /* 23 while unconnected */
-    uint32_t subscribed; /* bit s: slot s of 1, 4, 5, 6, 7, 8, 9, 15, 17, 18 */
-    uint32_t owed;       /* likewise */
-    uint32_t fresh;      /* bit c: characteristic c was read at 0 since connecting, and no call changed it since */
-    uint32_t mark;       /* the slot served last; 9 after start and connect, so that the round begins at the lowest */
-    uint32_t waiting;    /* results that wait, oldest first */
-    ref_result results[REF_RESULTS];
-} ref_client;
+    uint32_t mtu;      /* 23 while unconnected */
+    uint32_t mark;     /* the place served last; the highest after start and connect, so that the round begins at the lowest */
+} ref_link;
 
 typedef struct {
     uint8_t name[REF_NAME_ROOM];
@@ -48,8 +55,28 @@ typedef struct {
     uint32_t group;    /* 0 while Inactive, as are the two that follow */
     uint32_t track;
     uint32_t position;
-    ref_client clients[REF_CLIENTS];
-    uint32_t turn; /* the client served last; 3 after start, so that the round begins at 0 */
+} ref_player;
+
+/* What is a client's in one service. */
+typedef struct {
+    uint32_t subscribed; /* bit s: slot s of 1, 4, 5, 6, 7, 8, 9, 15, 17, 18 */
+    uint32_t owed;       /* likewise */
+    uint32_t fresh;      /* bit c: characteristic c was read at 0 since connecting, and no call changed it since */
+    uint32_t waiting;    /* results that wait, oldest first */
+    ref_result results[REF_RESULTS];
+} ref_account;
+
+/* W-208: "Each has its own player state, name, subscriptions and results." */
+typedef struct {
+    ref_player player;
+    ref_account accounts[REF_CLIENTS];
+} ref_service;
+
+typedef struct {
+    uint8_t layout; /* REF_STATE_MARK; any other is refused with 201 */
+    uint32_t turn;  /* the client served last; 3 after start, so that the round begins at 0 */
+    ref_link links[REF_CLIENTS];
+    ref_service services[REF_SERVICES];
 } ref_state;
 
 /* The lent catalogue: three tables of words and the text, lengths in words and in octets. */
@@ -75,21 +102,22 @@ uint32_t ref_card_write(REF_CATALOGUE, uint8_t *card, size_t card_len, uint32_t 
 uint32_t ref_cue_sheet(const uint8_t *sheet, size_t sheet_len, uint32_t *starts, size_t starts_len, uint32_t *count,
                        uint32_t *line);
 
-uint32_t ref_start(REF_CATALOGUE, const uint8_t *name, size_t name_len, uint32_t mask, uint8_t ccid, ref_state *state,
-                   REF_PLACE);
-uint32_t ref_set_name(REF_CATALOGUE, ref_state *state, const uint8_t *name, size_t name_len, REF_PLACE);
-uint32_t ref_activate(REF_CATALOGUE, ref_state *state, uint32_t group, REF_PLACE);
-uint32_t ref_deactivate(REF_CATALOGUE, ref_state *state, REF_PLACE);
-uint32_t ref_advance(REF_CATALOGUE, ref_state *state, uint32_t d, REF_PLACE);
+/* W-208: "Start names both players at once, generic (0) checked first". */
+uint32_t ref_start(REF_CATALOGUE, const uint8_t *name0, size_t name0_len, uint32_t mask0, uint8_t ccid0, const uint8_t *name1,
+                   size_t name1_len, uint32_t mask1, uint8_t ccid1, ref_state *state, REF_PLACE);
+uint32_t ref_set_name(REF_CATALOGUE, ref_state *state, uint32_t service, const uint8_t *name, size_t name_len, REF_PLACE);
+uint32_t ref_activate(REF_CATALOGUE, ref_state *state, uint32_t service, uint32_t group, REF_PLACE);
+uint32_t ref_deactivate(REF_CATALOGUE, ref_state *state, uint32_t service, REF_PLACE);
+uint32_t ref_advance(REF_CATALOGUE, ref_state *state, uint32_t service, uint32_t d, REF_PLACE);
 uint32_t ref_connect(REF_CATALOGUE, ref_state *state, uint32_t client, uint32_t mtu, uint8_t encrypted, REF_PLACE);
 uint32_t ref_disconnect(REF_CATALOGUE, ref_state *state, uint32_t client, REF_PLACE);
-uint32_t ref_subscribe(REF_CATALOGUE, ref_state *state, uint32_t client, uint32_t characteristic, REF_PLACE);
-uint32_t ref_unsubscribe(REF_CATALOGUE, ref_state *state, uint32_t client, uint32_t characteristic, REF_PLACE);
-uint32_t ref_read(REF_CATALOGUE, ref_state *state, uint32_t client, uint32_t characteristic, uint32_t offset,
+uint32_t ref_subscribe(REF_CATALOGUE, ref_state *state, uint32_t client, uint32_t service, uint32_t characteristic, REF_PLACE);
+uint32_t ref_unsubscribe(REF_CATALOGUE, ref_state *state, uint32_t client, uint32_t service, uint32_t characteristic, REF_PLACE);
+uint32_t ref_read(REF_CATALOGUE, ref_state *state, uint32_t client, uint32_t service, uint32_t characteristic, uint32_t offset,
                   uint8_t *out, size_t out_len, uint32_t *length, REF_PLACE);
-uint32_t ref_write(REF_CATALOGUE, ref_state *state, uint32_t client, uint32_t characteristic, const uint8_t *value,
-                   size_t value_len, REF_PLACE);
-/* served: client, characteristic, length; three zeros where nothing is owed. */
-uint32_t ref_take(REF_CATALOGUE, ref_state *state, uint8_t *out, size_t out_len, uint32_t served[3], REF_PLACE);
+uint32_t ref_write(REF_CATALOGUE, ref_state *state, uint32_t client, uint32_t service, uint32_t characteristic,
+                   const uint8_t *value, size_t value_len, REF_PLACE);
+/* served: client, service, characteristic, length; four zeros where nothing is owed. */
+uint32_t ref_take(REF_CATALOGUE, ref_state *state, uint8_t *out, size_t out_len, uint32_t served[4], REF_PLACE);
 
 #endif

@@ -1,6 +1,6 @@
 /* Tests of the second program: cases whose answers were worked out by hand from the documents, then random calls, which are
- * made for the sanitizers, and whose 200 and 207 are worked out a second time. That it gives the library's answers is not tried
- * here; the comparison does that.
+ * made for the sanitizers, and whose 200, 207 and order of takes are worked out a second time. That it gives the library's
+ * answers is not tried here; the comparison does that.
  *
  * Usage: test [histories [seed]]. A comment in quotation marks is a sentence of document 01; among the cue sheets, and where it
  * names a request, one of document 02. */
@@ -35,6 +35,11 @@ typedef struct {
 
 static tables lent;
 static ref_state s;
+/* The service that is called, and what is its in the state. */
+static uint32_t service;
+#define PLAYER s.services[service].player
+#define ACCOUNT(client) s.services[service].accounts[client]
+
 /* "Groups: 0 (no tracks), 1 (tracks 0–2), 2 (none), 3 (track 3); parents 0. Track, duration, stamp: 0, 6000, 30 with
  * starts 0, 1500, 4000; 1, 300, 10; 2, 0, 10; 3, 900, 5." */
 static void lend_sample(void)
@@ -79,7 +84,7 @@ static void *exact(const void *from, size_t octets)
 
 enum { START, SET_NAME, ACTIVATE, DEACTIVATE, ADVANCE, CONNECT, DISCONNECT, SUBSCRIBE, UNSUBSCRIBE, READ, WRITE, TAKE, CALLS };
 
-static struct { uint8_t out[160]; uint32_t length, served[3]; } said;
+static struct { uint8_t out[160]; uint32_t length, served[4]; } said;
 
 /* W-207: where the text is wrong. A 200 carries both or neither, 207 the offset alone; nothing else touches them. */
 static struct { uint32_t track, offset; } place;
@@ -90,14 +95,42 @@ static int place_fits(uint32_t refusal)
     return refusal == 200 ? has_track == has_offset : !has_track && has_offset == (refusal == 207);
 }
 
+/* What a start gives the service that is not called. */
+typedef struct { const void *name; size_t len; uint32_t mask; uint8_t ccid; } named;
+static const named OTHER = {"Player", 6, 0x1FFFFF, 9};
+static named other;
+
+/* W-208: "Calls to one never alter replies, state or owed values of the other", "a take is a call to neither", and "Connect and
+ * disconnect act on both": of all that is a client's and a service's, only what the call is about may differ. */
+static int leaves_others(int call, uint32_t client, const ref_state *before)
+{
+    int of_client = call == CONNECT || call == DISCONNECT, of_take = call == TAKE, right = s.layout == before->layout;
+    if (call == START) return 1;
+    if (of_take) client = said.served[0];
+    right &= of_take || s.turn == before->turn;
+    for (uint32_t j = 0; j < REF_CLIENTS; j++) {
+        right &= ((of_client || of_take) && j == client) || memcmp(&s.links[j], &before->links[j], sizeof s.links[j]) == 0;
+    }
+    for (uint32_t i = 0; i < REF_SERVICES; i++) {
+        const ref_service *is = &s.services[i], *was = &before->services[i];
+        int called = !of_client && !of_take && i == service;
+        right &= called || memcmp(&is->player, &was->player, sizeof is->player) == 0;
+        for (uint32_t j = 0; j < REF_CLIENTS; j++) {
+            int about = called || (of_client && j == client) || (of_take && j == client && i == said.served[1]);
+            right &= about || memcmp(&is->accounts[j], &was->accounts[j], sizeof is->accounts[j]) == 0;
+        }
+    }
+    return right;
+}
+
 #define LENT(t) t##0, lent.len[0], t##1, lent.len[1], t##2, lent.len[2], t##3, lent.len[3]
-/* `what` is a characteristic, the Content Control ID of a start, or whether a connect is encrypted; `number` a mask, group,
- * time, ATT_MTU or offset; the octets are a name or a value; `room` is that of the output. */
+/* A call to `service`. `what` is a characteristic, the Content Control ID of a start, or whether a connect is encrypted; `number`
+ * a mask, group, time, ATT_MTU or offset; the octets are a name or a value; `room` is that of the output. */
 static uint32_t makes(int call, uint32_t client, uint32_t what, uint32_t number, const void *octets, size_t len, size_t room)
 {
     uint32_t *t0 = exact(lent.words[0], 4 * lent.len[0]), *t1 = exact(lent.words[1], 4 * lent.len[1]);
     uint32_t *t2 = exact(lent.words[2], 4 * lent.len[2]), refusal, answer = 0;
-    uint8_t *t3 = exact(lent.text, lent.len[3]), *in = exact(octets, len), *out;
+    uint8_t *t3 = exact(lent.text, lent.len[3]), *in = exact(octets, len), *other_in = exact(other.name, other.len), *out;
     ref_state before;
 
     memset(&said, FILL, sizeof said);
@@ -105,30 +138,36 @@ static uint32_t makes(int call, uint32_t client, uint32_t what, uint32_t number,
     out = exact(said.out, room);
     memcpy(&before, &s, sizeof s);
     switch (call) {
-    case START: refusal = ref_start(LENT(t), in, len, number, (uint8_t)what, &s, PLACE); break;
-    case SET_NAME: refusal = ref_set_name(LENT(t), &s, in, len, PLACE); break;
-    case ACTIVATE: refusal = ref_activate(LENT(t), &s, number, PLACE); break;
-    case DEACTIVATE: refusal = ref_deactivate(LENT(t), &s, PLACE); break;
-    case ADVANCE: refusal = ref_advance(LENT(t), &s, number, PLACE); break;
+#define OF_CALL in, len, number, (uint8_t)what
+#define OF_OTHER other_in, other.len, other.mask, other.ccid
+    case START:
+        refusal = service == 0 ? ref_start(LENT(t), OF_CALL, OF_OTHER, &s, PLACE)
+                               : ref_start(LENT(t), OF_OTHER, OF_CALL, &s, PLACE);
+        break;
+    case SET_NAME: refusal = ref_set_name(LENT(t), &s, service, in, len, PLACE); break;
+    case ACTIVATE: refusal = ref_activate(LENT(t), &s, service, number, PLACE); break;
+    case DEACTIVATE: refusal = ref_deactivate(LENT(t), &s, service, PLACE); break;
+    case ADVANCE: refusal = ref_advance(LENT(t), &s, service, number, PLACE); break;
     case CONNECT: refusal = ref_connect(LENT(t), &s, client, number, (uint8_t)what, PLACE); break;
     case DISCONNECT: refusal = ref_disconnect(LENT(t), &s, client, PLACE); break;
-    case SUBSCRIBE: refusal = ref_subscribe(LENT(t), &s, client, what, PLACE); break;
-    case UNSUBSCRIBE: refusal = ref_unsubscribe(LENT(t), &s, client, what, PLACE); break;
+    case SUBSCRIBE: refusal = ref_subscribe(LENT(t), &s, client, service, what, PLACE); break;
+    case UNSUBSCRIBE: refusal = ref_unsubscribe(LENT(t), &s, client, service, what, PLACE); break;
     case READ:
-        refusal = ref_read(LENT(t), &s, client, what, number, out, room, &said.length, PLACE);
+        refusal = ref_read(LENT(t), &s, client, service, what, number, out, room, &said.length, PLACE);
         answer = said.length;
         break;
-    case WRITE: refusal = ref_write(LENT(t), &s, client, what, in, len, PLACE); break;
-    default: refusal = ref_take(LENT(t), &s, out, room, said.served, PLACE); answer = said.served[2]; break;
+    case WRITE: refusal = ref_write(LENT(t), &s, client, service, what, in, len, PLACE); break;
+    default: refusal = ref_take(LENT(t), &s, out, room, said.served, PLACE); answer = said.served[3]; break;
     }
     memcpy(said.out, room == 0 ? said.out : out, room);
     /* "A refusal returns its number alone and alters nothing." */
     CHECK(refusal == 0 || (memcmp(&before, &s, sizeof s) == 0 && all_are(&said, FILL, sizeof said)));
+    CHECK(refusal != 0 || leaves_others(call, client, &before));
     /* "lent octets behind the answer stay"; and the state that is left stands, since 202 comes behind 201. */
     CHECK(refusal != 0 || (answer <= room && all_are(said.out + answer, FILL, sizeof said.out - answer)));
     CHECK(refusal != 0 || ref_disconnect(LENT(t), &s, 4, PLACE) == 202);
     CHECK(place_fits(refusal));
-    free(t0); free(t1); free(t2); free(t3); free(in); free(out);
+    free(t0); free(t1); free(t2); free(t3); free(in); free(other_in); free(out);
     return refusal;
 }
 
@@ -174,23 +213,27 @@ static uint32_t commands(uint32_t client, int opcode, long n)
     return makes(WRITE, client, 18, 0, numbered(opcode, n), CARRIES_NUMBER(opcode) ? 5 : 1, 0);
 }
 
-/* A command's result: for as long as that takes, client 3 has a record with nothing in it but a subscription to 18. */
+/* A command's result: for as long as that takes, client 3 is connected and has a subscription to 18 and nothing else. */
 static int result(int opcode, long n)
 {
-    ref_client kept = s.clients[3], *r = &s.clients[3];
+    ref_link kept_link = s.links[3];
+    ref_account kept = ACCOUNT(3), *r = &ACCOUNT(3);
     int code;
-    *r = (ref_client){.connected = 1, .encrypted = 1, .mtu = 23, .subscribed = 1u << 9};
+    s.links[3] = (ref_link){.connected = 1, .encrypted = 1, .mtu = 23};
+    *r = (ref_account){.subscribed = 1u << 9};
     EQUAL(commands(3, opcode, n), 0);
     CHECK(r->waiting == 1 && r->results[0].opcode == opcode);
     code = r->results[0].code;
     *r = kept;
+    s.links[3] = kept_link;
     return code;
 }
 
+/* A take serves that slot of `service`, or nothing, which is characteristic 0. */
 static int takes(uint32_t client, uint32_t what, const void *octets, uint32_t len)
 {
-    return makes(TAKE, 0, 0, 0, NULL, 0, ROOM) == 0 && said.served[0] == client && said.served[1] == what &&
-           said.served[2] == len && memcmp(said.out, octets, len) == 0;
+    return makes(TAKE, 0, 0, 0, NULL, 0, ROOM) == 0 && said.served[0] == client && said.served[1] == (what == 0 ? 0 : service) &&
+           said.served[2] == what && said.served[3] == len && memcmp(said.out, octets, len) == 0;
 }
 
 static int reads_as(uint32_t client, uint32_t what, uint32_t offset, const void *octets, uint32_t len)
@@ -204,15 +247,15 @@ static void stand(uint8_t order, uint32_t track, uint32_t position)
     EQUAL(start(ALL_OPCODES) + connects(0, 23) + activate(1), 0);
     EQUAL(result(TRACK + GOTO, (long)track + 1), 1);
     EQUAL(writes(0, 15, order) + moves_to(0, (long)position), 0);
-    CHECK(s.track == track && s.position == position);
+    CHECK(PLAYER.track == track && PLAYER.position == position);
 }
 
 /* ---- The player */
 
 #define NOT_MADE 999u
 #define IS(group_, track_, position_, media_, seeking_)                                                                    \
-    CHECK(s.group == (group_) && s.track == (track_) && s.position == (position_) && s.media == (media_) &&                \
-          s.seeking == (seeking_))
+    CHECK(PLAYER.group == (group_) && PLAYER.track == (track_) && PLAYER.position == (position_) &&                        \
+          PLAYER.media == (media_) && PLAYER.seeking == (seeking_))
 #define PLAYS(group, track, position) IS(group, track, position, REF_PLAYING, 0)
 #define PAUSES(group, track, position) IS(group, track, position, REF_PAUSED, 0)
 #define SEEKS(position, speed) IS(1, 0, position, REF_SEEKING, speed)
@@ -377,8 +420,18 @@ static void media_cases(void)
 /* ---- What is owed, rounds, cuts */
 
 enum { B4 = 2, B5 = 4, B6 = 8, B7 = 16, B8 = 32, B9 = 64, B15 = 128, B17 = 256, B18 = 512 }; /* of the slots */
-#define OWES(client, slots) EQUAL(s.clients[client].owed, slots)
-#define FORGIVE() EACH(0, 4) s.clients[k].owed = s.clients[k].waiting = 0
+#define OWES(client, slots) EQUAL(ACCOUNT(client).owed, slots)
+#define FORGIVE() EACH(0, 4) ACCOUNT(k).owed = ACCOUNT(k).waiting = 0
+/* The client has start's record, as one that was never connected has. */
+static int starts_record(uint32_t client)
+{
+    static const ref_account NONE;
+    const ref_link *link = &s.links[client];
+    int right = !link->connected && !link->encrypted && link->mtu == 23 && link->mark == 19;
+    EACH(0, REF_SERVICES) right &= memcmp(&s.services[k].accounts[client], &NONE, sizeof NONE) == 0;
+    return right;
+}
+
 static void owed_cases(void)
 {
     lend_sample(); stand(3, 0, 0); EQUAL(connects(1, 64), 0);
@@ -410,10 +463,10 @@ static void owed_cases(void)
     EQUAL(reads(0, 5, 0) + reads(0, 7, 0) + reads(0, 6, 0) + commands(1, TRACK + NEXT, 0), 0); OWES(0, B4 | B6 | B7);
     EQUAL(reads(0, 5, 1), 0); EQUAL(reads(0, 7, 1), 0); EQUAL(reads(0, 6, 1), 0x80);
     /* "Unsubscribing drops what the slot owes"; "disconnecting gives start's record" */
-    stand(3, 0, 0); EQUAL(commands(0, PLAY, 0), 0); EQUAL(s.clients[0].waiting, 0); OWES(0, 0);
+    stand(3, 0, 0); EQUAL(commands(0, PLAY, 0), 0); EQUAL(ACCOUNT(0).waiting, 0); OWES(0, 0);
     EQUAL(subscribes(0, 18) + subscribes(0, 17) + commands(0, PAUSE, 0) + subscribes(0, 17), 0); OWES(0, B17 | B18);
-    EQUAL(unsubscribes(0, 18), 0); OWES(0, B17); EQUAL(s.clients[0].waiting, 0); EQUAL(s.clients[0].subscribed, B17);
-    EQUAL(reads(0, 1, 0) + disconnects(0), 0); CHECK(memcmp(&s.clients[0], &s.clients[1], sizeof(ref_client)) == 0);
+    EQUAL(unsubscribes(0, 18), 0); OWES(0, B17); EQUAL(ACCOUNT(0).waiting, 0); EQUAL(ACCOUNT(0).subscribed, B17);
+    EQUAL(reads(0, 1, 0) + disconnects(0), 0); CHECK(starts_record(0));
     EQUAL(connects(0, 23), 0); EQUAL(reads(0, 1, 1), 0x80);
 }
 
@@ -472,6 +525,13 @@ static uint32_t farthest(const uint8_t *p, uint32_t len)
     return far;
 }
 
+/* The offset that 207 is to carry for a name, or none. */
+static uint32_t bad_at(const uint8_t *name, size_t len)
+{
+    uint32_t far = len > 128 ? 128 : farthest(name, (uint32_t)len);
+    return far < len ? far : UNTOUCHED;
+}
+
 /* What 200 is to carry for the lent catalogue, where `wrong`; and whether there is a bad title beside another rule that is broken. */
 static struct { int wrong, beside; uint32_t track, offset; } judged;
 static void judge(void)
@@ -513,6 +573,9 @@ static void judge(void)
     CHECK(((refusal) == 200) == judged.wrong && ((refusal) != 200 || (place.track == judged.track && place.offset == judged.offset)))
 
 /* ---- Refusals: 200, 207, the order of the table, 201 */
+
+/* Service numbers over 1. */
+static const uint32_t OVER[6] = {2, 3, 10, 255, 256, 0xFFFFFFFFu};
 
 static uint32_t writes_card(size_t room);
 
@@ -672,7 +735,7 @@ static void name_cases(void)
     }
     /* No octets, 128 and more; zero is an octet as any other. */
     memset(name, 'x', sizeof name); name[7] = 0;
-    NAMED(0, 0, UNTOUCHED); NAMED(127, 0, UNTOUCHED); NAMED(128, 0, UNTOUCHED); EQUAL(s.name_len, 128);
+    NAMED(0, 0, UNTOUCHED); NAMED(127, 0, UNTOUCHED); NAMED(128, 0, UNTOUCHED); EQUAL(PLAYER.name_len, 128);
     NAMED(129, 207, 128); NAMED(1000, 207, 128);
     /* Over 128 octets and not UTF-8 either, from the first octet on, or from the 128th, or from the one behind. */
     name[0] = 0x80; NAMED(1, 207, 0); NAMED(128, 207, 0); NAMED(129, 207, 128); NAMED(1000, 207, 128); name[0] = 'x';
@@ -698,12 +761,13 @@ static void name_cases(void)
     EQUAL(start(0), 0); lent.text[17] = 0x80; EQUAL(set_name("a\xFF"), 200); EQUAL(place.track, 3); EQUAL(place.offset, 3);
     EQUAL(makes(START, 0, 0, 0, "\xFF", 1, 0), 200); EQUAL(place.track, 3); EQUAL(place.offset, 3); lent.len[TEXT] = 17;
     EQUAL(set_name("a\xFF"), 200); EQUAL(place.track, UNTOUCHED); EQUAL(place.offset, UNTOUCHED);
-    lend_sample(); s.name[2] = 0xFF; EQUAL(set_name("a\xFF"), 201); EQUAL(place.offset, UNTOUCHED); EQUAL(deactivate(), 201);
-    EQUAL(place.offset, UNTOUCHED); s.name_len = 129; EQUAL(set_name("a\xFF"), 201); EQUAL(place.offset, UNTOUCHED);
+    lend_sample(); PLAYER.name[2] = 0xFF; EQUAL(set_name("a\xFF"), 201); EQUAL(place.offset, UNTOUCHED); EQUAL(deactivate(), 201);
+    EQUAL(place.offset, UNTOUCHED); PLAYER.name_len = 129; EQUAL(set_name("a\xFF"), 201); EQUAL(place.offset, UNTOUCHED);
 }
 
 /* Each refusal of each call, with every later one of the table that can apply as well. Client 0 is encrypted, has read the name
- * and has eight results waiting, 1 is unencrypted, 2 not connected. The octets written are zeros. */
+ * and has eight results waiting, 1 is unencrypted, 2 not connected. The octets written are zeros. W-208: "219, service number
+ * over 1, after 202", and so before all the others that a row gives; connect, disconnect and take are of no service. */
 static void order_cases(void)
 {
     static const struct { int call; uint32_t client, what, number, len, gives; } ROW[] = {
@@ -721,6 +785,7 @@ static void order_cases(void)
         {WRITE, 0, 18, 0, 1, 0x11}, {WRITE, 0, 18, 0, 5, 0x11},
     };
     static const uint8_t ZEROS[129];
+    uint32_t right = service;
     ref_state good;
     lend_sample(); stand(3, 0, 0);
     EQUAL(makes(CONNECT, 1, 0, 100, NULL, 0, 0) + subscribes(0, 18) + reads(0, 1, 0), 0);
@@ -728,7 +793,15 @@ static void order_cases(void)
     good = s;
     EACH(0, sizeof ROW / sizeof ROW[0]) {
         size_t room = ROW[k].call == READ || ROW[k].call == TAKE ? ROOM : 0, small = room > 0 ? room - 1 : 0;
+        int of_none = ROW[k].call == CONNECT || ROW[k].call == DISCONNECT || ROW[k].call == TAKE;
 #define MAKES(room) makes(ROW[k].call, ROW[k].client, ROW[k].what, ROW[k].number, ZEROS, ROW[k].len, room)
+        for (uint32_t j = 0; j < 6; j++) {
+            service = OVER[j];
+            s = good; EQUAL(MAKES(room), of_none || ROW[k].gives == 202 ? ROW[k].gives : 219);
+            s = good; s.turn = 4; EQUAL(MAKES(room), 201); EQUAL(MAKES(small), room > 0 ? 205 : 201);
+            lent.len[GROUPS] = 11; EQUAL(MAKES(small), 200); lent.len[GROUPS] = 12;
+        }
+        service = right;
         s = good; EQUAL(MAKES(room), ROW[k].gives); s = good; EQUAL(MAKES(small), room > 0 ? 205 : ROW[k].gives);
         s = good; s.turn = 4; EQUAL(MAKES(small), room > 0 ? 205 : 201); EQUAL(MAKES(room), 201);
         lent.len[GROUPS] = 11; EQUAL(MAKES(small), 200); EQUAL(makes(START, 0, 0, 0, ZEROS, 129, 0), 200); lent.len[GROUPS] = 12;
@@ -743,35 +816,375 @@ static void order_cases(void)
 static void state_cases(void)
 {
     ref_state good;
-    ref_client *r = &s.clients[0];
+    ref_player *p = &PLAYER;
+    ref_account *r = &ACCOUNT(0);
+    ref_link *l = &s.links[0];
     lend_sample(); stand(3, 0, 0);
     EQUAL(subscribes(0, 17) + subscribes(0, 18) + commands(0, PLAY, 0) + commands(0, PAUSE, 0), 0); good = s;
     /* "its name breaks 207"; "group, track in it, position, state, seeking speed, order" */
-    STANDS(s.name_len = 128); BROKEN(s.name_len = 129); BROKEN(s.name[3] = 0xC3); STANDS(s.name[4] = 0xFF);
-    STANDS(s.order = 8); BROKEN(s.order = 0); BROKEN(s.order = 9); BROKEN(s.media = 0); BROKEN(s.media = 3); BROKEN(s.media = 4);
-    BROKEN(s.seeking = 4); STANDS(s.media = 3; s.seeking = -32); BROKEN(s.media = 3; s.seeking = 5);
-    BROKEN(s.group = 2); BROKEN(s.group = 3); BROKEN(s.group = 4); STANDS(s.track = 2); BROKEN(s.track = 3); STANDS(s.group = s.track = 3);
-    STANDS(s.position = 6000); BROKEN(s.position = 6001); BROKEN(s.track = 2; s.position = 1); BROKEN(s.turn = 4);
+    STANDS(p->name_len = 128); BROKEN(p->name_len = 129); BROKEN(p->name[3] = 0xC3); STANDS(p->name[4] = 0xFF);
+    STANDS(p->order = 8); BROKEN(p->order = 0); BROKEN(p->order = 9); BROKEN(p->media = 0); BROKEN(p->media = 3);
+    BROKEN(p->media = 4);
+    BROKEN(p->seeking = 4); STANDS(p->media = 3; p->seeking = -32); BROKEN(p->media = 3; p->seeking = 5);
+    BROKEN(p->group = 2); BROKEN(p->group = 3); BROKEN(p->group = 4); STANDS(p->track = 2); BROKEN(p->track = 3);
+    STANDS(p->group = p->track = 3);
+    STANDS(p->position = 6000); BROKEN(p->position = 6001); BROKEN(p->track = 2; p->position = 1); BROKEN(s.turn = 4);
     /* W-202: "The position is 0 to 8,640,000" */
-    lent.words[TRACKS][0] = UNKNOWN; STANDS(s.position = END); BROKEN(s.position = END + 1); lend_sample();
+    lent.words[TRACKS][0] = UNKNOWN; STANDS(p->position = END); BROKEN(p->position = END + 1); lend_sample();
     /* "connected with over 8 results or a result code not 1..4": two wait, PLAY and PAUSE. The octets behind eight results are
-     * the next record's, here 1 and 1, and would pass for a ninth. */
+     * those of the next account's subscriptions, here 1 and 1, and would pass for a ninth. */
     BROKEN(r->waiting = 0); BROKEN(r->waiting = 3); STANDS(r->waiting = 8; EACH(0, 8) r->results[k].code = 4);
-    BROKEN(r->waiting = 9; EACH(0, 8) r->results[k].code = 1; s.clients[1].connected = s.clients[1].encrypted = 1);
+    BROKEN(r->waiting = 9; EACH(0, 8) r->results[k].code = 1; 
+           s.links[1].connected = s.links[1].encrypted = 1; ACCOUNT(1).subscribed = 0x101);
     BROKEN(r->results[0].code = 0); BROKEN(r->results[1].code = 5); STANDS(r->results[2].code = 5);
     /* "a slot owed but not subscribed, 18 owed otherwise than when results wait" */
     BROKEN(r->owed |= B7); BROKEN(r->subscribed = B18); BROKEN(r->subscribed = B17); BROKEN(r->owed = B17); STANDS(r->owed = B18);
     BROKEN(r->subscribed |= 1u << 10); BROKEN(r->subscribed |= 1u << 31); BROKEN(r->subscribed |= 1u << 10; r->owed |= 1u << 10);
     /* "an ATT_MTU against 206, a round mark out of range, a subscription while unencrypted"; a yes or no is 1 or 0. */
-    BROKEN(r->mtu = 22); BROKEN(r->mtu = 518); STANDS(r->mtu = 517); STANDS(r->mark = 0); BROKEN(r->mark = 10);
-    BROKEN(r->encrypted = 0); BROKEN(r->encrypted = 2); BROKEN(r->connected = 0); BROKEN(r->connected = 2);
+    BROKEN(l->mtu = 22); BROKEN(l->mtu = 518); STANDS(l->mtu = 517); STANDS(l->mark = 0); STANDS(l->mark = 19);
+    BROKEN(l->mark = 20);
+    BROKEN(l->encrypted = 0); BROKEN(l->encrypted = 2); BROKEN(l->connected = 0); BROKEN(l->connected = 2);
     /* What may be read: 1, 5, 6, 7, 8, 9, 15, 16, 17, 19, 22. */
     EACH(0, 32) { s = good; r->fresh = 1u << k; EQUAL(disconnects(4), (0x4B83E2u >> k & 1u) != 0 ? 202 : 201); }
     /* "unconnected and not start's" */
-    r = &s.clients[3]; BROKEN(r->encrypted = 1); BROKEN(r->mtu = 24); BROKEN(r->subscribed = 1); BROKEN(r->owed = 1);
-    BROKEN(r->fresh = 2); BROKEN(r->mark = 0); BROKEN(r->waiting = 1); STANDS(r->results[0].code = 7);
+    r = &ACCOUNT(3); l = &s.links[3]; BROKEN(l->encrypted = 1); BROKEN(l->mtu = 24); BROKEN(r->subscribed = 1);
+    BROKEN(r->owed = 1);
+    BROKEN(r->fresh = 2); BROKEN(l->mark = 0); BROKEN(r->waiting = 1); STANDS(r->results[0].code = 7);
     /* While Inactive group, track and position are those of start. */
-    s = good; EQUAL(deactivate(), 0); good = s; BROKEN(s.group = 1); BROKEN(s.track = 1); BROKEN(s.position = 1); BROKEN(s.media = 2);
+    s = good; EQUAL(deactivate(), 0); good = s; BROKEN(p->group = 1); BROKEN(p->track = 1); BROKEN(p->position = 1);
+    BROKEN(p->media = 2);
+}
+
+/* ---- W-208: two services */
+
+/* A call to that service. Calls of which each is to be accepted are joined by ||, which keeps their order. */
+#define IN(number, call) (service = (number), (call))
+#define OWES_IN(number, client, slots) EQUAL(s.services[number].accounts[client].owed, slots)
+
+/* W-208: "Start names both players at once, generic (0) checked first" */
+#define STARTS(name0, len0, name1, len1, refusal, octet)                                                                   \
+    do {                                                                                                                   \
+        service = 0; other.name = name1; other.len = len1;                                                                 \
+        EQUAL(makes(START, 0, 7, ALL_OPCODES, name0, len0, 0), refusal); EQUAL(place.offset, octet);                       \
+    } while (0)
+static void start_cases(void)
+{
+    uint8_t x[300];
+    lend_sample(); memset(x, 'x', sizeof x);
+    /* Bad in both: the offset is service 0's, be it below, above or the same as that of service 1. */
+    STARTS("a\xFF", 2, "bcd\xFF", 4, 207, 1); STARTS("abc\xC3", 4, "\x80", 1, 207, 3); STARTS("ab\xFF", 3, "cd\x80", 3, 207, 2);
+    STARTS(x, 129, "\xFF", 1, 207, 128); STARTS("\xFF", 1, x, 129, 207, 0); STARTS(x, 129, x, 300, 207, 128);
+    STARTS("\xE2\x82", 2, x, 300, 207, 0);
+    /* Bad in service 0 alone, and in service 1 alone. */
+    STARTS("ab\xFF", 3, "Player", 6, 207, 2); STARTS(x, 129, "", 0, 207, 128); STARTS("Desk", 4, "ab\xFF", 3, 207, 2);
+    STARTS("", 0, "\x80", 1, 207, 0); STARTS("Desk", 4, x, 129, 207, 128); STARTS(x, 128, "abcde\xF0\x9F\x8E", 8, 207, 5);
+    /* 200 comes before both and has its own place. */
+    lent.text[17] = 0x80; STARTS("a\xFF", 2, "\xFF", 1, 200, 3); EQUAL(place.track, 3); lend_sample();
+    /* Good in both. */
+    STARTS("", 0, "", 0, 0, UNTOUCHED); STARTS(x, 128, x, 128, 0, UNTOUCHED); STARTS("Desk", 4, "Player", 6, 0, UNTOUCHED);
+    /* "Start leaves Inactive, order 3, speed 0"; octets behind the names are zeros; the rounds begin at client 0 and place 0. */
+    EQUAL(s.layout, 0x82); EQUAL(s.turn, 3);
+    EACH(0, 4) CHECK(starts_record(k));
+    for (service = 0; service < 2; service++) {
+        IS(0, 0, 0, REF_INACTIVE, 0); EQUAL(PLAYER.order, 3); EQUAL(PLAYER.speed, 0);
+        EQUAL(PLAYER.name_len, service == 0 ? 4 : 6);
+        CHECK(memcmp(PLAYER.name, service == 0 ? "Desk\0" : "Player", 6) == 0 && all_are(PLAYER.name + 6, 0, 122));
+    }
+    /* Each has its name, its mask and its Content Control ID: in 0 Play is known, in 1 Pause. */
+    other = (named){"Player", 6, 2, 9}; EQUAL(IN(0, start(1)) || connects(0, 23) || activate(1) || IN(1, activate(1)), 0);
+    CHECK(IN(0, reads_as(0, 1, 0, "Desk", 4)) && IN(1, reads_as(0, 1, 0, "Player", 6)));
+    CHECK(IN(0, reads_as(0, 19, 0, "\x01\x00\x00\x00", 4)) && IN(1, reads_as(0, 19, 0, "\x02\x00\x00\x00", 4)));
+    CHECK(IN(0, reads_as(0, 22, 0, "\x07", 1)) && IN(1, reads_as(0, 22, 0, "\x09", 1)));
+    EQUAL(IN(0, result(PLAY, 0)), 1); EQUAL(IN(1, result(PLAY, 0)), 2); EQUAL(IN(1, result(PAUSE, 0)), 1);
+    EQUAL(IN(0, result(PAUSE, 0)), 2); PLAYS(1, 0, 0); service = 1; PAUSES(1, 0, 0);
+    other = OTHER;
+}
+
+/* W-208: "219, service number over 1, after 202". Client 0 is connected, 1 unencrypted, 2 not connected. */
+static void number_cases(void)
+{
+    static const int CALL[4] = {SUBSCRIBE, UNSUBSCRIBE, READ, WRITE};
+    service = 0; lend_sample(); stand(3, 0, 0); EQUAL(makes(CONNECT, 1, 0, 100, NULL, 0, 0), 0);
+    EACH(0, 24) {
+        int call = CALL[k / 6];
+        uint32_t over = OVER[k % 6];
+        /* 202, 219, 203 and 0x01 at once; without the first; without the first two; and 0x01 alone. */
+#define BY(client, number) IN(number, makes(call, client, 3, 0, "\x01", 1, ROOM))
+        EQUAL(BY(4, over), 202); EQUAL(BY(2, over), 219); EQUAL(BY(2, 0), 203); EQUAL(BY(2, 1), 203); EQUAL(BY(0, over), 219);
+        EQUAL(BY(0, 0), 0x01); EQUAL(BY(0, 1), 0x01); EQUAL(BY(4, 0), 202); EQUAL(BY(4, 1), 202); EQUAL(BY(1, over), 219);
+        /* 201 comes before 202, 219 and 203, whichever of the two services breaks it. */
+        s.services[k % 2].player.order = 9; EQUAL(BY(4, over), 201); EQUAL(BY(2, over), 201); EQUAL(BY(2, 0), 201);
+        EQUAL(BY(2, 1), 201); s.services[k % 2].player.order = 3;
+    }
+    EACH(0, 6) {
+        /* 201, then 219, then 207 and 208. */
+        service = OVER[k]; EQUAL(set_name("\xFF"), 219); EQUAL(set_name("Desk"), 219); EQUAL(activate(2), 219);
+        EQUAL(activate(1), 219);
+        EQUAL(deactivate(), 219); EQUAL(advance(1), 219); s.layout = 0; EQUAL(set_name("\xFF"), 201); EQUAL(activate(2), 201);
+        EQUAL(deactivate(), 201); EQUAL(advance(1), 201); s.layout = 0x82;
+    }
+    for (service = 0; service < 2; service++) { EQUAL(set_name("\xFF"), 207); EQUAL(activate(2), 208); }
+}
+
+/* W-208: "Each has its own player state, name, subscriptions and results." The connection, the ATT_MTU and the encryption are the
+ * client's. */
+static void apart_cases(void)
+{
+    ref_service kept;
+    lend_sample();
+    EQUAL(IN(0, start(ALL_OPCODES)) || connects(0, 24) || connects(1, 100) || IN(0, activate(1)) || IN(1, activate(3)), 0);
+    CHECK(IN(0, reads_as(0, 5, 0, "\xC3\x9C" "berfahrt", 10)) && IN(1, reads_as(0, 5, 0, "Ziel", 4)));
+    CHECK(IN(0, reads_as(0, 6, 0, "\x70\x17\x00\x00", 4)) && IN(1, reads_as(0, 6, 0, "\x84\x03\x00\x00", 4)));
+    EQUAL(IN(1, writes(0, 15, 8)) || writes(0, 8, 0x85) || commands(0, FORWARD, 0) || advance(100), 0);
+    IS(3, 3, 400, REF_SEEKING, 4); service = 0; PAUSES(1, 0, 0); EQUAL(PLAYER.order, 3); EQUAL(PLAYER.speed, 0);
+    EQUAL(commands(0, PLAY, 0) || advance(6000) || advance(7), 0); PLAYS(1, 1, 7); EQUAL(deactivate(), 0);
+    IS(0, 0, 0, REF_INACTIVE, 0); service = 1; IS(3, 3, 400, REF_SEEKING, 4); EQUAL(PLAYER.order, 8); EQUAL(PLAYER.speed, -123);
+    EQUAL(IN(0, result(PLAY, 0)), 3); EQUAL(IN(1, result(PLAY, 0)), 1); PLAYS(3, 3, 400);
+    /* A value of one is cut by the same ATT_MTU as that of the other; unencrypted and unconnected are of both. */
+    for (uint32_t first = 0; first < 2; first++) {
+        EQUAL(IN(first, subscribes(0, 1)) || set_name("0123456789012345678901234"), 0);
+        CHECK(takes(0, 1, "012345678901234567890", 21) && reads_as(0, 1, 0, "01234567890123456789012", 23));
+        EQUAL(disconnects(0) || makes(CONNECT, 0, 0, 24, NULL, 0, 0), 0);
+        EQUAL(reads(0, 1, 0), 0x0F); EQUAL(IN(1 - first, reads(0, 1, 0)), 0x0F); EQUAL(subscribes(0, 1), 0x0F);
+        EQUAL(disconnects(0), 0); EQUAL(reads(0, 1, 0), 203); EQUAL(IN(first, reads(0, 1, 0)), 203);
+        EQUAL(connects(0, 24), 0); EQUAL(connects(0, 24), 204);
+    }
+    /* Every call to one, while the other has subscriptions, owed values, changed marks and results: its octets stay. */
+    for (uint32_t to = 0; to < 2; to++) {
+        service = 1 - to; EQUAL(start(ALL_OPCODES) || connects(0, 23) || connects(1, 64) || activate(1), 0);
+        EACH(0, 10) EQUAL(subscribes(0, SLOT[k]) || subscribes(1, SLOT[k]), 0);
+        EQUAL(reads(0, 1, 0) || reads(1, 7, 0) || commands(0, FORWARD, 0) || commands(1, 0x77, 0) || writes(0, 8, 3), 0);
+        OWES(0, B9 | B17 | B18); OWES(1, B8 | B9 | B17 | B18); EQUAL(ACCOUNT(0).fresh, 1u << 1); EQUAL(ACCOUNT(1).fresh, 1u << 7);
+        memcpy(&kept, &s.services[service], sizeof kept); service = to;
+#define STAYS(call) do { EQUAL(call, 0); CHECK(memcmp(&kept, &s.services[1 - to], sizeof kept) == 0); } while (0)
+        STAYS(subscribes(0, 8)); STAYS(subscribes(1, 18)); STAYS(set_name("Other")); STAYS(activate(1)); STAYS(writes(0, 8, 9));
+        STAYS(writes(1, 15, 4)); STAYS(moves_to(0, 50)); STAYS(commands(1, PLAY, 0)); STAYS(advance(3)); STAYS(advance(6000));
+        STAYS(reads(0, 7, 0)); STAYS(reads(1, 1, 0)); STAYS(reads(1, 1, 2)); STAYS(commands(1, TRACK + NEXT, 0));
+        STAYS(deactivate());
+        OWES(0, 0); OWES(1, B18); STAYS(unsubscribes(1, 18)); STAYS(unsubscribes(0, 8)); STAYS(unsubscribes(0, 17));
+        /* Another client's coming and going is nothing to it either. */
+        STAYS(connects(2, 99)); STAYS(subscribes(2, 1)); STAYS(disconnects(2));
+    }
+}
+
+static void both_owed_cases(void)
+{
+    static const uint8_t CODE[2][8] = {{1, 4, 1, 1, 1, 1, 2, 1}, {3, 3, 3, 3, 3, 3, 2, 3}};
+    static const uint8_t GIVEN[8] = {PLAY, TRACK + PREVIOUS, TRACK + NEXT, PAUSE, FORWARD, STOP, 0x99, REWIND};
+    /* The writer of 8 is spared in the service that it wrote to, and the other client is owed it there; nobody is elsewhere. */
+    lend_sample(); EQUAL(IN(0, start(ALL_OPCODES)) || connects(0, 23) || connects(1, 23), 0);
+    EACH(0, 4) EQUAL(IN(k / 2, subscribes(k % 2, 8)) || subscribes(k % 2, 15), 0);
+    EQUAL(IN(0, writes(0, 8, 5)), 0); OWES_IN(0, 0, 0); OWES_IN(0, 1, B8); OWES_IN(1, 0, 0); OWES_IN(1, 1, 0);
+    /* The writer there, client 1, is still owed what the other service owes it; and client 0 is now owed 8 by service 1. */
+    EQUAL(IN(1, writes(1, 8, 6)), 0); OWES_IN(0, 0, 0); OWES_IN(0, 1, B8); OWES_IN(1, 0, B8); OWES_IN(1, 1, 0);
+    /* "What is already owed stays owed", also when the client writes it, to the same service or to the other. */
+    EQUAL(IN(0, writes(1, 8, 7)), 0); OWES_IN(0, 0, B8); OWES_IN(0, 1, B8); EQUAL(IN(1, writes(0, 8, 7)), 0); OWES_IN(0, 0, B8);
+    OWES_IN(1, 0, B8); OWES_IN(1, 1, B8);
+    /* The same value again changes nothing, though the other service has another one. */
+    EQUAL(IN(0, writes(1, 15, 3)), 0); OWES_IN(0, 0, B8); EQUAL(IN(1, writes(1, 15, 4)), 0); OWES_IN(0, 0, B8);
+    OWES_IN(1, 0, B8 | B15); OWES_IN(1, 1, B8); EQUAL(IN(0, writes(0, 15, 4)), 0); OWES_IN(0, 1, B8 | B15); OWES_IN(1, 1, B8);
+    /* Whose value is handed out: the present one of the service that owes it. */
+    CHECK(IN(0, takes(0, 8, "\x07", 1)) && IN(0, takes(1, 8, "\x07", 1)) && IN(1, takes(0, 8, "\x07", 1)));
+    EQUAL(IN(1, writes(0, 15, 6)), 0); CHECK(IN(0, takes(1, 15, "\x04", 1)) && IN(1, takes(0, 15, "\x06", 1)));
+    CHECK(IN(1, takes(1, 8, "\x07", 1)) && IN(1, takes(1, 15, "\x06", 1)) && takes(0, 0, "", 0));
+
+    /* "Not owed: 7 when an advance in Playing stays below D": of the service that is advanced. */
+    EQUAL(IN(0, start(ALL_OPCODES)) || connects(0, 23) || IN(0, activate(1)) || IN(1, activate(1)), 0);
+    EQUAL(IN(0, subscribes(0, 7)) || IN(1, subscribes(0, 7)) || IN(0, commands(0, PLAY, 0)) || IN(1, commands(0, FORWARD, 0)), 0);
+    EQUAL(IN(0, advance(5)), 0); OWES_IN(0, 0, 0); OWES_IN(1, 0, 0); EQUAL(IN(1, advance(5)), 0); OWES_IN(0, 0, 0);
+    OWES_IN(1, 0, B7);
+    EQUAL(IN(0, advance(5)), 0); OWES_IN(0, 0, 0); OWES_IN(1, 0, B7); EQUAL(IN(0, moves_to(0, 1)), 0); OWES_IN(0, 0, B7);
+    OWES_IN(1, 0, B7);
+    CHECK(IN(0, takes(0, 7, "\x01\x00\x00\x00", 4)) && IN(1, takes(0, 7, "\x14\x00\x00\x00", 4)) && takes(0, 0, "", 0));
+
+    /* Eight results in each: service 0 is in group 1, whose first track has none before it; service 1 is Inactive. */
+    EQUAL(IN(0, start(ALL_OPCODES)) || connects(2, 23) || activate(1) || subscribes(2, 18) || IN(1, subscribes(2, 18)), 0);
+    EACH(0, 8) EQUAL(IN(0, commands(2, GIVEN[k], 0)), 0);
+    /* 0x11 looks at the service that is written to. */
+    EQUAL(IN(0, commands(2, PLAY, 0)), 0x11);
+    EACH(0, 8) EQUAL(IN(1, commands(2, GIVEN[k], 0)), 0);
+    EQUAL(IN(1, commands(2, PLAY, 0)), 0x11); EQUAL(IN(0, commands(2, 0x99, 0)), 0x11); OWES_IN(0, 2, B18); OWES_IN(1, 2, B18);
+    EQUAL(s.services[0].accounts[2].waiting, 8); EQUAL(s.services[1].accounts[2].waiting, 8);
+    /* 17 takes: places 9 and 19 by turns, each the oldest result of its service, and then nothing. */
+    EACH(0, 16) {
+        const uint8_t is[2] = {GIVEN[k / 2], CODE[k % 2][k / 2]};
+        CHECK(IN(k % 2, takes(2, 18, is, 2))); EQUAL(s.links[2].mark, k % 2 == 0 ? 9 : 19);
+        EQUAL(s.services[0].accounts[2].waiting, 7 - k / 2); EQUAL(s.services[1].accounts[2].waiting, 8 - (k + 1) / 2);
+    }
+    CHECK(takes(0, 0, "", 0)); EQUAL(s.links[2].mark, 19); OWES_IN(0, 2, 0); OWES_IN(1, 2, 0);
+
+    /* Unsubscribing in one service only: the same slot of the other is still subscribed to, owed, and has its results. */
+    EQUAL(IN(0, subscribes(2, 17)) || IN(1, subscribes(2, 17)) || IN(0, commands(2, PAUSE, 0)) || IN(1, activate(3)), 0);
+    EQUAL(IN(1, commands(2, PLAY, 0)) || commands(2, STOP, 0), 0); OWES_IN(0, 2, B17 | B18); OWES_IN(1, 2, B17 | B18);
+    EQUAL(IN(1, unsubscribes(2, 18)), 0); OWES_IN(0, 2, B17 | B18); OWES_IN(1, 2, B17);
+    EQUAL(s.services[0].accounts[2].waiting, 1); EQUAL(s.services[1].accounts[2].waiting, 0);
+    EQUAL(IN(0, unsubscribes(2, 17)), 0);
+    OWES_IN(0, 2, B18); OWES_IN(1, 2, B17); EQUAL(s.services[0].accounts[2].subscribed, B18);
+    EQUAL(s.services[1].accounts[2].subscribed, B17);
+    EQUAL(IN(0, commands(2, PLAY, 0)) || IN(1, commands(2, PLAY, 0)), 0); OWES_IN(0, 2, B18); OWES_IN(1, 2, B17);
+    CHECK(IN(0, takes(2, 18, "\x02\x01", 2)) && IN(1, takes(2, 17, "\x01", 1)) && IN(0, takes(2, 18, "\x01\x01", 2)));
+    CHECK(takes(0, 0, "", 0));
+}
+
+/* The changed marks (0x80) are the client's and the service's. */
+static void mark_cases(void)
+{
+    lend_sample(); EQUAL(IN(0, start(ALL_OPCODES)) || connects(0, 23) || connects(1, 23), 0);
+    /* A read at 0 in one is none in the other. */
+    EQUAL(IN(0, reads(0, 1, 0)), 0); EQUAL(reads(0, 1, 1), 0); EQUAL(IN(1, reads(0, 1, 1)), 0x80);
+    EQUAL(reads(0, 1, 0) || reads(0, 1, 1), 0);
+    EQUAL(IN(0, reads(1, 1, 1)), 0x80); EQUAL(IN(0, reads(1, 1, 0)) || IN(1, reads(1, 1, 0)), 0);
+    /* A change in one is none in the other; also one that is changed back. */
+    EQUAL(IN(1, set_name("New")), 0); EQUAL(reads(0, 1, 1), 0x80); EQUAL(reads(1, 1, 1), 0x80); EQUAL(IN(0, reads(0, 1, 1)), 0);
+    EQUAL(reads(1, 1, 1), 0); EQUAL(IN(0, set_name("New")) || set_name("Desk"), 0); EQUAL(reads(0, 1, 1), 0x80);
+    EQUAL(IN(1, reads(1, 1, 0)), 0); EQUAL(IN(0, reads(1, 1, 1)), 0x80); EQUAL(IN(1, reads(1, 1, 1)), 0);
+    EQUAL(reads(0, 1, 1), 0x80);
+    /* An advance in Playing changes 7 of the service that is advanced. */
+    EQUAL(IN(0, activate(1)) || IN(1, activate(1)) || IN(0, commands(0, PLAY, 0)) || IN(1, commands(0, PLAY, 0)), 0);
+    EQUAL(IN(0, reads(0, 7, 0)) || IN(1, reads(0, 7, 0)) || IN(0, advance(1)), 0); EQUAL(reads(0, 7, 1), 0x80);
+    EQUAL(IN(1, reads(0, 7, 1)), 0);
+    /* "no such read since connecting", in either. */
+    EQUAL(IN(0, reads(0, 7, 0)) || disconnects(0) || connects(0, 23), 0); EQUAL(reads(0, 7, 1), 0x80);
+    EQUAL(IN(1, reads(0, 7, 1)), 0x80);
+}
+
+/* After these calls every client is owed all its twenty places, with one result in each service: 4, 5, 6, 7 and 17 by the
+ * activation, 8 and 15 by what two of the clients write, 9 by the first Fast Forward. */
+static void owe_everything(void)
+{
+    EQUAL(IN(0, start(ALL_OPCODES)), 0);
+    EACH(0, 4) EQUAL(connects(k, 23), 0);
+    EACH(0, 80) EQUAL(IN(k / 40, subscribes(k % 4, SLOT[k / 4 % 10])), 0);
+    for (service = 0; service < 2; service++) {
+        EQUAL(set_name(service == 0 ? "Zero" : "One") || activate(service == 0 ? 1 : 3), 0);
+        EQUAL(writes(0, 8, 1) || writes(1, 8, service == 0 ? 2 : 3), 0);
+        EQUAL(writes(2, 15, 5) || writes(3, 15, service == 0 ? 6 : 7), 0);
+        EACH(0, 4) EQUAL(commands(k, FORWARD, 0), 0);
+    }
+    EACH(0, 8) OWES_IN(k % 2, k / 2, 1023);
+}
+
+/* W-208: "only the order of takes is shared, a client's slots running through the generic service and then the other, twenty in
+ * all" */
+static void round_cases(void)
+{
+    static const struct { const char *octets; uint32_t len; } VALUE[20] = {
+        {"Zero", 4}, {"", 0}, {"\xC3\x9C" "berfahrt", 10}, {"\x70\x17\x00\x00", 4}, {"\x00\x00\x00\x00", 4},
+        {"\x02", 1}, {"\x20", 1}, {"\x06", 1}, {"\x03", 1}, {"\x04\x01", 2},
+        {"One", 3}, {"", 0}, {"Ziel", 4}, {"\x84\x03\x00\x00", 4}, {"\x00\x00\x00\x00", 4},
+        {"\x03", 1}, {"\x20", 1}, {"\x07", 1}, {"\x03", 1}, {"\x04\x01", 2}};
+    /* "Demand 3's 40 becomes 80": the clients by turns, and each client's places in order. */
+    lend_sample(); owe_everything();
+    EACH(0, 80) {
+        CHECK(IN(k / 40, takes(k % 4, SLOT[k / 4 % 10], VALUE[k / 4].octets, VALUE[k / 4].len)));
+        EQUAL(s.links[k % 4].mark, k / 4);
+    }
+    CHECK(takes(0, 0, "", 0)); EQUAL(s.turn, 3);
+    EACH(0, 4) EQUAL(s.links[k].mark, 19);
+    /* From every mark: the places behind it, round the twenty. */
+    owe_everything(); EQUAL(disconnects(1) || disconnects(2) || disconnects(3), 0);
+    for (uint32_t mark = 0; mark < 20; mark++) {
+        ref_state owes_all = s;
+        s.links[0].mark = mark;
+        EACH(1, 21) {
+            uint32_t next = (mark + k) % 20;
+            CHECK(IN(next / 10, takes(0, SLOT[next % 10], VALUE[next].octets, VALUE[next].len))); EQUAL(s.links[0].mark, next);
+        }
+        CHECK(takes(0, 0, "", 0)); s = owes_all;
+    }
+    /* Every pair of a mark and one place that is owed: it is served, the mark's own place too. */
+    EACH(0, 400) {
+        uint32_t next = k / 20;
+        EQUAL(IN(next / 10, start(ALL_OPCODES)) || connects(3, 23) || subscribes(3, SLOT[next % 10]), 0);
+        s.links[3].mark = k % 20;
+        ACCOUNT(3).owed = 1u << next % 10;
+        if (next % 10 == 9) { ACCOUNT(3).waiting = 1; ACCOUNT(3).results[0] = (ref_result){1, 1}; }
+        EQUAL(makes(TAKE, 0, 0, 0, NULL, 0, ROOM), 0); EQUAL(said.served[0], 3); EQUAL(said.served[1], service);
+        EQUAL(said.served[2], SLOT[next % 10]);
+        EQUAL(s.links[3].mark, next); EQUAL(s.turn, 3); OWES_IN(0, 3, 0); OWES_IN(1, 3, 0);
+    }
+
+    /* "in number order round the four" comes first: client 0 is owed by service 1, client 1 by service 0 and the lowest place. */
+    EQUAL(IN(0, start(ALL_OPCODES)) || connects(0, 23) || connects(1, 23), 0);
+    EQUAL(IN(1, subscribes(0, 17)) || IN(0, subscribes(1, 1)) || set_name("A") || IN(1, activate(3)), 0);
+    CHECK(IN(1, takes(0, 17, "\x02", 1)) && IN(0, takes(1, 1, "A", 1)) && takes(0, 0, "", 0));
+    /* What becomes owed behind the mark comes before what is owed in front of it, though that is of service 0. */
+    EQUAL(IN(0, subscribes(0, 1)) || subscribes(0, 8) || IN(1, subscribes(0, 1)) || deactivate() || IN(0, set_name("B")), 0);
+    EQUAL(IN(1, writes(1, 15, 4)) || subscribes(0, 18) || commands(0, PLAY, 0) || IN(0, writes(1, 8, 9)), 0);
+    EQUAL(s.links[0].mark, 18); EQUAL(disconnects(1), 0); OWES_IN(0, 0, 1 | B8); OWES_IN(1, 0, B17 | B18);
+    CHECK(IN(1, takes(0, 18, "\x01\x03", 2)) && IN(0, takes(0, 1, "B", 1)));
+    EQUAL(IN(1, set_name("C")) || IN(0, set_name("D")), 0);
+    CHECK(IN(0, takes(0, 8, "\x09", 1)) && IN(1, takes(0, 1, "C", 1)) && takes(0, 17, "\x00", 1) && IN(0, takes(0, 1, "D", 1)));
+    CHECK(takes(0, 0, "", 0)); EQUAL(s.links[0].mark, 0);
+    /* Behind 18 of service 0 the round goes on in service 1, also where more results wait. */
+    EQUAL(IN(0, subscribes(0, 18)) || commands(0, PLAY, 0) || commands(0, STOP, 0), 0);
+    EQUAL(IN(1, set_name("E")) || commands(0, PAUSE, 0) || commands(0, 0x77, 0), 0);
+    CHECK(IN(0, takes(0, 18, "\x01\x03", 2)) && IN(1, takes(0, 1, "E", 1)) && IN(1, takes(0, 18, "\x02\x03", 2)));
+    CHECK(IN(0, takes(0, 18, "\x05\x03", 2)) && IN(1, takes(0, 18, "\x77\x02", 2)) && takes(0, 0, "", 0));
+
+    /* Reconnecting: the round begins at service 0's lowest slot, and both accounts are start's. */
+    EQUAL(IN(1, subscribes(0, 8)) || connects(1, 23) || IN(1, writes(1, 8, 1)), 0); CHECK(takes(0, 8, "\x01", 1));
+    EQUAL(s.links[0].mark, 15);
+    for (service = 0; service < 2; service++) EQUAL(set_name("F") || reads(0, 1, 0) || commands(0, PLAY, 0), 0);
+    OWES_IN(0, 0, 1 | B18); OWES_IN(1, 0, 1 | B18); EQUAL(disconnects(0), 0); CHECK(starts_record(0));
+    CHECK(takes(0, 0, "", 0)); EQUAL(connects(0, 64), 0); EQUAL(s.links[0].mark, 19); EQUAL(s.links[0].mtu, 64); EQUAL(s.turn, 0);
+    EACH(0, 2) { EQUAL(s.services[k].accounts[0].subscribed, 0); OWES_IN(k, 0, 0); EQUAL(s.services[k].accounts[0].waiting, 0); }
+    EQUAL(IN(0, reads(0, 1, 1)), 0x80); EQUAL(IN(1, reads(0, 1, 1)), 0x80);
+    EQUAL(IN(0, set_name("H")) || IN(1, set_name("I")), 0); CHECK(takes(0, 0, "", 0));
+    EQUAL(IN(0, subscribes(0, 1)) || IN(1, subscribes(0, 1)) || IN(1, set_name("J")) || IN(0, set_name("K")), 0);
+    CHECK(IN(0, takes(0, 1, "K", 1)) && IN(1, takes(0, 1, "J", 1)) && takes(0, 0, "", 0));
+}
+
+/* 201 looks at the layout, at both players and at all records, in every call that takes a state, whichever service it is to. */
+#define ALL_GIVE_201(edit)                                                                                                 \
+    do {                                                                                                                   \
+        s = good; edit;                                                                                                    \
+        EACH(SET_NAME, CALLS * 3) {                                                                                        \
+            service = k / CALLS; if (k % CALLS != START) EQUAL(makes((int)(k % CALLS), 1, 1, 1, "a", 1, ROOM), 201);            \
+        }                                                                                                                  \
+    } while (0)
+static void both_states_cases(void)
+{
+    ref_state good;
+    ref_service *one = &s.services[1], *zero = &s.services[0];
+    lend_sample(); EQUAL(IN(0, start(ALL_OPCODES)) || connects(0, 23) || IN(0, activate(1)) || IN(1, activate(3)), 0);
+    EQUAL(IN(1, subscribes(0, 17)) || subscribes(0, 18) || commands(0, PLAY, 0), 0); memcpy(&good, &s, sizeof s);
+    /* The first octet of the state is 0x80 and the layout's number, 2. */
+    EACH(0, 256) { s = good; s.layout = (uint8_t)k; EQUAL(disconnects(4), k == 0x82 ? 202 : 201); }
+    ALL_GIVE_201(s.layout = 0); ALL_GIVE_201(s.layout = 0x81); ALL_GIVE_201(s.layout = 0x83); ALL_GIVE_201(s.layout = 'D');
+    ALL_GIVE_201(s.turn = 4);
+    /* A mark of 19 stands and one of 20 does not; unconnected it is 19. */
+    EACH(0, 40) {
+        s = good; s.links[0].mark = k; EQUAL(disconnects(4), k < 20 ? 202 : 201);
+        s = good; s.links[2].mark = k; EQUAL(disconnects(4), k == 19 ? 202 : 201);
+    }
+    BROKEN(s.links[0].mark = 0xFFFFFFFFu); ALL_GIVE_201(s.links[0].mark = 20); ALL_GIVE_201(s.links[2].mark = 9);
+    /* A player of either that breaks a rule. In service 1 it is track 3 of group 3, of 900; the other is in group 1. */
+    ALL_GIVE_201(one->player.position = 901); STANDS(one->player.position = 900); ALL_GIVE_201(zero->player.position = 6001);
+    ALL_GIVE_201(one->player.group = 1); ALL_GIVE_201(one->player.track = 0); ALL_GIVE_201(one->player.name[5] = 0xC3);
+    ALL_GIVE_201(zero->player.name_len = 129); ALL_GIVE_201(one->player.name_len = 129); ALL_GIVE_201(one->player.order = 0);
+    ALL_GIVE_201(one->player.media = 0); ALL_GIVE_201(one->player.seeking = 4);
+    /* An unconnected client with a leftover in either service; the results that do not wait mean nothing. */
+    ALL_GIVE_201(one->accounts[2].subscribed = 1); ALL_GIVE_201(one->accounts[2].subscribed = one->accounts[2].owed = 1);
+    ALL_GIVE_201(one->accounts[2].owed = 1); ALL_GIVE_201(one->accounts[2].fresh = 2); ALL_GIVE_201(one->accounts[2].waiting = 1);
+    ALL_GIVE_201(one->accounts[3].fresh = 2); ALL_GIVE_201(zero->accounts[2].fresh = 2);
+    STANDS(one->accounts[2].results[0] = ((ref_result){1, 9})); STANDS(zero->accounts[2].results[7] = ((ref_result){1, 9}));
+    /* A connected client's account in either: client 0 has a result, and 17 and 18, in service 1 alone. */
+    ALL_GIVE_201(one->accounts[0].results[0].code = 5); ALL_GIVE_201(one->accounts[0].waiting = 9);
+    ALL_GIVE_201(one->accounts[0].waiting = 0);
+    ALL_GIVE_201(one->accounts[0].owed |= B7); ALL_GIVE_201(one->accounts[0].subscribed |= 1u << 10);
+    ALL_GIVE_201(one->accounts[0].fresh = 1u << 18); ALL_GIVE_201(s.links[0].encrypted = 0);
+    ALL_GIVE_201(s.links[0].connected = 0);
+    /* A slot that is subscribed to in one is not in the other, and a result that waits in one does not in the other. */
+    ALL_GIVE_201(zero->accounts[0].owed = B17); ALL_GIVE_201(zero->accounts[0].subscribed = zero->accounts[0].owed = B18);
+    STANDS(zero->accounts[0].subscribed = zero->accounts[0].owed = B17);
+    ALL_GIVE_201(one->accounts[0].waiting = 0; zero->accounts[0].waiting = 1);
+    /* Unencrypted, a client may have nothing subscribed in either. */
+    STANDS(s.links[0].encrypted = 0; memset(&one->accounts[0], 0, sizeof one->accounts[0]));
+    BROKEN(s.links[0].encrypted = 0; memset(&one->accounts[0], 0, sizeof one->accounts[0]); one->accounts[0].subscribed = 1);
+    BROKEN(s.links[0].encrypted = 0; memset(&one->accounts[0], 0, sizeof one->accounts[0]); zero->accounts[0].subscribed = 1);
+    /* Every call leaves the layout's octet, and disconnecting the other client's records. */
+    s = good; EQUAL(IN(0, disconnects(0)), 0); EQUAL(s.layout, 0x82); CHECK(starts_record(0));
 }
 
 /* ---- Cards */
@@ -1164,14 +1577,63 @@ static void random_text(uint8_t *to, size_t len, uint32_t damage)
     if (len > 0 && one_in(damage)) to[below((uint32_t)len)] = (uint8_t)any();
 }
 
+/* W-208: "a client's slots running through the generic service and then the other, twenty in all": of all that is owed, the least
+ * by the clients behind the one served last, and then by the places behind the client's mark. */
+static void take_is_next(const ref_state *was)
+{
+    uint32_t least = UNTOUCHED, next[3] = {0, 0, 0};
+    for (uint32_t client = 0; client < 4; client++) {
+        EACH(0, 20) {
+            uint32_t key = (client + 3 - was->turn) % 4 * 20 + (k + 19 - was->links[client].mark) % 20;
+            if ((was->services[k / 10].accounts[client].owed >> k % 10 & 1) == 0 || key >= least) continue;
+            least = key; next[0] = client; next[1] = k / 10; next[2] = SLOT[k % 10];
+        }
+    }
+    CHECK(memcmp(next, said.served, sizeof next) == 0);
+    EQUAL(s.turn, least == UNTOUCHED ? was->turn : next[0]);
+}
+
+static void exchange_services(void)
+{
+    ref_service kept;
+    memcpy(&kept, &s.services[0], sizeof kept); memcpy(&s.services[0], &s.services[1], sizeof kept);
+    memcpy(&s.services[1], &kept, sizeof kept);
+}
+
+/* W-208: "Calls to one never alter replies, state or owed values of the other": the call that led from `was` to the present state
+ * gives and does the same where the two services have changed places, and where the other one is as start leaves it. */
+static void is_the_called_ones(const ref_state *was, uint32_t gave, int call, uint32_t client, uint32_t what, uint32_t number,
+                               const void *octets, size_t len, size_t room)
+{
+    ref_state now;
+    uint32_t kept = service;
+    uint8_t answer[sizeof said], where[sizeof place];
+#define THE_SAME()                                                                                                         \
+    (makes(call, client, what, number, octets, len, room) == gave && memcmp(answer, &said, sizeof said) == 0 &&            \
+     memcmp(where, &place, sizeof place) == 0)
+    memcpy(&now, &s, sizeof s); memcpy(answer, &said, sizeof said); memcpy(where, &place, sizeof place);
+    memcpy(&s, was, sizeof s); exchange_services(); if (kept < 2) service = 1 - kept; CHECK(THE_SAME());
+    exchange_services(); CHECK(memcmp(&s, &now, sizeof s) == 0);
+    service = kept;
+    if (gave != 201 && service < 2) {
+        memcpy(&s, was, sizeof s); memset(&s.services[1 - service], 0, sizeof s.services[0]);
+        s.services[1 - service].player.order = 3;
+        CHECK(THE_SAME() && memcmp(&s.services[service], &now.services[service], sizeof s.services[0]) == 0);
+        CHECK(memcmp(s.links, now.links, sizeof s.links) == 0 && s.turn == now.turn);
+    }
+    memcpy(&s, &now, sizeof s); memcpy(&said, answer, sizeof said); memcpy(&place, where, sizeof place);
+}
+
 static unsigned long accepted[CALLS], refused[CALLS];
 static uint32_t random_call(void)
 {
     static const uint32_t WRITABLE[6] = {7, 8, 15, 18, 18, 18}, RANGE[CALLS] = {1, 1, 65, 1, 300, 600, 1, 1, 1, 140, 1, 1};
     uint32_t call = below(CALLS + 6), client = one_in(24) ? 4 : below(4), what = one_in(12) ? below(30) : SLOT[below(10)], number;
-    uint8_t octets[140];
+    uint8_t octets[140], beside[140];
     uint32_t refusal;
     size_t len = below(131), room = one_in(16) ? below(128) : 128 + below(20);
+    ref_state was;
+    service = one_in(24) ? OVER[below(6)] : below(2);
     call = call >= CALLS ? WRITE : call == START && !one_in(20) ? TAKE : call == DISCONNECT && !one_in(4) ? SUBSCRIBE : call;
     number = one_in(3) ? 0 : one_in(8) ? any() : below(RANGE[call]);
     memset(octets, 'n', sizeof octets);
@@ -1182,13 +1644,21 @@ static uint32_t random_call(void)
         put_number(octets + 1, one_in(4) ? (long)any() : (long)below(20) - 10);
         len = one_in(16) ? below(8) : what == 7 ? 4 : what == 18 && CARRIES_NUMBER(octets[0]) ? 5 : 1;
     }
+    if (call == START) {
+        other.len = below(131); memset(beside, 'o', sizeof beside); random_text(beside, other.len, 4); other.name = beside;
+    }
+    memcpy(&was, &s, sizeof s);
     refusal = makes((int)call, client, what, number, octets, len, room);
     (refusal == 0 ? accepted : refused)[call]++;
-    /* W-207: 207 and its offset, where nothing comes before. */
-    if ((call == START || call == SET_NAME) && refusal != 200 && refusal != 201) {
-        uint32_t far = len > 128 ? 128 : farthest(octets, (uint32_t)len);
-        EQUAL(refusal, far < len ? 207 : 0); EQUAL(place.offset, far < len ? far : UNTOUCHED);
+    /* W-207: 207 and its offset, where nothing comes before; W-208: "generic (0) checked first" */
+    if ((call == START || call == SET_NAME) && refusal != 200 && refusal != 201 && refusal != 219) {
+        uint32_t bad = call == START && service > 0 ? bad_at(beside, other.len) : bad_at(octets, len);
+        if (bad == UNTOUCHED && call == START) bad = service > 0 ? bad_at(octets, len) : bad_at(beside, other.len);
+        EQUAL(refusal, bad == UNTOUCHED ? 0 : 207); EQUAL(place.offset, bad);
     }
+    if (call == TAKE && refusal == 0) take_is_next(&was);
+    if (call != START && call != TAKE) is_the_called_ones(&was, refusal, (int)call, client, what, number, octets, len, room);
+    other = OTHER;
     return refusal;
 }
 
@@ -1266,8 +1736,12 @@ static void history(void)
 {
     one_in(4) ? lend_full(one_in(2) ? 193 : 256) : lend_sample();
     lent.words[TRACKS][6 * below(4)] = one_in(3) ? UNKNOWN : END;
-    EQUAL(start(one_in(3) ? any() : ALL_OPCODES), 0); (void)activate(below(2));
-    EACH(0, 30) EQUAL((k % 10 == 0 ? connects(k / 10, 23 + below(200)) : 0) + subscribes(k / 10, SLOT[k % 10]), 0);
+    service = below(2); EQUAL(start(one_in(3) ? any() : ALL_OPCODES), 0);
+    EACH(0, 60) {
+        service = k / 10 % 2;
+        if (k < 20 && k % 10 == 0) (void)activate(below(2));
+        EQUAL((k % 20 == 0 ? connects(k / 20, 23 + below(200)) : 0) + subscribes(k / 20, SLOT[k % 10]), 0);
+    }
     EACH(0, 150) { if (one_in(6)) damaged_call(); else (void)random_call(); }
     EACH(0, 30) damaged_octets();
     (void)writes_card(below(50000));
@@ -1278,8 +1752,14 @@ int main(int argc, char **argv)
 {
     unsigned long histories = argc > 1 ? strtoul(argv[1], NULL, 10) : 300, made = 0;
     seed += (argc > 2 ? strtoul(argv[2], NULL, 10) : 0) * 0x9E3779B97F4A7C15u;
-    move_cases(); previous_segment_cases(); running_cases(); media_cases(); owed_cases(); take_cases();
-    catalogue_cases(); title_cases(); name_cases(); order_cases(); state_cases();
+    other = OTHER;
+    for (service = 0; service < REF_SERVICES; service++) {
+        move_cases(); previous_segment_cases(); running_cases(); media_cases(); owed_cases(); take_cases();
+        name_cases(); order_cases(); state_cases();
+    }
+    service = 0;
+    catalogue_cases(); title_cases();
+    start_cases(); number_cases(); apart_cases(); both_owed_cases(); mark_cases(); round_cases(); both_states_cases();
     card_cases(); reason_cases(); short_cases(); writer_cases(); sheet_cases();
     for (unsigned long k = 0; k < histories; k++) history();
     EACH(0, CALLS) { CHECK(histories < 40 || (accepted[k] > 0 && refused[k] > 0)); made += accepted[k] + refused[k]; }

@@ -1,20 +1,24 @@
 """The calls of a script on the whole: each adds its frame and, beside it, the line that it must give.
 
-A frame is an octet for the catalogue, one for the call, one for the client, one for the characteristic, a little endian word that the call takes, an
-octet for the room of the lent output, one for the length of the text, and the text. The octet of the characteristic is the Content Control ID of a
-start, whether it is encrypted of a connect, and the part of the state of damage.
+A frame is an octet for the catalogue, one for the call, one for the client, one for the service, one for the characteristic, a little endian word that
+the call takes, an octet for the room of the lent output, two, little endian, for the length of the text, and the text. The octet of the characteristic
+is whether it is encrypted of a connect, and the part of the state of damage. A start has service 0's mask in the word and its Content Control ID in the
+octet of the characteristic; its text is an octet with the length of service 0's name, that name, four octets, little endian, with service 1's mask, one
+with its Content Control ID, and service 1's name.
 
-A line is the answer, the state of the player that the call leaves, and what is seen of each of the four clients. The state of the player is written
+A line is the answer and, for each of the two services (document 02, W-208), the state of its player that the call leaves and what is seen of each of the
+four clients in it. The state of a player is written
 
     media state, playing order, playback speed, seeking speed | group, track, position
 
-and stays as it is where a call is refused or is one that does not touch the player. The answer of a refused call is 'refused', the number and, behind
-it, what 200 and 207 carry (W-207): 'refused 200 1 5' has the track and the offset of a bad title, 'refused 207 0' the offset within the name. A plain
-200 and every other refusal carry nothing.
+and stays as it is where a call is refused, is one that does not touch the player, or is to the other service. The answer of a refused call is 'refused',
+the number and, behind it, what 200 and 207 carry (W-207): 'refused 200 1 5' has the track and the offset of a bad title, 'refused 207 0' the offset
+within the name. A plain 200 and every other refusal carry nothing.
 
-What falls due is given as characteristics behind the client: 'left 17 18; screen 17'. A line ends with each client, as 'ATT_MTU: subscribed; owed;
-waiting results', or '-' while it is unconnected. Of these only the sums are kept here: what fell due is added to what is owed, what a take hands out (or
-an unsubscribe drops) leaves it, and `seen` holds them to what was worked out by hand.
+A call is to the service that it names or, where it names none, to the one that `on` named last. What falls due by it is given as characteristics of that
+service behind the client: 'left 17 18; screen 17'. Each client is seen in each service, as 'ATT_MTU: subscribed; owed; waiting results', or '-' while it
+is unconnected. Of these only the sums are kept here: what fell due is added to what is owed, what a take hands out (or an unsubscribe drops) leaves it,
+and `seen` holds them to what was worked out by hand.
 """
 import struct
 
@@ -26,6 +30,10 @@ import struct
 SAMPLE, LONG, OWN_PARENT, CUT, CLOSE, RUNNING, BAD_TITLES, BAD_AND_WRONG = range(8)
 
 (NOTE, START, SET_NAME, ACTIVATE, DEACTIVATE, ADVANCE, CONNECT, DISCONNECT, SUBSCRIBE, UNSUBSCRIBE, READ, WRITE, TAKE, DAMAGE) = range(14)
+
+# The two services: "generic (0)" and the named player.
+GENERIC, NAMED = range(2)
+SERVICES = (GENERIC, NAMED)
 
 # The four clients.
 LEFT, RIGHT, HEADSET, SCREEN = range(4)
@@ -39,17 +47,21 @@ PREVIOUS_GROUP, NEXT_GROUP, FIRST_GROUP, LAST_GROUP, GOTO_GROUP = 0x40, 0x41, 0x
 ALL = 0x1FFFFF
 LONGEST = 4294967295
 
-# Parts of the state: of the player, the client served last, of a client's record.
+# Parts of the state: of a service's player, the client served last, of a client's record. Of these CONNECTED, ENCRYPTION, MTU and MARK are the client's
+# in both services.
 MEDIA, PLAYING_ORDER, SEEKING_SPEED, GROUP, TRACK, PLACE, NAME_LENGTH, NAME_FIRST, TURN = range(1, 10)
 CONNECTED, ENCRYPTION, MTU, SUBSCRIBED, OWED, FRESH, MARK, WAITING, CODE = range(10, 19)
 
 FRAMES, LINES = [], []
 CASES = [0]
-PLAYER = ['']
+# The service that a call is to where it names none.
+ON = [GENERIC]
+# The state of each service's player.
+PLAYERS = ['' for _ in SERVICES]
 
 
 class Record:
-    """What is seen of a connected client."""
+    """What is seen of a connected client in a service."""
 
     def __init__(self, mtu):
         self.mtu, self.subscribed, self.owed, self.waiting = mtu, set(), set(), 0
@@ -60,44 +72,57 @@ class Record:
         return '%d:%s;%s; %d' % (self.mtu, listed(self.subscribed), listed(self.owed), self.waiting)
 
 
-RECORDS = [None] * 4
+RECORDS = [[None] * 4 for _ in SERVICES]
 # What a damaged record shows.
-DAMAGED = [None] * 4
+DAMAGED = [[None] * 4 for _ in SERVICES]
 
 
-def field(who):
-    return DAMAGED[who] or (str(RECORDS[who]) if RECORDS[who] else '-')
+def on(service):
+    """The calls from here on are to this service, where they do not name one."""
+    ON[0] = service
 
 
-def frame(catalogue, call, who, octet, number, room, text, line):
-    FRAMES.append(struct.pack('<BBBBIBB', catalogue, call, who, octet & 0xFF, number & 0xFFFFFFFF, room, len(text)) + text)
+def to(service):
+    return ON[0] if service is None else service
+
+
+def fields(service):
+    """What is seen of the four clients in a service."""
+    return [damaged or str(record or '-') for damaged, record in zip(DAMAGED[service], RECORDS[service])]
+
+
+def frame(catalogue, call, who, service, octet, number, room, text, line):
+    FRAMES.append(struct.pack('<BBBBBIBH', catalogue, call, who, service, octet & 0xFF, number & 0xFFFFFFFF, room, len(text)) + text)
     LINES.append(line)
 
 
-def made(call, who, octet, number, text, answer, catalogue, room=128):
-    frame(catalogue, call, who, octet, number, room, text, ' | '.join([answer, PLAYER[0]] + [field(each) for each in range(4)]))
+def made(call, who, service, octet, number, text, answer, catalogue, room=128):
+    shown = [answer]
+    for each in SERVICES:
+        shown += [PLAYERS[each]] + fields(each)
+    frame(catalogue, call, who, service, octet, number, room, text, ' | '.join(shown))
 
 
 def case(name):
     CASES[0] += 1
     words = '%d %s' % (CASES[0], name)
-    frame(SAMPLE, NOTE, 0, 0, 0, 0, words.encode('ascii'), '# ' + words)
+    frame(SAMPLE, NOTE, 0, 0, 0, 0, 0, words.encode('ascii'), '# ' + words)
 
 
-def seen(*fields):
-    """What is seen of the four clients by now, worked out by hand."""
-    assert [field(who) for who in range(4)] == list(fields), (CASES[0], [field(who) for who in range(4)])
+def seen(*clients, service=None):
+    """What is seen of the four clients in a service by now, worked out by hand."""
+    assert fields(to(service)) == list(clients), (CASES[0], fields(to(service)))
 
 
-def becomes(answer, state, owed):
+def becomes(service, answer, state, owed):
     """An accepted call leaves a state and makes slots due; a refused one alters nothing, and a state beside it is the one that there was."""
     if answer != 'done':
-        assert state in (None, PLAYER[0]) and not owed, (CASES[0], state)
+        assert (state is None or state == PLAYERS[service]) and not owed, (CASES[0], state)
         return
-    PLAYER[0] = state
+    PLAYERS[service] = state
     for each in filter(None, owed.split('; ')):
         words = each.split()
-        record = RECORDS[CLIENTS.index(words[0])]
+        record = RECORDS[service][CLIENTS.index(words[0])]
         numbers = set(map(int, words[1:]))
         assert numbers <= record.subscribed, (CASES[0], each)
         record.owed |= numbers
@@ -114,90 +139,107 @@ def word(number):
 
 # ---- The calls
 
-def start(name, mask, ccid, answer, state=None, catalogue=SAMPLE):
+# What a start gives the service that the script says nothing of: another name, no opcode, another Content Control ID.
+BESIDE = (b'Beside', 0, 42)
+
+
+def start(name, mask, ccid, answer, state=None, catalogue=SAMPLE, beside=BESIDE):
+    """"Start names both players at once" (W-208): the one that the calls are to, and the one beside it."""
+    becomes(ON[0], answer, state, '')
     if answer == 'done':
-        RECORDS[:] = [None] * 4
-    becomes(answer, state, '')
-    made(START, 0, ccid, mask, name, answer, catalogue)
+        PLAYERS[:] = [state for _ in SERVICES]
+        for records in RECORDS:
+            records[:] = [None] * 4
+    generic, named = ((name, mask, ccid), beside) if ON[0] == GENERIC else (beside, (name, mask, ccid))
+    text = bytes([len(generic[0])]) + generic[0] + word(named[1]) + bytes([named[2]]) + named[0]
+    made(START, 0, 0, generic[2], generic[1], text, answer, catalogue)
 
 
-def set_name(name, answer, owed='', catalogue=SAMPLE):
-    becomes(answer, PLAYER[0] if answer == 'done' else None, owed)
-    made(SET_NAME, 0, 0, 0, name, answer, catalogue)
+def set_name(name, answer, owed='', catalogue=SAMPLE, service=None):
+    service = to(service)
+    becomes(service, answer, PLAYERS[service] if answer == 'done' else None, owed)
+    made(SET_NAME, 0, service, 0, 0, name, answer, catalogue)
 
 
-def activate(group, answer, state=None, owed='', catalogue=SAMPLE):
-    becomes(answer, state, owed)
-    made(ACTIVATE, 0, 0, group, b'', answer, catalogue)
+def activate(group, answer, state=None, owed='', catalogue=SAMPLE, service=None):
+    becomes(to(service), answer, state, owed)
+    made(ACTIVATE, 0, to(service), 0, group, b'', answer, catalogue)
 
 
-def deactivate(answer, state=None, owed='', catalogue=SAMPLE):
-    becomes(answer, state, owed)
-    made(DEACTIVATE, 0, 0, 0, b'', answer, catalogue)
+def deactivate(answer, state=None, owed='', catalogue=SAMPLE, service=None):
+    becomes(to(service), answer, state, owed)
+    made(DEACTIVATE, 0, to(service), 0, 0, b'', answer, catalogue)
 
 
-def advance(d, answer, state=None, owed='', catalogue=SAMPLE):
-    becomes(answer, state, owed)
-    made(ADVANCE, 0, 0, d, b'', answer, catalogue)
+def advance(d, answer, state=None, owed='', catalogue=SAMPLE, service=None):
+    becomes(to(service), answer, state, owed)
+    made(ADVANCE, 0, to(service), 0, d, b'', answer, catalogue)
 
 
 def connect(who, mtu, encrypted, answer, catalogue=SAMPLE):
+    """"Connect and disconnect act on both." (W-208)"""
     if answer == 'done':
-        RECORDS[who] = Record(mtu)
-    made(CONNECT, who, encrypted, mtu, b'', answer, catalogue)
+        for records in RECORDS:
+            records[who] = Record(mtu)
+    made(CONNECT, who, 0, encrypted, mtu, b'', answer, catalogue)
 
 
 def disconnect(who, answer, catalogue=SAMPLE):
     if answer == 'done':
-        RECORDS[who] = None
-    made(DISCONNECT, who, 0, 0, b'', answer, catalogue)
+        for records in RECORDS:
+            records[who] = None
+    made(DISCONNECT, who, 0, 0, 0, b'', answer, catalogue)
 
 
-def subscribe(who, characteristic, answer, catalogue=SAMPLE):
+def subscribe(who, characteristic, answer, catalogue=SAMPLE, service=None):
     if answer == 'done':
-        RECORDS[who].subscribed.add(characteristic)
-    made(SUBSCRIBE, who, characteristic, 0, b'', answer, catalogue)
+        RECORDS[to(service)][who].subscribed.add(characteristic)
+    made(SUBSCRIBE, who, to(service), characteristic, 0, b'', answer, catalogue)
 
 
-def unsubscribe(who, characteristic, answer, catalogue=SAMPLE):
+def unsubscribe(who, characteristic, answer, catalogue=SAMPLE, service=None):
     if answer == 'done':
-        RECORDS[who].subscribed.discard(characteristic)
-        RECORDS[who].owed.discard(characteristic)
+        record = RECORDS[to(service)][who]
+        record.subscribed.discard(characteristic)
+        record.owed.discard(characteristic)
         if characteristic == 18:
-            RECORDS[who].waiting = 0
-    made(UNSUBSCRIBE, who, characteristic, 0, b'', answer, catalogue)
+            record.waiting = 0
+    made(UNSUBSCRIBE, who, to(service), characteristic, 0, b'', answer, catalogue)
 
 
-def read(who, characteristic, offset, answer, room=128, catalogue=SAMPLE):
-    made(READ, who, characteristic, offset, b'', answer, catalogue, room)
+def read(who, characteristic, offset, answer, room=128, catalogue=SAMPLE, service=None):
+    made(READ, who, to(service), characteristic, offset, b'', answer, catalogue, room)
 
 
-def write(who, characteristic, value, answer, state=None, owed='', catalogue=SAMPLE):
-    becomes(answer, state, owed)
-    made(WRITE, who, characteristic, 0, bytes(value), answer, catalogue)
+def write(who, characteristic, value, answer, state=None, owed='', catalogue=SAMPLE, service=None):
+    becomes(to(service), answer, state, owed)
+    made(WRITE, who, to(service), characteristic, 0, bytes(value), answer, catalogue)
 
 
-def control(who, opcode, state, owed, number=None, catalogue=SAMPLE):
+def control(who, opcode, state, owed, number=None, catalogue=SAMPLE, service=None):
     """An accepted control write; its result is seen when it is taken."""
-    write(who, 18, bytes([opcode]) + (b'' if number is None else word(number)), 'done', state, owed, catalogue)
+    write(who, 18, bytes([opcode]) + (b'' if number is None else word(number)), 'done', state, owed, catalogue, service)
 
 
-def take(answer, room=128, catalogue=SAMPLE):
-    """'left 17 02': the client, the characteristic and its octets; or 'nothing'; or a refusal."""
+def take(answer, room=128, catalogue=SAMPLE, service=None):
+    """'left 17 02': the client, the characteristic of the service and its octets; or 'nothing'; or a refusal. "a take is a call to neither" (W-208)"""
     words = answer.split()
     if words[0] in CLIENTS:
         who = CLIENTS.index(words[0])
-        record, characteristic = RECORDS[who], int(words[1])
+        record, characteristic = RECORDS[to(service)][who], int(words[1])
         if characteristic == 18:
             record.waiting -= 1
         if characteristic != 18 or record.waiting == 0:
             record.owed.remove(characteristic)
-        answer = ' '.join(['take', str(who)] + words[1:])
-    made(TAKE, 0, 0, 0, b'', answer, catalogue, room)
+        answer = ' '.join(['take', str(who), str(to(service))] + words[1:])
+    made(TAKE, 0, 0, 0, 0, b'', answer, catalogue, room)
 
 
-def damage(part, number, who=0, shows=None, state=None):
-    """A part of the state becomes anything; `shows` is what is then seen of the client, `state` of the player."""
-    PLAYER[0] = state or PLAYER[0]
-    DAMAGED[who] = shows
-    made(DAMAGE, who, part, number, b'', 'damaged', SAMPLE)
+def damage(part, number, who=0, shows=None, beside=None, state=None, service=None):
+    """A part of the state becomes anything; `shows` is what is then seen of the client in the service and `beside` in the other one, `state` of the
+    service's player."""
+    service = to(service)
+    PLAYERS[service] = state or PLAYERS[service]
+    for each in SERVICES:
+        DAMAGED[each][who] = shows if each == service else beside
+    made(DAMAGE, who, service, part, number, b'', 'damaged', SAMPLE)

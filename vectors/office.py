@@ -1,7 +1,8 @@
 """The office's day: the calls of four clients over the sample catalogue of document 01, which vectors/script.py puts first.
 
 Each call has its answer, the state of the player that it leaves and what falls due by it to whom beside it, worked out by hand from documents 01 and
-02. vectors/calls.py says how they are written.
+02. vectors/calls.py says how they are written. All calls are to the generic service, and every line shows that nothing of the named player moves by
+them.
 
 A comment in quotation marks is a sentence of document 01, or of the request of document 02 that it names.
 """
@@ -9,7 +10,7 @@ from calls import (
     ALL, BAD_AND_WRONG, BAD_TITLES, CODE, CONNECTED, CUT, ENCRYPTED, ENCRYPTION, FIRST_GROUP, FIRST_SEGMENT, FIRST_TRACK, FORWARD, FRESH, GOTO_GROUP,
     GOTO_SEGMENT, GOTO_TRACK, GROUP, HEADSET, LAST_GROUP, LAST_SEGMENT, LAST_TRACK, LEFT, LONG, LONGEST, MARK, MEDIA, MTU, NAME_FIRST, NAME_LENGTH,
     NEXT_GROUP, NEXT_SEGMENT, NEXT_TRACK, OPEN, OWED, OWN_PARENT, PAUSE, PLACE, PLAY, PLAYING_ORDER, PREVIOUS_GROUP, PREVIOUS_SEGMENT, PREVIOUS_TRACK,
-    RELATIVE, REWIND, RIGHT, RUNNING, SAMPLE, SCREEN, SEEKING_SPEED, STOP, SUBSCRIBED, TRACK, TURN, WAITING,
+    RELATIVE, REWIND, RIGHT, RUNNING, SAMPLE, SCREEN, SEEKING_SPEED, SERVICES, STOP, SUBSCRIBED, TRACK, TURN, WAITING,
     activate, advance, case, connect, control, damage, deactivate, disconnect, octets, read, seen, set_name, start, subscribe, take, unsubscribe, word,
     write,
 )
@@ -28,15 +29,21 @@ GESPRAECH = 'Gespräch über die Überfahrt, aufgenommen im Hafen, erste Spur'.e
 LONG_NAME = 'Schreibtisch 4, am Fünffenster, Kanzlei Aydin und Weber, Diktate vom Vormittag, bitte bis zum Abend abschreiben und gut ablegen'.encode()
 
 
-def office(left=None, right=None, headset=None, screen=None, catalogue=SAMPLE):
-    """A fresh desk, Paused at the start of track 0; clients that are connected and subscribe, after that, to what is named."""
-    start(b'Desk', ALL, 7, 'done', 'Inactive 3 0 0 | 0 0 0')
-    activate(1, 'done', 'Paused 3 0 0 | 1 0 0', catalogue=catalogue)
+def come(left=None, right=None, headset=None, screen=None):
+    """Clients that are connected and subscribe, after that, to what is named: of the generic service and, behind a slash, of the named player."""
     for who, mtu, wanted in ((LEFT, 23, left), (RIGHT, 24, right), (HEADSET, 64, headset), (SCREEN, 517, screen)):
         if wanted is not None:
             connect(who, mtu, ENCRYPTED, 'done')
-            for characteristic in map(int, wanted.split()):
-                subscribe(who, characteristic, 'done')
+            for service, characteristics in zip(SERVICES, wanted.split('/')):
+                for characteristic in map(int, characteristics.split()):
+                    subscribe(who, characteristic, 'done', service=service)
+
+
+def office(left=None, right=None, headset=None, screen=None, catalogue=SAMPLE):
+    """A fresh desk, Paused at the start of track 0, and the clients that come."""
+    start(b'Desk', ALL, 7, 'done', 'Inactive 3 0 0 | 0 0 0')
+    activate(1, 'done', 'Paused 3 0 0 | 1 0 0', catalogue=catalogue)
+    come(left, right, headset, screen)
 
 
 EVERY = '1 4 5 6 7 8 9 15 17 18'
@@ -1501,19 +1508,23 @@ damage(TURN, 4)
 start(b'Desk', ALL, 7, 'done', 'Inactive 3 0 0 | 0 0 0')
 take('nothing')
 
-# "the state breaks a player rule above for this catalogue (group, track in it, position, state, seeking speed, order), its name breaks 207"
+# "the state breaks a player rule above for this catalogue (group, track in it, position, state, seeking speed, order), its name breaks 207". Each is
+# a part of a player that is Paused at the start of track 0 and has a name of four octets, what it becomes, what is then seen, and what it was.
+WRONG_PLAYERS = (
+    (GROUP, 3, 'Paused 3 0 0 | 3 0 0', 1),
+    (TRACK, 3, 'Paused 3 0 0 | 1 3 0', 0),
+    (PLACE, 6001, 'Paused 3 0 0 | 1 0 6001', 0),
+    (MEDIA, 0, 'Inactive 3 0 0 | 1 0 0', 2),
+    (MEDIA, 4, '4 3 0 0 | 1 0 0', 2),
+    (SEEKING_SPEED, 4, 'Paused 3 0 4 | 1 0 0', 0),
+    (PLAYING_ORDER, 0, 'Paused 0 0 0 | 1 0 0', 3),
+    (PLAYING_ORDER, 9, 'Paused 9 0 0 | 1 0 0', 3),
+    (NAME_LENGTH, 129, 'Paused 3 0 0 | 1 0 0', 4),
+)
+
 case('a player that does not stand')
 office('17')
-for part, number, state, right in (
-        (GROUP, 3, 'Paused 3 0 0 | 3 0 0', 1),
-        (TRACK, 3, 'Paused 3 0 0 | 1 3 0', 0),
-        (PLACE, 6001, 'Paused 3 0 0 | 1 0 6001', 0),
-        (MEDIA, 0, 'Inactive 3 0 0 | 1 0 0', 2),
-        (MEDIA, 4, '4 3 0 0 | 1 0 0', 2),
-        (SEEKING_SPEED, 4, 'Paused 3 0 4 | 1 0 0', 0),
-        (PLAYING_ORDER, 0, 'Paused 0 0 0 | 1 0 0', 3),
-        (PLAYING_ORDER, 9, 'Paused 9 0 0 | 1 0 0', 3),
-        (NAME_LENGTH, 129, 'Paused 3 0 0 | 1 0 0', 4)):
+for part, number, state, right in WRONG_PLAYERS:
     damage(part, number, state=state)
     take('refused 201')
     connect(RIGHT, 23, ENCRYPTED, 'refused 201')
@@ -1623,11 +1634,11 @@ take('screen 1 41')
 case('a wrong ATT_MTU in a record')
 two_results()
 for mtu in (0, 2, 22, 518, LONGEST):
-    damage(MTU, mtu, LEFT, '%d: 17 18; 17 18; 2' % mtu)
+    damage(MTU, mtu, LEFT, '%d: 17 18; 17 18; 2' % mtu, '%d:;; 0' % mtu)
     take('refused 201')
     read(LEFT, 1, 0, 'refused 201')
 damage(MTU, 23, LEFT)
-damage(MTU, 22, HEADSET, '22:;; 0')
+damage(MTU, 22, HEADSET, '22:;; 0', '22:;; 0')
 take('refused 201')
 damage(MTU, 64, HEADSET)
 take('left 17 02')
@@ -1635,7 +1646,7 @@ take('left 17 02')
 # "a round mark out of range"
 case('a wrong mark of a round')
 two_results()
-for mark in (10, 31, 32, LONGEST):
+for mark in (20, 31, 32, LONGEST):
     damage(MARK, mark, LEFT)
     take('refused 201')
 # 17 was served last, says the mark now: 18 comes next.
@@ -1691,7 +1702,10 @@ for part, wrong, right in (
         (SUBSCRIBED, slots(1), slots()),
         (OWED, slots(1), slots()),
         (FRESH, 2, 0),
-        (MARK, 0, 9),
+        (MARK, 0, 19),
+        (MARK, 9, 19),
+        (MARK, 18, 19),
+        (MARK, 20, 19),
         (WAITING, 1, 0)):
     damage(part, wrong, RIGHT)
     take('refused 201')
@@ -1707,7 +1721,7 @@ control(RIGHT, STOP, 'Paused 3 0 0 | 1 0 0', 'right 18')
 take('left 17 02')
 take('right 18 05 01')
 # What a connected one holds is not start's.
-damage(CONNECTED, 0, LEFT, '-')
+damage(CONNECTED, 0, LEFT, '-', '-')
 take('refused 201')
 damage(CONNECTED, 1, LEFT)
 take('screen 1 41')
@@ -1716,8 +1730,30 @@ take('left 18 02 01')
 take('nothing')
 
 
-# "a value owed to it is handed out by the 40th answered take from when it fell due": here the left pedal's result comes with the 40th, and no sooner
-case('the fortieth take')
+# ---- All that a service can owe
+
+def all_ten_fall_due(name):
+    """From Inactive: the ten slots of a service fall due to each of the four clients, all of which subscribed to them, and one result to each."""
+    set_name(name, 'done', 'left 1; right 1; headset 1; screen 1')
+    activate(1, 'done', 'Paused 3 0 0 | 1 0 0', 'left 4 5 6 7 17; right 4 5 6 7 17; headset 4 5 6 7 17; screen 4 5 6 7 17')
+    write(RIGHT, 8, [1], 'done', 'Paused 3 1 0 | 1 0 0', 'left 8; headset 8; screen 8')
+    write(HEADSET, 8, [2], 'done', 'Paused 3 2 0 | 1 0 0', 'left 8; right 8; screen 8')
+    write(RIGHT, 15, [4], 'done', 'Paused 4 2 0 | 1 0 0', 'left 15; headset 15; screen 15')
+    write(HEADSET, 15, [5], 'done', 'Paused 5 2 0 | 1 0 0', 'left 15; right 15; screen 15')
+    control(LEFT, FORWARD, 'Seeking 5 2 4 | 1 0 0', 'left 9 17 18; right 9 17; headset 9 17; screen 9 17')
+    control(RIGHT, FORWARD, 'Seeking 5 2 8 | 1 0 0', 'left 9; right 9 18; headset 9; screen 9')
+    control(HEADSET, FORWARD, 'Seeking 5 2 16 | 1 0 0', 'left 9; right 9; headset 9 18; screen 9')
+    control(SCREEN, FORWARD, 'Seeking 5 2 32 | 1 0 0', 'left 9; right 9; headset 9; screen 9 18')
+    seen(*['23: %s; %s; 1' % (EVERY, EVERY)] * 4)
+
+
+def all_ten(name):
+    """The characteristics and octets that are then handed out, in the order of the slots."""
+    return ('1' + octets(name), '4', '5 c3 9c 62 65 72 66 61 68 72 74', '6 70 17 00 00', '7 00 00 00 00', '8 02', '9 20', '15 05', '17 03', '18 04 01')
+
+
+# Both rounds go round once: the four clients, and the slots of each.
+case('forty takes')
 start(b'A', ALL, 7, 'done', 'Inactive 3 0 0 | 0 0 0')
 for who in range(4):
     connect(who, 23, ENCRYPTED, 'done')
@@ -1726,22 +1762,8 @@ for who in range(4):
 # The left pedal is served 18, so that both rounds go on behind it.
 control(LEFT, PLAY, 'Inactive 3 0 0 | 0 0 0', 'left 18')
 take('left 18 01 03')
-# Now all ten slots fall due to all four.
-set_name(b'B', 'done', 'left 1; right 1; headset 1; screen 1')
-activate(1, 'done', 'Paused 3 0 0 | 1 0 0', 'left 4 5 6 7 17; right 4 5 6 7 17; headset 4 5 6 7 17; screen 4 5 6 7 17')
-write(RIGHT, 8, [1], 'done', 'Paused 3 1 0 | 1 0 0', 'left 8; headset 8; screen 8')
-write(HEADSET, 8, [2], 'done', 'Paused 3 2 0 | 1 0 0', 'left 8; right 8; screen 8')
-write(RIGHT, 15, [4], 'done', 'Paused 4 2 0 | 1 0 0', 'left 15; headset 15; screen 15')
-write(HEADSET, 15, [5], 'done', 'Paused 5 2 0 | 1 0 0', 'left 15; right 15; screen 15')
-control(LEFT, FORWARD, 'Seeking 5 2 4 | 1 0 0', 'left 9 17 18; right 9 17; headset 9 17; screen 9 17')
-control(RIGHT, FORWARD, 'Seeking 5 2 8 | 1 0 0', 'left 9; right 9 18; headset 9; screen 9')
-control(HEADSET, FORWARD, 'Seeking 5 2 16 | 1 0 0', 'left 9; right 9; headset 9 18; screen 9')
-control(SCREEN, FORWARD, 'Seeking 5 2 32 | 1 0 0', 'left 9; right 9; headset 9; screen 9 18')
-seen(*['23: %s; %s; 1' % (EVERY, EVERY)] * 4)
-fortieth = []
-for served in ('1 42', '4', '5 c3 9c 62 65 72 66 61 68 72 74', '6 70 17 00 00', '7 00 00 00 00', '8 02', '9 20', '15 05', '17 03', '18 04 01'):
+all_ten_fall_due(b'B')
+for served in all_ten(b'B'):
     for who in ('right', 'headset', 'screen', 'left'):
         take('%s %s' % (who, served))
-        fortieth.append((who, served.split()[0]))
-assert fortieth.index(('left', '18')) == 39
 take('nothing')

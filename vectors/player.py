@@ -1,8 +1,9 @@
-"""The player's cases: calls of one client over the sample catalogue of document 01, which vectors/script.py puts behind the office's day.
+"""The player's cases: calls of one client over the sample catalogue of document 01, which vectors/script.py puts last.
 
 Each call has its answer and the state of the player that it leaves beside it, worked out by hand from documents 01 and 02. vectors/calls.py says how
-they are written. The client is the left pedal; its ATT_MTU leaves room for every value, and it subscribes to 18 alone, so that nothing falls due but the
-results of its control writes. A position, a speed, an order and an opcode are written, a value is read at offset 0.
+they are written. The cases are to the generic service and to the named player in turn. The client is the left pedal; its ATT_MTU leaves room for every
+value, and it subscribes to 18 alone, so that nothing falls due but the results of its control writes. A position, a speed, an order and an opcode are
+written, a value is read at offset 0.
 
 A comment in quotation marks is a sentence of document 01, or of the request of document 02 that it names.
 """
@@ -10,9 +11,9 @@ import calls
 from calls import (
     ALL, BAD_AND_WRONG, BAD_TITLES, CASES, CLOSE, CUT, ENCRYPTED, FIRST_GROUP, FIRST_SEGMENT, FIRST_TRACK, FORWARD, GOTO_GROUP, GOTO_SEGMENT,
     GOTO_TRACK, GROUP, LAST_GROUP, LAST_SEGMENT, LAST_TRACK, LEFT, LONGEST, MEDIA, NAME_FIRST, NAME_LENGTH, NEXT_GROUP, NEXT_SEGMENT, NEXT_TRACK,
-    OWN_PARENT, PAUSE, PLACE, PLAY, PLAYER, PLAYING_ORDER, PREVIOUS_GROUP, PREVIOUS_SEGMENT, PREVIOUS_TRACK, RELATIVE, REWIND, RUNNING, SAMPLE,
-    SEEKING_SPEED, STOP, TRACK,
-    activate, advance, case, connect, deactivate, octets, read, start, subscribe, take, word, write,
+    ON, OWN_PARENT, PAUSE, PLACE, PLAY, PLAYERS, PLAYING_ORDER, PREVIOUS_GROUP, PREVIOUS_SEGMENT, PREVIOUS_TRACK, RELATIVE, REWIND, RUNNING, SAMPLE,
+    SEEKING_SPEED, SERVICES, STOP, TRACK,
+    activate, advance, connect, deactivate, octets, on, read, start, subscribe, take, word, write,
 )
 
 # "0x01 Play (0), 0x02 Pause (1), 0x03 Fast Rewind (2), 0x04 Fast Forward (3), 0x05 Stop (4), 0x10 Move Relative (5), 0x20–0x24 Previous, Next, First,
@@ -30,6 +31,11 @@ WITH_NUMBER = (RELATIVE, GOTO_SEGMENT, GOTO_TRACK, GOTO_GROUP)
 LEAST, MOST = -2147483648, 2147483647
 
 
+def case(name):
+    calls.case(name)
+    on(SERVICES[CASES[0] % len(SERVICES)])
+
+
 def attend():
     """The left pedal connects, and subscribes to the results of its control writes."""
     connect(LEFT, 517, ENCRYPTED, 'done')
@@ -38,7 +44,7 @@ def attend():
 
 def stays(state):
     """The state beside a call that does not touch the player is the one that there was."""
-    assert state == PLAYER[0], (CASES[0], state)
+    assert state == PLAYERS[ON[0]], (CASES[0], state)
 
 
 def set_name(name, answer, state, catalogue=SAMPLE):

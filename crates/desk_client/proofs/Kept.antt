@@ -22,9 +22,8 @@ use Rattle.desk_slots.proofs.SetLaws.{below, set-lt, set-has, in-below}
 use Rattle.desk_slots.proofs.SlotLaws.{has-insert, has-remove, has-minus, insert-lt, remove-lt, union-lt, inter-lt, minus-lt, insert-same, remove-same, remove-other}
 use Rattle.desk_client.specs.declared.Entry.{Entry}
 use Rattle.desk_client.specs.declared.Account.{Account}
-use Rattle.desk_client.specs.declared.Client.{Client}
 use Rattle.desk_client.specs.Client.{controlSlot, mostResults, onlyReadable, blankEntry, codesRight}
-use Rattle.desk_client.specs.Setters.{withSlots, withAccount}
+use Rattle.desk_client.specs.Setters.{withSlots}
 use Rattle.desk_client.specs.Queue.{withoutOldest}
 use Rattle.desk_client.specs.Duties.{joined, dropped, noted, wasRead, resulted, served}
 use Rattle.desk_client.proofs.Rule.{Sound, Blank}
@@ -265,14 +264,11 @@ module _ (a : Account) (sound : Sound a) where
           let o = ap (has (a .owed)) (sym e) ∙ owes in
           subst (λ (t : ℕ). Sound (served t a)) (sym e) (subst Sound (sym (served-result a (some o))) (result o))
 
--- a record that is not connected is told nothing
-pub kept-blank : (c : Client) (due altered : ℕ) → Blank c → Blank (withAccount (noted due altered (c .account)) c)
+-- an account of a client that is not connected is told nothing
+pub kept-blank : (a : Account) (due altered : ℕ) → Blank a → Blank (noted due altered a)
 unfolding noted union inter minus
-kept-blank c due altered b =
+kept-blank a due altered b =
     record {
-      encrypted = b .encrypted;
-      mtu = b .mtu;
-      mark = b .mark;
       subscribed = b .subscribed;
       owed = rw (b .owed, b .subscribed);
       fresh = rw (b .fresh);

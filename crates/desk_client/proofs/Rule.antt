@@ -7,14 +7,16 @@ use native.Mathlib.Omega.{arith}
 use borrow.Author.Tests.{leb-true, le-leb, ltb-true, lt-ltb, eqb-true, eq-eqb, not-true}
 use lib.Dec.{eqb, ltb, leb, lit≤}
 use Rattle.ground.specs.Cases.{pick, has}
+use Rattle.ground.specs.Lists.{allBelow}
+use Rattle.ground.proofs.Bounded.{all-at, all-intro}
 use Rattle.ground.proofs.Cases.{past, here, and-left, and-right, and-both, true-or, clash}
-use Rattle.desk_slots.specs.Slots.{slotCount, placeCount, onlySlots, inter}
+use Rattle.desk_slots.specs.Slots.{slotCount, serviceCount, placeCount, onlySlots, inter}
 use Rattle.desk_slots.proofs.SlotLaws.{has-inter, inter-lt, only-lt, lt-only}
 use Rattle.desk_slots.proofs.Bits.{has-zero, ext}
+use Rattle.desk_client.specs.declared.Link.{Link}
 use Rattle.desk_client.specs.declared.Account.{Account}
 use Rattle.desk_client.specs.declared.Client.{Client}
-use Rattle.desk_client.specs.Setters.{withAccount}
-use Rattle.desk_client.specs.Client.{mtuRight, controlSlot, mostResults, onlyReadable, codesRight, alike, blankRule, accountRule, connectedRule, clientRule}
+use Rattle.desk_client.specs.Client.{mtuRight, controlSlot, mostResults, onlyReadable, codesRight, alike, blankRule, accountRule, linkRule, accountFits, accountWith, clientRule}
 
 -- the account of a connected record, part by part
 pub record Sound (a : Account) : Type 0 where
@@ -26,13 +28,11 @@ pub record Sound (a : Account) : Type 0 where
   pub few : a .waiting ≤ mostResults
   pub codes : codesRight (a .waiting) (a .results) ≡ true
 
--- a connected record, part by part
-pub record Linked (c : Client) : Type 0 where
-  pub mtu-from : 23 ≤ c .link .mtu
-  pub mtu-to : c .link .mtu ≤ 517
-  pub marked : c .link .mark < placeCount
-  pub account : Sound (c .account)
-  pub safe : (c .link .encrypted || eqb (c .account .subscribed) 0) ≡ true
+-- the link of a connected record, part by part
+pub record Linked (l : Link) : Type 0 where
+  pub mtu-from : 23 ≤ l .mtu
+  pub mtu-to : l .mtu ≤ 517
+  pub marked : l .mark < placeCount
 
 -- the account's rule, its parts from the left
 module _ (a : Account) where
@@ -71,6 +71,13 @@ both false b e q = clash q
 only : (a b : Bool) → (a ≡ true → b ≡ true) → (a && b) ≡ a
 only true b f = f refl
 only false b f = refl
+
+-- what a choice comes to, once its test is known
+here-true : (t x y : Bool) → t ≡ true → pick t x y ≡ true → x ≡ true
+here-true t x y q e = subst (λ (b : Bool). pick b x y ≡ true) q e
+
+past-true : (t x y : Bool) → t ≡ false → pick t x y ≡ true → y ≡ true
+past-true t x y q e = subst (λ (b : Bool). pick b x y ≡ true) q e
 
 sound : (a : Account) → accountRule a ≡ true → Sound a
 unfolding accountRule
@@ -113,115 +120,117 @@ from-sound a s =
         ext slotCount (inter (a .owed) (a .subscribed)) (a .owed) (inter-lt slotCount (a .owed) (a .subscribed) (s .owed-slots)) (s .owed-slots)
         (λ t h. has-inter (a .owed) (a .subscribed) t ∙ only (has (a .owed) t) (has (a .subscribed) t) (s .covered t))
 
--- a connected record keeps the rule where it is linked
-pub connected-linked : (c : Client) → clientRule c ≡ true → c .link .connected ≡ true → Linked c
-unfolding clientRule connectedRule
-connected-linked c e q =
-    let r : connectedRule c ≡ true = subst (λ (t : Bool). pick t (connectedRule c) (blankRule c) ≡ true) q e in
-    let r3 = and-left (mtuRight (c .link .mtu) && ltb (c .link .mark) placeCount && accountRule (c .account)) (c .link .encrypted || eqb (c .account .subscribed) 0) r in
-    let r2 = and-left (mtuRight (c .link .mtu) && ltb (c .link .mark) placeCount) (accountRule (c .account)) r3 in
-    let r1 = and-left (mtuRight (c .link .mtu)) (ltb (c .link .mark) placeCount) r2 in
+-- a connected link keeps the rule where it is linked
+pub connected-linked : (l : Link) → linkRule l ≡ true → l .connected ≡ true → Linked l
+unfolding linkRule
+connected-linked l e q =
+    let r : (mtuRight (l .mtu) && ltb (l .mark) placeCount) ≡ true = here-true _ _ _ q e in
+    let m = and-left (mtuRight (l .mtu)) (ltb (l .mark) placeCount) r in
     record {
-      mtu-from = leb-true 23 (c .link .mtu) (and-left (leb 23 (c .link .mtu)) (leb (c .link .mtu) 517) r1);
-      mtu-to = leb-true (c .link .mtu) 517 (and-right (leb 23 (c .link .mtu)) (leb (c .link .mtu) 517) r1);
-      marked = ltb-true (c .link .mark) placeCount (and-right (mtuRight (c .link .mtu)) (ltb (c .link .mark) placeCount) r2);
-      account = sound (c .account) (and-right (mtuRight (c .link .mtu) && ltb (c .link .mark) placeCount) (accountRule (c .account)) r3);
-      safe = and-right (mtuRight (c .link .mtu) && ltb (c .link .mark) placeCount && accountRule (c .account)) (c .link .encrypted || eqb (c .account .subscribed) 0) r;
+      mtu-from = leb-true 23 (l .mtu) (and-left (leb 23 (l .mtu)) (leb (l .mtu) 517) m);
+      mtu-to = leb-true (l .mtu) 517 (and-right (leb 23 (l .mtu)) (leb (l .mtu) 517) m);
+      marked = ltb-true (l .mark) placeCount (and-right (mtuRight (l .mtu)) (ltb (l .mark) placeCount) r);
     }
 
-pub linked-connected : (c : Client) → c .link .connected ≡ true → Linked c → clientRule c ≡ true
-unfolding clientRule connectedRule
-linked-connected c q l =
-    sym (here (blankRule c) q (sym (and-both (and-both (and-both
-    (and-both (le-leb 23 (c .link .mtu) (l .mtu-from)) (le-leb (c .link .mtu) 517 (l .mtu-to)))
-    (lt-ltb (c .link .mark) placeCount (l .marked)))
-    (from-sound (c .account) (l .account)))
-    (l .safe))))
+pub linked-connected : (l : Link) → l .connected ≡ true → Linked l → linkRule l ≡ true
+unfolding linkRule
+linked-connected l q k =
+    sym (here _ q (sym (and-both (and-both (le-leb 23 (l .mtu) (k .mtu-from)) (le-leb (l .mtu) 517 (k .mtu-to))) (lt-ltb (l .mark) placeCount (k .marked)))))
 
--- with another sound account it keeps the rule, where the link is encrypted or the account asks for nothing
-pub account-kept : (c : Client) (a : Account) → Linked c → Sound a → (c .link .encrypted || eqb (a .subscribed) 0) ≡ true → Linked (withAccount a c)
-account-kept c a l s safe =
-    record { mtu-from = l .mtu-from; mtu-to = l .mtu-to; marked = l .marked; account = s; safe = safe }
+-- the account of a connected client is sound, and asks for nothing where the link is not encrypted; and the way back
+pub record Fit (l : Link) (a : Account) : Type 0 where
+  pub account : Sound a
+  pub safe : (l .encrypted || eqb (a .subscribed) 0) ≡ true
 
--- start's record, but for its dead entries
-pub record Blank (c : Client) : Type 0 where
-  pub encrypted : c .link .encrypted ≡ false
-  pub mtu : c .link .mtu ≡ 23
-  pub mark : c .link .mark ≡ placeCount - 1
-  pub subscribed : c .account .subscribed ≡ 0
-  pub owed : c .account .owed ≡ 0
-  pub fresh : c .account .fresh ≡ 0
-  pub waiting : c .account .waiting ≡ 0
+pub connected-fit : (l : Link) (a : Account) → accountFits l a ≡ true → l .connected ≡ true → Fit l a
+unfolding accountFits
+connected-fit l a e q =
+    let r : (accountRule a && (l .encrypted || eqb (a .subscribed) 0)) ≡ true = here-true _ _ _ q e in
+    record {
+      account = sound a (and-left (accountRule a) (l .encrypted || eqb (a .subscribed) 0) r);
+      safe = and-right (accountRule a) (l .encrypted || eqb (a .subscribed) 0) r;
+    }
 
-module _ (c : Client) where
-  abbrev b2 : Bool
-  b2 = not (c .link .encrypted) && eqb (c .link .mtu) 23
+pub fit-connected : (l : Link) (a : Account) → l .connected ≡ true → Fit l a → accountFits l a ≡ true
+unfolding accountFits
+fit-connected l a q f = sym (here _ q (sym (and-both (from-sound a (f .account)) (f .safe))))
 
-  abbrev b3 : Bool
-  b3 = b2 && eqb (c .link .mark) (placeCount - 1)
+-- start's account, but for its dead entries
+pub record Blank (a : Account) : Type 0 where
+  pub subscribed : a .subscribed ≡ 0
+  pub owed : a .owed ≡ 0
+  pub fresh : a .fresh ≡ 0
+  pub waiting : a .waiting ≡ 0
 
-  abbrev b4 : Bool
-  b4 = b3 && eqb (c .account .subscribed) 0
-
-  abbrev b5 : Bool
-  b5 = b4 && eqb (c .account .owed) 0
-
-  abbrev b6 : Bool
-  b6 = b5 && eqb (c .account .fresh) 0
-
-blank : (c : Client) → blankRule c ≡ true → Blank c
+blank : (a : Account) → blankRule a ≡ true → Blank a
 unfolding blankRule
-blank c e =
-    let e6 = and-left (b6 c) (eqb (c .account .waiting) 0) e in
-    let e5 = and-left (b5 c) (eqb (c .account .fresh) 0) e6 in
-    let e4 = and-left (b4 c) (eqb (c .account .owed) 0) e5 in
-    let e3 = and-left (b3 c) (eqb (c .account .subscribed) 0) e4 in
-    let e2 = and-left (b2 c) (eqb (c .link .mark) (placeCount - 1)) e3 in
+blank a e =
+    let e3 = and-left (eqb (a .subscribed) 0 && eqb (a .owed) 0 && eqb (a .fresh) 0) (eqb (a .waiting) 0) e in
+    let e2 = and-left (eqb (a .subscribed) 0 && eqb (a .owed) 0) (eqb (a .fresh) 0) e3 in
     record {
-      encrypted = not-true (c .link .encrypted) (and-left (not (c .link .encrypted)) (eqb (c .link .mtu) 23) e2);
-      mtu = eqb-true (c .link .mtu) 23 (and-right (not (c .link .encrypted)) (eqb (c .link .mtu) 23) e2);
-      mark = eqb-true (c .link .mark) (placeCount - 1) (and-right (b2 c) (eqb (c .link .mark) (placeCount - 1)) e3);
-      subscribed = eqb-true (c .account .subscribed) 0 (and-right (b3 c) (eqb (c .account .subscribed) 0) e4);
-      owed = eqb-true (c .account .owed) 0 (and-right (b4 c) (eqb (c .account .owed) 0) e5);
-      fresh = eqb-true (c .account .fresh) 0 (and-right (b5 c) (eqb (c .account .fresh) 0) e6);
-      waiting = eqb-true (c .account .waiting) 0 (and-right (b6 c) (eqb (c .account .waiting) 0) e);
+      subscribed = eqb-true (a .subscribed) 0 (and-left (eqb (a .subscribed) 0) (eqb (a .owed) 0) e2);
+      owed = eqb-true (a .owed) 0 (and-right (eqb (a .subscribed) 0) (eqb (a .owed) 0) e2);
+      fresh = eqb-true (a .fresh) 0 (and-right (eqb (a .subscribed) 0 && eqb (a .owed) 0) (eqb (a .fresh) 0) e3);
+      waiting = eqb-true (a .waiting) 0 (and-right (eqb (a .subscribed) 0 && eqb (a .owed) 0 && eqb (a .fresh) 0) (eqb (a .waiting) 0) e);
     }
 
-pub unconnected-blank : (c : Client) → clientRule c ≡ true → c .link .connected ≡ false → Blank c
-unfolding clientRule
-unconnected-blank c e q = blank c (subst (λ (t : Bool). pick t (connectedRule c) (blankRule c) ≡ true) q e)
+pub unconnected-blank : (l : Link) (a : Account) → accountFits l a ≡ true → l .connected ≡ false → Blank a
+unfolding accountFits
+unconnected-blank l a e q = blank a (past-true _ _ _ q e)
 
--- what every record that keeps the rule has
-module _ (c : Client) (e : clientRule c ≡ true) where
-  by-link : {A : Type 0} → (Linked c → A) → (Blank c → A) → A
-  by-link f g = ⊎-elim (λ q. f (connected-linked c e q)) (λ q. g (unconnected-blank c e q)) (true-or (c .link .connected))
+pub blank-unconnected : (l : Link) (a : Account) → l .connected ≡ false → Blank a → accountFits l a ≡ true
+unfolding accountFits blankRule
+blank-unconnected l a q b =
+    sym (past _ q (sym (and-both (and-both (and-both
+    (eq-eqb (a .subscribed) 0 (b .subscribed)) (eq-eqb (a .owed) 0 (b .owed))) (eq-eqb (a .fresh) 0 (b .fresh))) (eq-eqb (a .waiting) 0 (b .waiting)))))
 
-  pub mtu-least : 23 ≤ c .link .mtu
-  mtu-least = by-link (λ l. l .mtu-from) (λ b. omega (arith, b .mtu))
+-- what every link that keeps the rule has
+module _ (l : Link) (e : linkRule l ≡ true) where
+  unconnected : l .connected ≡ false → (l .mtu ≡ 23) × (l .mark ≡ placeCount - 1)
+  unfolding linkRule
+  unconnected q =
+      let r = past-true _ _ _ q e in
+      let r2 = and-left (not (l .encrypted) && eqb (l .mtu) 23) (eqb (l .mark) (placeCount - 1)) r in (
+        eqb-true (l .mtu) 23 (and-right (not (l .encrypted)) (eqb (l .mtu) 23) r2),
+        eqb-true (l .mark) (placeCount - 1) (and-right (not (l .encrypted) && eqb (l .mtu) 23) (eqb (l .mark) (placeCount - 1)) r),
+      )
 
-  pub owed-within : c .account .owed < 2 ^ slotCount
-  owed-within = by-link (λ l. l .account .owed-slots) (λ b. rw (b .owed) (lit≤ tt))
+  pub mtu-least : 23 ≤ l .mtu
+  mtu-least = ⊎-elim (λ q. connected-linked l e q .mtu-from) (λ q. omega (arith, unconnected q .0)) (true-or (l .connected))
 
-  pub mark-within : c .link .mark < placeCount
-  mark-within = by-link (λ l. l .marked) (λ b. omega (arith, b .mark))
+  pub mark-within : l .mark < placeCount
+  mark-within = ⊎-elim (λ q. connected-linked l e q .marked) (λ q. omega (arith, unconnected q .1)) (true-or (l .connected))
 
-  pub waits-when-owed : has (c .account .owed) controlSlot ≡ ltb 0 (c .account .waiting)
+-- and every account that fits its link
+module _ (l : Link) (a : Account) (e : accountFits l a ≡ true) where
+  by-link : {A : Type 0} → (Fit l a → A) → (Blank a → A) → A
+  by-link f g = ⊎-elim (λ q. f (connected-fit l a e q)) (λ q. g (unconnected-blank l a e q)) (true-or (l .connected))
+
+  pub owed-within : a .owed < 2 ^ slotCount
+  owed-within = by-link (λ f. f .account .owed-slots) (λ b. rw (b .owed) (lit≤ tt))
+
+  pub waits-when-owed : has (a .owed) controlSlot ≡ ltb 0 (a .waiting)
   waits-when-owed =
-      by-link (λ l. l .account .waits) (λ b. ap (λ (w : ℕ). has w controlSlot) (b .owed) ∙ has-zero controlSlot ∙ sym (ap (ltb 0) (b .waiting)))
+      by-link (λ f. f .account .waits) (λ b. ap (λ (w : ℕ). has w controlSlot) (b .owed) ∙ has-zero controlSlot ∙ sym (ap (ltb 0) (b .waiting)))
 
-  pub few-results : c .account .waiting ≤ mostResults
-  few-results = by-link (λ l. l .account .few) (λ b. omega (arith, b .waiting))
+  pub few-results : a .waiting ≤ mostResults
+  few-results = by-link (λ f. f .account .few) (λ b. omega (arith, b .waiting))
 
   -- what is owed anything is connected
-  pub owed-connected : (s : ℕ) → has (c .account .owed) s ≡ true → c .link .connected ≡ true
+  pub owed-connected : (s : ℕ) → has (a .owed) s ≡ true → l .connected ≡ true
   owed-connected s h =
-      ⊎-elim (λ q. q) (λ q. clash (sym (ap (λ (w : ℕ). has w s) (unconnected-blank c e q .owed) ∙ has-zero s) ∙ h)) (true-or (c .link .connected))
+      ⊎-elim (λ q. q) (λ q. clash (sym (ap (λ (w : ℕ). has w s) (unconnected-blank l a e q .owed) ∙ has-zero s) ∙ h)) (true-or (l .connected))
 
--- the way back
-pub blank-unconnected : (c : Client) → c .link .connected ≡ false → Blank c → clientRule c ≡ true
-unfolding clientRule blankRule
-blank-unconnected c q b =
-    sym (past (connectedRule c) q (sym (and-both (and-both (and-both (and-both (and-both (and-both
-    (ap not (b .encrypted)) (eq-eqb (c .link .mtu) 23 (b .mtu))) (eq-eqb (c .link .mark) (placeCount - 1) (b .mark)))
-    (eq-eqb (c .account .subscribed) 0 (b .subscribed))) (eq-eqb (c .account .owed) 0 (b .owed)))
-    (eq-eqb (c .account .fresh) 0 (b .fresh))) (eq-eqb (c .account .waiting) 0 (b .waiting)))))
+-- a whole record: its link, and its account with each service
+module _ (c : Client) where
+  pub client-link : clientRule c ≡ true → linkRule (c .link) ≡ true
+  unfolding clientRule
+  client-link e = and-left (linkRule (c .link)) (allBelow serviceCount (λ v. accountFits (c .link) (accountWith c v))) e
+
+  pub client-account : clientRule c ≡ true → (v : ℕ) → v < serviceCount → accountFits (c .link) (accountWith c v) ≡ true
+  unfolding clientRule
+  client-account e v h = all-at _ serviceCount (and-right (linkRule (c .link)) (allBelow serviceCount (λ v. accountFits (c .link) (accountWith c v))) e) v h
+
+  pub client-stands : linkRule (c .link) ≡ true → ((v : ℕ) → v < serviceCount → accountFits (c .link) (accountWith c v) ≡ true) → clientRule c ≡ true
+  unfolding clientRule
+  client-stands e f = and-both e (all-intro _ serviceCount f)

@@ -1,16 +1,17 @@
--- A client record, its link and its account, and the clients' part of 201 (document 01, "Refusal numbers").
+-- A client record, its link and its account with each service, and the clients' part of 201 (document 01, "Refusal numbers").
 -- Assumes nothing.
 use mathlib.Core.Bool.{Bool, true, false, _&&_, _||_, not}
-use mathlib.Core.List.{List}
+use mathlib.Core.List.{List, []}
 use Prim.Native.Nat.{ℕ, _-_}
 use lib.Dec.{eqb, ltb, leb}
 use lib.Bits.{bitAnd}
 use lib.ListN.{getD, replicate}
 use Rattle.ground.specs.Cases.{pick, within, has}
 use Rattle.ground.specs.Lists.{allBelow}
-use Rattle.desk_slots.specs.Slots.{placeCount, onlySlots, inter}
+use Rattle.desk_slots.specs.Slots.{serviceCount, placeCount, onlySlots, inter}
 use Rattle.desk_slots.specs.Characteristics.{readables, isIn, setOf}
 use Rattle.desk_client.specs.declared.Entry.{Entry}
+use Rattle.desk_client.specs.declared.Link.{Link}
 use Rattle.desk_client.specs.declared.Account.{Account}
 use Rattle.desk_client.specs.declared.Client.{Client}
 
@@ -45,17 +46,6 @@ blankEntry = record { opcode = 0; code = 0 }
 abbrev pub codesRight : ℕ → List Entry → Bool
 codesRight waiting results = allBelow waiting (λ i. within 1 4 (getD results i blankEntry .code))
 
--- start's record: unconnected; entries of results that do not wait are dead
-unfoldable pub blankRule : Client → Bool
-blankRule c =
-    not (c .link .encrypted)
-    && eqb (c .link .mtu) leastMtu
-    && eqb (c .link .mark) (placeCount - 1)
-    && eqb (c .account .subscribed) 0
-    && eqb (c .account .owed) 0
-    && eqb (c .account .fresh) 0
-    && eqb (c .account .waiting) 0
-
 abbrev pub alike : Bool → Bool → Bool
 alike a b = pick a b (not b)
 
@@ -71,32 +61,46 @@ accountRule a =
     && leb (a .waiting) mostResults
     && codesRight (a .waiting) (a .results)
 
--- "an ATT_MTU against 206, a round mark out of range, a subscription while unencrypted"
-unfoldable pub connectedRule : Client → Bool
-connectedRule c =
-    mtuRight (c .link .mtu)
-    && ltb (c .link .mark) placeCount
-    && accountRule (c .account)
-    && (c .link .encrypted || eqb (c .account .subscribed) 0)
+-- start's account: nothing asked for, nothing owed; entries of results that do not wait are dead
+unfoldable pub blankRule : Account → Bool
+blankRule a = eqb (a .subscribed) 0 && eqb (a .owed) 0 && eqb (a .fresh) 0 && eqb (a .waiting) 0
 
--- "a client record is wrong: unconnected and not start's, or connected with .."
+-- "a client record is wrong: unconnected and not start's, or connected with .. an ATT_MTU against 206, a round mark out of range": of its link
+unfoldable pub linkRule : Link → Bool
+linkRule l =
+    pick (l .connected) (mtuRight (l .mtu) && ltb (l .mark) placeCount)
+    (not (l .encrypted) && eqb (l .mtu) leastMtu && eqb (l .mark) (placeCount - 1))
+
+-- of its account with a service; "a subscription while unencrypted"
+unfoldable pub accountFits : Link → Account → Bool
+accountFits l a = pick (l .connected) (accountRule a && (l .encrypted || eqb (a .subscribed) 0)) (blankRule a)
+
+-- what stands behind the end of the accounts
+abbrev pub noAccount : Account
+noAccount = record { subscribed = 0; owed = 0; fresh = 0; waiting = 0; results = [] }
+
+-- its account with a service
+abbrev pub accountWith : Client → ℕ → Account
+accountWith c service = getD (c .accounts) service noAccount
+
+-- of the whole record: "201 looks at both players and all records" (document 02, W-208)
 unfoldable pub clientRule : Client → Bool
-clientRule c = pick (c .link .connected) (connectedRule c) (blankRule c)
+clientRule c = linkRule (c .link) && allBelow serviceCount (λ v. accountFits (c .link) (accountWith c v))
 
--- nothing asked for, nothing owed; "connect sets only that client's slot round to the lowest": the mark is the place served last
-abbrev pub blankAccount : Account
+-- nothing asked for, nothing owed
+unfoldable pub blankAccount : Account
 blankAccount = record { subscribed = 0; owed = 0; fresh = 0; waiting = 0; results = replicate mostResults blankEntry }
 
-abbrev pub linked : Bool → Bool → ℕ → Client
-linked connected encrypted mtu =
-    record {
-      link = record { connected = connected; encrypted = encrypted; mtu = mtu; mark = placeCount - 1 };
-      account = blankAccount;
-    }
+-- "connect sets only that client's slot round to the lowest", service 0's: the mark is the place served last
+abbrev pub linkOf : Bool → Bool → ℕ → Link
+linkOf connected encrypted mtu = record { connected = connected; encrypted = encrypted; mtu = mtu; mark = placeCount - 1 }
 
--- "disconnecting gives start's record"
-unfoldable pub startClient : Client
-startClient = linked false false leastMtu
+-- "disconnecting gives start's record", with every service
+unfoldable pub startLink : Link
+startLink = linkOf false false leastMtu
 
-unfoldable pub connectedClient : ℕ → Bool → Client
-connectedClient mtu encrypted = linked true encrypted mtu
+unfoldable pub connectedLink : ℕ → Bool → Link
+connectedLink mtu encrypted = linkOf true encrypted mtu
+
+abbrev pub blankClient : Link → Client
+blankClient l = record { link = l; accounts = replicate serviceCount blankAccount }

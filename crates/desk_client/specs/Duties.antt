@@ -3,9 +3,10 @@
 -- Assumes nothing.
 use Prim.Native.Nat.{ℕ}
 use lib.Dec.{ltb}
+use lib.ListN.{set}
 use Rattle.ground.specs.Cases.{pick, has}
-use Rattle.desk_slots.specs.Slots.{insert, remove, union, inter, minus}
-use Rattle.desk_client.specs.Client.{controlSlot, isControl}
+use Rattle.desk_slots.specs.Slots.{serviceOf, slotAt, insert, remove, union, inter, minus}
+use Rattle.desk_client.specs.Client.{controlSlot, isControl, accountWith}
 use Rattle.desk_client.specs.Setters.{withSubscribed, withOwed, withMark, withQueue, withFresh}
 use Rattle.desk_client.specs.Queue.{pushed, popped}
 use Rattle.desk_client.specs.declared.Account.{Account}
@@ -43,6 +44,10 @@ resultTaken a = withOwed (pick (ltb 1 (a .waiting)) (a .owed) (remove (a .owed) 
 unfoldable pub served : ℕ → Account → Account
 served s a = pick (isControl s) (resultTaken a) (withOwed (remove (a .owed) s) a)
 
--- a client was served a slot, and its round goes on behind it
+-- a client was served the slot of a place, and its round goes on behind it
 unfoldable pub passedOn : ℕ → Client → Client
-passedOn s c = record { link = withMark s (c .link); account = served s (c .account) }
+passedOn place c =
+    record {
+      link = withMark place (c .link);
+      accounts = set (c .accounts) (serviceOf place) (served (slotAt place) (accountWith c (serviceOf place)));
+    }

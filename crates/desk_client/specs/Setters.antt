@@ -2,6 +2,7 @@
 -- Assumes nothing.
 use mathlib.Core.List.{List}
 use Prim.Native.Nat.{ℕ}
+use lib.ListN.{set}
 use Rattle.desk_client.specs.declared.Entry.{Entry}
 use Rattle.desk_client.specs.declared.Link.{Link}
 use Rattle.desk_client.specs.declared.Account.{Account}
@@ -28,5 +29,5 @@ withFresh fresh a =
 abbrev pub withMark : ℕ → Link → Link
 withMark mark l = record { connected = l .connected; encrypted = l .encrypted; mtu = l .mtu; mark = mark }
 
-abbrev pub withAccount : Account → Client → Client
-withAccount a c = record { link = c .link; account = a }
+abbrev pub withAccount : ℕ → Account → Client → Client
+withAccount service a c = record { link = c .link; accounts = set (c .accounts) service a }

@@ -1,8 +1,10 @@
-// A client record: what is known of one of the four devices, of its link and of its account.
+// A client record: what is known of one of the four devices, of its link and of its account with each service.
 ghost use mathlib.Core.Path.{_≡_};
 ghost use Prim.Native.Nat.{_≤_, _<_};
-ghost use Rattle.desk_slots.specs.Slots.{slotCount};
-ghost use Rattle.desk_client.specs.Client.{mtuRight, isControl, alike, codesRight, blankRule, accountRule, connectedRule, clientRule, linked, startClient, connectedClient};
+ghost use lib.ListN.{getD};
+ghost use Rattle.ground.specs.Lists.{allBelow};
+ghost use Rattle.desk_slots.specs.Slots.{slotCount, serviceCount, placeCount};
+ghost use Rattle.desk_client.specs.Client.{mtuRight, isControl, alike, codesRight, blankRule, accountRule, linkRule, accountFits, noAccount, clientRule, blankAccount, startLink, connectedLink, blankClient};
 ghost use Rattle.desk_client.specs.Queue.{withoutOldest, pushed, popped};
 ghost use Rattle.desk_client.specs.Duties.{joined, dropped, noted, wasRead, resulted, resultTaken, served, passedOn};
 
@@ -30,9 +32,10 @@ pub struct Account {
     pub results: [Entry; 8],
 }
 
+// The record of a device: its link, and its account with each service.
 pub struct Client {
     pub link: Link,
-    pub account: Account,
+    pub accounts: [Account; 2],
 }
 
 pub const CONTROL_SLOT: u32 = 9;
@@ -99,77 +102,106 @@ fn account_right(a: Account) -> bool
     subscribed & owed & fresh & covered & told & few & codes
 }
 
-fn connected_right(c: Client) -> bool
-    ensures { λ r. ⌜ r ≡ connectedRule c ⌝ }
+fn account_blank(a: Account) -> bool
+    ensures { λ r. ⌜ r ≡ blankRule a ⌝ }
 {
-    let link = c.link;
-    let a = c.account;
-    let mtu = mtu_right(link.mtu);
-    let mark = link.mark < desk_slots::PLACES;
-    let account = account_right(a);
-    let safe = link.encrypted | (a.subscribed == 0);
-    mtu & mark & account & safe
+    (a.subscribed == 0) & (a.owed == 0) & (a.fresh == 0) & (a.waiting == 0)
 }
 
-fn blank_right(c: Client) -> bool
-    ensures { λ r. ⌜ r ≡ blankRule c ⌝ }
+// Whether a link keeps the clients' part of 201.
+pub fn link_right(l: Link) -> bool
+    ensures { λ r. ⌜ r ≡ linkRule l ⌝ }
 {
-    let link = c.link;
-    let a = c.account;
-    !link.encrypted
-        & (link.mtu == LEAST_MTU)
-        & (link.mark == desk_slots::PLACES - 1)
-        & (a.subscribed == 0)
-        & (a.owed == 0)
-        & (a.fresh == 0)
-        & (a.waiting == 0)
+    if l.connected {
+        let mtu = mtu_right(l.mtu);
+        return mtu & (l.mark < desk_slots::PLACES);
+    }
+    !l.encrypted & (l.mtu == LEAST_MTU) & (l.mark == desk_slots::PLACES - 1)
 }
 
-// Whether a record keeps the clients' part of 201.
+// Whether an account of a client with this link keeps it.
+pub fn account_fits(l: Link, a: Account) -> bool
+    ensures { λ r. ⌜ r ≡ accountFits l a ⌝ }
+{
+    if l.connected {
+        let account = account_right(a);
+        let safe = l.encrypted | (a.subscribed == 0);
+        return account & safe;
+    }
+    account_blank(a)
+}
+
+fn accounts_fit(l: Link, accounts: [Account; 2]) -> bool
+    ensures { λ r. ⌜ r ≡ allBelow serviceCount (λ v. accountFits l (getD accounts v noAccount)) ⌝ }
+{
+    let mut good = true;
+    let mut v: usize = 0;
+    while v < 2 {
+        let a = accounts[v];
+        let fits = account_fits(l, a);
+        good = good & fits;
+        v += 1;
+    }
+    good
+}
+
+// Whether a whole record does.
 pub fn client_right(c: Client) -> bool
     ensures { λ r. ⌜ r ≡ clientRule c ⌝ }
 {
-    if c.link.connected {
-        return connected_right(c);
-    }
-    blank_right(c)
+    let l = c.link;
+    let accounts = c.accounts;
+    let link = link_right(l);
+    let fit = accounts_fit(l, accounts);
+    link & fit
 }
 
-// A record with nothing asked for and nothing owed.
-fn with_link(connected: bool, encrypted: bool, mtu: u32) -> Client
-    ensures { λ r. ⌜ r ≡ linked connected encrypted mtu ⌝ }
+// An account with nothing asked for and nothing owed.
+pub fn blank_account() -> Account
+    ensures { λ r. ⌜ r ≡ blankAccount ⌝ }
 {
     let none = Entry { opcode: 0, code: 0 };
-    let link = Link {
-        connected: connected,
-        encrypted: encrypted,
-        mtu: mtu,
-        mark: desk_slots::PLACES - 1,
-    };
-    let account = Account {
+    Account {
         subscribed: 0,
         owed: 0,
         fresh: 0,
         waiting: 0,
         results: [none; 8],
-    };
-    Client {
-        link: link,
-        account: account,
     }
 }
 
-// Start's record.
-pub fn fresh_client() -> Client
-    ensures { λ r. ⌜ r ≡ startClient ⌝ }
+// The link of start's record.
+pub fn fresh_link() -> Link
+    ensures { λ r. ⌜ r ≡ startLink ⌝ }
 {
-    with_link(false, false, LEAST_MTU)
+    Link {
+        connected: false,
+        encrypted: false,
+        mtu: LEAST_MTU,
+        mark: desk_slots::PLACES - 1,
+    }
 }
 
-pub fn connected_client(mtu: u32, encrypted: bool) -> Client
-    ensures { λ r. ⌜ r ≡ connectedClient mtu encrypted ⌝ }
+pub fn connected_link(mtu: u32, encrypted: bool) -> Link
+    ensures { λ r. ⌜ r ≡ connectedLink mtu encrypted ⌝ }
 {
-    with_link(true, encrypted, mtu)
+    Link {
+        connected: true,
+        encrypted: encrypted,
+        mtu: mtu,
+        mark: desk_slots::PLACES - 1,
+    }
+}
+
+// The record of a device with this link that no service owes anything.
+pub fn blank_client(l: Link) -> Client
+    ensures { λ r. ⌜ r ≡ blankClient l ⌝ }
+{
+    let a = blank_account();
+    Client {
+        link: l,
+        accounts: [a; 2],
+    }
 }
 
 // One result more, behind those that wait.
@@ -305,15 +337,18 @@ fn slot_served(a: Account, s: u32) -> Account
     b
 }
 
-// A client was served a slot, and its round goes on behind it.
-pub fn serve(c: Client, s: u32) -> Client
-    requires { ⌜ s < slotCount ⌝ }
-    ensures { λ r. ⌜ r ≡ passedOn s c ⌝ }
+// A client was served the slot of a place, and its round goes on behind it.
+pub fn serve(c: Client, place: u32) -> Client
+    requires { ⌜ place < placeCount ⌝ }
+    ensures { λ r. ⌜ r ≡ passedOn place c ⌝ }
 {
-    let a = c.account;
+    let v = desk_slots::service_of(place) as usize;
+    let s = desk_slots::slot_at(place);
+    let accounts = c.accounts;
+    let a = accounts[v];
     let next = slot_served(a, s);
     let mut d = c;
-    d.account = next;
-    d.link.mark = s;
+    d.accounts[v] = next;
+    d.link.mark = place;
     d
 }

@@ -11,45 +11,68 @@ use Rattle.player_state.specs.Player.{playing, startedPlayer, renamed, deactiva
 use Rattle.player_check.specs.Standing.{nameRow, groupRow}
 use Rattle.player_moves.specs.Clock.{staysBelow, advanced, activated}
 use Rattle.desk_state.specs.declared.Desk.{Desk}
-use Rattle.desk_state.specs.Desk.{startedDesk}
-use Rattle.desk_replies.specs.Replies.{lentRows, asked}
+use Rattle.desk_state.specs.Desk.{serviceAt, startedDesk, withService}
+use Rattle.desk_replies.specs.Replies.{lentRows, serviceRow, asked}
 use Rattle.player_values.specs.Values.{sourceOf}
 use Rattle.desk_notices.specs.Owed.{settled, noWriter}
 
--- 200, 207: start takes no state; where it is refused, what start with no name would leave
-abbrev pub startRows : Tables → List ℕ → List Row
-startRows k name = lentRows k false ++ (nameRow name ∷ [])
+-- "Start names both players at once, generic (0) checked first" (document 02, W-208): what start is told of a player
+pub record Beginning : Type 0 where
+  pub name : List ℕ
+  pub mask : ℕ
+  pub ccid : ℕ
 
-unfoldable pub startCall : Tables → List ℕ → ℕ → ℕ → Left Desk
-startCall k name mask ccid =
-    answered (keeping (startedDesk (startedPlayer [] mask ccid))) (startRows k name) (leaves (granted []) (startedDesk (startedPlayer name mask ccid)))
+abbrev pub freshly : Beginning → Player
+freshly n = startedPlayer (n .name) (n .mask) (n .ccid)
 
--- the player becomes q by a call of no client, and every client is told
-abbrev pub becoming : Tables → Desk → Bool → Player → Left Desk
-becoming k d quiet q = leaves (granted []) (settled (sourceOf k) (noWriter quiet) q d)
+abbrev pub nameless : Beginning → Beginning
+nameless n = record { name = []; mask = n .mask; ccid = n .ccid }
 
--- 207
-abbrev pub nameRows : List ℕ → List Row
-nameRows name = nameRow name ∷ []
+-- 200, 207: start takes no state; where it is refused, what start with no names would leave
+abbrev pub startRows : Tables → Beginning → Beginning → List Row
+startRows k generic named = lentRows k false ++ (nameRow (generic .name) ∷ nameRow (named .name) ∷ [])
 
-unfoldable pub nameCall : Tables → Desk → List ℕ → Left Desk
-nameCall k d name = asked k false d (nameRows name) (becoming k d false (renamed name (d .player)))
+unfoldable pub startCall : Tables → Beginning → Beginning → Left Desk
+startCall k generic named =
+    answered (keeping (startedDesk (freshly (nameless generic)) (freshly (nameless named)))) (startRows k generic named)
+    (leaves (granted []) (startedDesk (freshly generic) (freshly named)))
 
--- 208
-abbrev pub activateRows : Tables → ℕ → List Row
-activateRows k g = groupRow (k .groups) g ∷ []
+-- the service's player
+abbrev pub playerOf : Desk → ℕ → Player
+playerOf d service = serviceAt d service .player
 
-unfoldable pub activateCall : Tables → Desk → ℕ → Left Desk
-activateCall k d g = asked k false d (activateRows k g) (becoming k d false (activated (k .groups) (k .tracks) g (d .player)))
+-- the service's player becomes q by a call of no client, and every client is told
+abbrev pub becoming : Tables → Desk → ℕ → Bool → Player → Left Desk
+becoming k d service quiet q = leaves (granted []) (withService service (settled (sourceOf k) (noWriter quiet) q (serviceAt d service)) d)
 
-unfoldable pub deactivateCall : Tables → Desk → Left Desk
-deactivateCall k d = asked k false d [] (becoming k d false (deactivated (d .player)))
+-- 219, 207
+abbrev pub nameRows : ℕ → List ℕ → List Row
+nameRows service name = serviceRow service ∷ nameRow name ∷ []
+
+unfoldable pub nameCall : Tables → Desk → ℕ → List ℕ → Left Desk
+nameCall k d service name = asked k false d (nameRows service name) (becoming k d service false (renamed name (playerOf d service)))
+
+-- 219, 208
+abbrev pub activateRows : Tables → ℕ → ℕ → List Row
+activateRows k service g = serviceRow service ∷ groupRow (k .groups) g ∷ []
+
+unfoldable pub activateCall : Tables → Desk → ℕ → ℕ → Left Desk
+activateCall k d service g =
+    asked k false d (activateRows k service g) (becoming k d service false (activated (k .groups) (k .tracks) g (playerOf d service)))
+
+-- 219
+abbrev pub serviceRows : ℕ → List Row
+serviceRows service = serviceRow service ∷ []
+
+unfoldable pub deactivateCall : Tables → Desk → ℕ → Left Desk
+deactivateCall k d service = asked k false d (serviceRows service) (becoming k d service false (deactivated (playerOf d service)))
 
 -- "an advance in Playing stays below D"
 unfoldable pub quietAdvance : List ℕ → ℕ → Player → Bool
 quietAdvance tracks step p =
     eqb (p .mode .media) playing && staysBelow tracks step p
 
-unfoldable pub advanceCall : Tables → Desk → ℕ → Left Desk
-advanceCall k d step =
-    asked k false d [] (becoming k d (quietAdvance (k .tracks) step (d .player)) (advanced (k .groups) (k .tracks) step (d .player)))
+unfoldable pub advanceCall : Tables → Desk → ℕ → ℕ → Left Desk
+advanceCall k d service step =
+    asked k false d (serviceRows service)
+    (becoming k d service (quietAdvance (k .tracks) step (playerOf d service)) (advanced (k .groups) (k .tracks) step (playerOf d service)))

@@ -10,11 +10,11 @@ use Rattle.desk_replies.specs.Replies.{fronted}
 use Rattle.desk_exchange.specs.Read.{readRows}
 use Rattle.desk_exchange.specs.Write.{writeRows}
 
-module _ (k : Tables) (d : Desk) (who characteristic : ℕ) where
+module _ (k : Tables) (d : Desk) (who service characteristic : ℕ) where
   pub read-order : (small connected encrypted inMind : Bool) (offset size : ℕ)
-      → inOrder table (fronted k small d ++ readRows who connected encrypted inMind characteristic offset size) ≡ true
+      → inOrder table (fronted k small d ++ readRows who service connected encrypted inMind characteristic offset size) ≡ true
   read-order small connected encrypted inMind offset size = refl
 
   pub write-order : (connected encrypted : Bool) (waiting : ℕ) (value : List ℕ)
-      → inOrder table (fronted k false d ++ writeRows who connected encrypted waiting characteristic value) ≡ true
+      → inOrder table (fronted k false d ++ writeRows who service connected encrypted waiting characteristic value) ≡ true
   write-order connected encrypted waiting value = refl

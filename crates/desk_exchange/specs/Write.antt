@@ -19,11 +19,12 @@ use Rattle.player_moves.specs.Control.{controlled}
 use Rattle.player_moves.specs.Clock.{positioned}
 use Rattle.desk_client.specs.Client.{mostResults}
 use Rattle.desk_client.specs.Duties.{resulted}
+use Rattle.desk_state.specs.declared.Service.{Service}
 use Rattle.desk_state.specs.declared.Desk.{Desk}
-use Rattle.desk_state.specs.Desk.{withAccountOf}
+use Rattle.desk_state.specs.Desk.{serviceAt, accountIn, withAccount, withService}
 use Rattle.desk_notices.specs.Owed.{settled, byWriter}
 use Rattle.player_values.specs.Values.{sourceOf}
-use Rattle.desk_replies.specs.Replies.{ofClient, ofCharacteristic, asked, caller}
+use Rattle.desk_replies.specs.Replies.{ofCaller, ofCharacteristic, asked, linkOf, accountOf}
 
 -- the first octet: of 18 the opcode
 abbrev pub firstOctet : List ℕ → ℕ
@@ -39,10 +40,10 @@ unfoldable pub lengthRight : ℕ → List ℕ → Bool
 lengthRight characteristic value =
     pick (eqb characteristic 18) (controlLength value) (eqb (length value) (sizeOf characteristic))
 
--- 202, 203, 0x01, 0x03, 0x0F, 0x0D; 0x13, "order not 1..8"; 0x11, "write to 18 by a client with 8 results waiting"
-abbrev pub writeRows : ℕ → Bool → Bool → ℕ → ℕ → List ℕ → List Row
-writeRows who connected encrypted waiting characteristic value =
-    ofClient who connected
+-- 202, 219, 203, 0x01, 0x03, 0x0F, 0x0D; 0x13, "order not 1..8"; 0x11, "write to 18 by a client with 8 results waiting"
+abbrev pub writeRows : ℕ → ℕ → Bool → Bool → ℕ → ℕ → List ℕ → List Row
+writeRows who service connected encrypted waiting characteristic value =
+    ofCaller who service connected
     ++ (ofCharacteristic encrypted characteristic 0x03 (isIn writables characteristic)
     ++ (row 0x0D (not (lengthRight characteristic value))
     ∷ row 0x13 (eqb characteristic 15 && not (within 1 8 (firstOctet value)))
@@ -53,30 +54,34 @@ writeRows who connected encrypted waiting characteristic value =
 unfoldable pub numberOf : List ℕ → ℕ
 numberOf value = pick (eqb (length value) 5) (wordAt value 1) 0
 
--- the player becomes q by a client's write, and every client is told
-abbrev pub becomingBy : Tables → Desk → ℕ → ℕ → Player → Desk
-becomingBy k d who characteristic q = settled (sourceOf k) (byWriter who characteristic) q d
+-- the service's player becomes q by a client's write, and every client is told
+abbrev pub becomingBy : Tables → Service → ℕ → ℕ → Player → Service
+becomingBy k s who characteristic q = settled (sourceOf k) (byWriter who characteristic) q s
 
 -- a control write: what the opcode comes to, and its result for the writer
-abbrev pub withResult : ℕ → ℕ → ℕ → Desk → Desk
-withResult who opcode code d = withAccountOf who (resulted opcode code (caller d who .account)) d
+abbrev pub withResult : ℕ → ℕ → ℕ → Service → Service
+withResult who opcode code s = withAccount who (resulted opcode code (accountIn s who)) s
 
-abbrev pub outcomeOf : Tables → Desk → List ℕ → Controlled
-outcomeOf k d value = controlled (k .groups) (k .tracks) (k .segments) (firstOctet value) (numberOf value) (d .player)
+abbrev pub outcomeOf : Tables → Player → List ℕ → Controlled
+outcomeOf k p value = controlled (k .groups) (k .tracks) (k .segments) (firstOctet value) (numberOf value) p
 
-unfoldable pub controlWritten : Tables → Desk → ℕ → List ℕ → Desk
-controlWritten k d who value =
-    withResult who (firstOctet value) (outcomeOf k d value .result) (becomingBy k d who 18 (outcomeOf k d value .player))
+unfoldable pub controlWritten : Tables → Service → ℕ → List ℕ → Service
+controlWritten k s who value =
+    withResult who (firstOctet value) (outcomeOf k (s .player) value .result) (becomingBy k s who 18 (outcomeOf k (s .player) value .player))
 
--- "7, 8, 15, 18 may be written"
-unfoldable pub written : Tables → Desk → ℕ → ℕ → List ℕ → Desk
-written k d who characteristic value =
-    pick (eqb characteristic 7) (becomingBy k d who 7 (positioned (k .tracks) (wordAt value 0) (d .player)))
-    (pick (eqb characteristic 8) (becomingBy k d who 8 (withSpeed (firstOctet value) (d .player)))
-    (pick (eqb characteristic 15) (becomingBy k d who 15 (withOrder (firstOctet value) (d .player)))
-    (controlWritten k d who value)))
+-- "7, 8, 15, 18 may be written": what is written to a service
+unfoldable pub written : Tables → Service → ℕ → ℕ → List ℕ → Service
+written k s who characteristic value =
+    pick (eqb characteristic 7) (becomingBy k s who 7 (positioned (k .tracks) (wordAt value 0) (s .player)))
+    (pick (eqb characteristic 8) (becomingBy k s who 8 (withSpeed (firstOctet value) (s .player)))
+    (pick (eqb characteristic 15) (becomingBy k s who 15 (withOrder (firstOctet value) (s .player)))
+    (controlWritten k s who value)))
 
-unfoldable pub writeCall : Tables → Desk → ℕ → ℕ → List ℕ → Left Desk
-writeCall k d who characteristic value =
-    asked k false d (writeRows who (caller d who .link .connected) (caller d who .link .encrypted) (caller d who .account .waiting) characteristic value)
-    (leaves (granted []) (written k d who characteristic value))
+abbrev pub writerRows : Desk → ℕ → ℕ → ℕ → List ℕ → List Row
+writerRows d who service characteristic value =
+    writeRows who service (linkOf d who .connected) (linkOf d who .encrypted) (accountOf d who service .waiting) characteristic value
+
+unfoldable pub writeCall : Tables → Desk → ℕ → ℕ → ℕ → List ℕ → Left Desk
+writeCall k d who service characteristic value =
+    asked k false d (writerRows d who service characteristic value)
+    (leaves (granted []) (withService service (written k (serviceAt d service) who characteristic value) d))

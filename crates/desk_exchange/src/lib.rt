@@ -11,9 +11,9 @@ ghost use Rattle.catalogue_tables.specs.Tables.{tables};
 ghost use Rattle.catalogue_check.specs.Catalogue.{Right};
 ghost use Rattle.player_check.specs.Standing.{playerRule};
 ghost use Rattle.desk_slots.specs.Slots.{clientCount};
-ghost use Rattle.desk_replies.specs.Replies.{Gated, saidOf, leftBy, fronted, caller};
+ghost use Rattle.desk_replies.specs.Replies.{Gated, saidOf, leftBy, fronted};
 ghost use Rattle.desk_exchange.specs.Read.{valueNow, readerRows, afterRead, readOctets, readCall};
-ghost use Rattle.desk_exchange.specs.Write.{writeRows, controlLength, lengthRight, numberOf, controlWritten, written, writeCall};
+ghost use Rattle.desk_exchange.specs.Write.{writerRows, controlLength, lengthRight, numberOf, controlWritten, written, writeCall};
 
 // What a read leaves of the client's account.
 fn after_read(a: desk_client::Account, characteristic: u32, offset: u32) -> desk_client::Account
@@ -34,11 +34,12 @@ fn read_gate(
     text: &[u8],
     d: desk_state::Desk,
     who: u32,
+    service: u32,
     characteristic: u32,
     offset: u32,
     room: usize,
 ) -> desk_replies::Gate
-    ensures { λ r. ⌜ Gated (fronted (tables (now (groups .entry)) (now (tracks .entry)) (now (segments .entry)) (now (text .entry))) (ltb room leastOutput) d ++ readerRows d who characteristic offset (len (valueNow (tables (now (groups .entry)) (now (tracks .entry)) (now (segments .entry)) (now (text .entry))) d characteristic))) r ⌝ }
+    ensures { λ r. ⌜ Gated (fronted (tables (now (groups .entry)) (now (tracks .entry)) (now (segments .entry)) (now (text .entry))) (ltb room leastOutput) d ++ readerRows d who service characteristic offset (len (valueNow (tables (now (groups .entry)) (now (tracks .entry)) (now (segments .entry)) (now (text .entry))) d service characteristic))) r ⌝ }
 {
     let g = desk_replies::characteristic_gate(
         groups,
@@ -48,6 +49,7 @@ fn read_gate(
         room < ground::LEAST_OUTPUT,
         d,
         who,
+        service,
         characteristic,
         ground::NOT_READABLE,
         desk_slots::may_read(characteristic),
@@ -55,12 +57,13 @@ fn read_gate(
     if !g.passes {
         return g;
     }
-    let a = desk_state::account_at(d, who);
+    let asked = desk_state::service_at(d, service);
+    let a = desk_state::account_in(asked, who);
     let known = ground::has_bit(a.fresh, characteristic);
     if (0 < offset) & !known {
         return desk_replies::gate_shut(ground::VALUE_CHANGED);
     }
-    let p = d.player;
+    let p = asked.player;
     let h = player_values::hold(tracks, text, p, characteristic);
     let from = ground::wide_word(offset);
     if h.len < from {
@@ -77,12 +80,13 @@ pub fn read(
     text: &[u8],
     d: desk_state::Desk,
     who: u32,
+    service: u32,
     characteristic: u32,
     offset: u32,
     out: &mut [u8],
 ) -> desk_replies::Outcome
-    ensures { λ r. ⌜ leftBy r ≡ readCall (tables (now (groups .entry)) (now (tracks .entry)) (now (segments .entry)) (now (text .entry))) d who characteristic offset (len (now (out .entry))) ⌝ }
-    ensures { λ r. ⌜ now (out .exit) ≡ tableAfter (saidOf (r .answer)) (readOctets (tables (now (groups .entry)) (now (tracks .entry)) (now (segments .entry)) (now (text .entry))) d who characteristic offset) (now (out .entry)) ⌝ }
+    ensures { λ r. ⌜ leftBy r ≡ readCall (tables (now (groups .entry)) (now (tracks .entry)) (now (segments .entry)) (now (text .entry))) d who service characteristic offset (len (now (out .entry))) ⌝ }
+    ensures { λ r. ⌜ now (out .exit) ≡ tableAfter (saidOf (r .answer)) (readOctets (tables (now (groups .entry)) (now (tracks .entry)) (now (segments .entry)) (now (text .entry))) d who service characteristic offset) (now (out .entry)) ⌝ }
 {
     let g = read_gate(
         groups,
@@ -91,6 +95,7 @@ pub fn read(
         text,
         d,
         who,
+        service,
         characteristic,
         offset,
         out.len(),
@@ -98,15 +103,17 @@ pub fn read(
     if !g.passes {
         return desk_replies::shut(g, d);
     }
-    let p = d.player;
-    let c = desk_state::client_at(d, who);
+    let s = desk_state::service_at(d, service);
+    let l = desk_state::link_at(d, who);
+    let a = desk_state::account_in(s, who);
+    let p = s.player;
     let h = player_values::hold(tracks, text, p, characteristic);
     let from = ground::wide_word(offset);
-    let most = ground::wide_word(c.link.mtu - 1);
+    let most = ground::wide_word(l.mtu - 1);
     let n = player_values::hand(out, h, from, most);
-    let a = c.account;
     let next = after_read(a, characteristic, offset);
-    let e = desk_state::with_account(d, who, next);
+    let told = desk_state::with_account(s, who, next);
+    let e = desk_state::with_service(d, service, told);
     desk_replies::left(desk_replies::Answer::Octets(n), e)
 }
 
@@ -138,10 +145,11 @@ fn write_gate(
     text: &[u8],
     d: desk_state::Desk,
     who: u32,
+    service: u32,
     characteristic: u32,
     value: &[u8],
 ) -> desk_replies::Gate
-    ensures { λ r. ⌜ Gated (fronted (tables (now (groups .entry)) (now (tracks .entry)) (now (segments .entry)) (now (text .entry))) false d ++ writeRows who (caller d who .link .connected) (caller d who .link .encrypted) (caller d who .account .waiting) characteristic (now (value .entry))) r ⌝ }
+    ensures { λ r. ⌜ Gated (fronted (tables (now (groups .entry)) (now (tracks .entry)) (now (segments .entry)) (now (text .entry))) false d ++ writerRows d who service characteristic (now (value .entry))) r ⌝ }
 {
     let g = desk_replies::characteristic_gate(
         groups,
@@ -151,6 +159,7 @@ fn write_gate(
         false,
         d,
         who,
+        service,
         characteristic,
         ground::NOT_WRITABLE,
         desk_slots::may_write(characteristic),
@@ -166,7 +175,8 @@ fn write_gate(
     if (characteristic == 15) & !order {
         return desk_replies::gate_shut(ground::BAD_ORDER);
     }
-    let a = desk_state::account_at(d, who);
+    let s = desk_state::service_at(d, service);
+    let a = desk_state::account_in(s, who);
     if (characteristic == 18) & (desk_client::MOST_RESULTS <= a.waiting) {
         return desk_replies::gate_shut(ground::TOO_MANY_RESULTS);
     }
@@ -189,26 +199,26 @@ fn control(
     tracks: &[u32],
     segments: &[u32],
     text: &[u8],
-    d: desk_state::Desk,
+    s: desk_state::Service,
     who: u32,
     value: &[u8],
-) -> desk_state::Desk
+) -> desk_state::Service
     requires { ⌜ Right (tables (now groups) (now tracks) (now segments) (now text)) ⌝ }
-    requires { ⌜ playerRule (now groups) (now tracks) (d .player) ≡ true ⌝ }
+    requires { ⌜ playerRule (now groups) (now tracks) (s .player) ≡ true ⌝ }
     requires { ⌜ who < clientCount ⌝ }
-    ensures { λ r. ⌜ r ≡ controlWritten (tables (now (groups .entry)) (now (tracks .entry)) (now (segments .entry)) (now (text .entry))) d who (now (value .entry)) ⌝ }
+    ensures { λ r. ⌜ r ≡ controlWritten (tables (now (groups .entry)) (now (tracks .entry)) (now (segments .entry)) (now (text .entry))) s who (now (value .entry)) ⌝ }
 {
-    let p = d.player;
+    let p = s.player;
     let opcode = ground::octet_or_zero(value, 0);
     let number = number_of(value);
     let done = player_moves::control(groups, tracks, segments, p, opcode, number);
     let q = done.player;
     let code = done.result;
     let cause = desk_notices::by_writer(who, 18);
-    let e = desk_notices::settle(tracks, text, d, q, cause);
-    let a = desk_state::account_at(e, who);
+    let t = desk_notices::settle(tracks, text, s, q, cause);
+    let a = desk_state::account_in(t, who);
     let next = desk_client::note_result(a, opcode, code);
-    desk_state::with_account(e, who, next)
+    desk_state::with_account(t, who, next)
 }
 
 // What a write does.
@@ -217,36 +227,36 @@ fn carry_out(
     tracks: &[u32],
     segments: &[u32],
     text: &[u8],
-    d: desk_state::Desk,
+    s: desk_state::Service,
     who: u32,
     characteristic: u32,
     value: &[u8],
-) -> desk_state::Desk
+) -> desk_state::Service
     requires { ⌜ Right (tables (now groups) (now tracks) (now segments) (now text)) ⌝ }
-    requires { ⌜ playerRule (now groups) (now tracks) (d .player) ≡ true ⌝ }
+    requires { ⌜ playerRule (now groups) (now tracks) (s .player) ≡ true ⌝ }
     requires { ⌜ who < clientCount ⌝ }
     requires { ⌜ (characteristic ≡ 7 → 4 ≤ len (now value)) ⌝ }
-    ensures { λ r. ⌜ r ≡ written (tables (now (groups .entry)) (now (tracks .entry)) (now (segments .entry)) (now (text .entry))) d who characteristic (now (value .entry)) ⌝ }
+    ensures { λ r. ⌜ r ≡ written (tables (now (groups .entry)) (now (tracks .entry)) (now (segments .entry)) (now (text .entry))) s who characteristic (now (value .entry)) ⌝ }
 {
-    let p = d.player;
+    let p = s.player;
     let first = ground::octet_or_zero(value, 0);
     if characteristic == 7 {
         let number = ground::word_at(value, 0);
         let q = player_moves::write_position(tracks, p, number);
         let cause = desk_notices::by_writer(who, 7);
-        return desk_notices::settle(tracks, text, d, q, cause);
+        return desk_notices::settle(tracks, text, s, q, cause);
     }
     if characteristic == 8 {
         let q = player_state::with_speed(p, first);
         let cause = desk_notices::by_writer(who, 8);
-        return desk_notices::settle(tracks, text, d, q, cause);
+        return desk_notices::settle(tracks, text, s, q, cause);
     }
     if characteristic == 15 {
         let q = player_state::with_order(p, first);
         let cause = desk_notices::by_writer(who, 15);
-        return desk_notices::settle(tracks, text, d, q, cause);
+        return desk_notices::settle(tracks, text, s, q, cause);
     }
-    control(groups, tracks, segments, text, d, who, value)
+    control(groups, tracks, segments, text, s, who, value)
 }
 
 // A client writes a characteristic.
@@ -257,10 +267,11 @@ pub fn write(
     text: &[u8],
     d: desk_state::Desk,
     who: u32,
+    service: u32,
     characteristic: u32,
     value: &[u8],
 ) -> desk_replies::Outcome
-    ensures { λ r. ⌜ leftBy r ≡ writeCall (tables (now (groups .entry)) (now (tracks .entry)) (now (segments .entry)) (now (text .entry))) d who characteristic (now (value .entry)) ⌝ }
+    ensures { λ r. ⌜ leftBy r ≡ writeCall (tables (now (groups .entry)) (now (tracks .entry)) (now (segments .entry)) (now (text .entry))) d who service characteristic (now (value .entry)) ⌝ }
 {
     let g = write_gate(
         groups,
@@ -269,21 +280,24 @@ pub fn write(
         text,
         d,
         who,
+        service,
         characteristic,
         value,
     );
     if !g.passes {
         return desk_replies::shut(g, d);
     }
-    let e = carry_out(
+    let s = desk_state::service_at(d, service);
+    let written = carry_out(
         groups,
         tracks,
         segments,
         text,
-        d,
+        s,
         who,
         characteristic,
         value,
     );
+    let e = desk_state::with_service(d, service, written);
     desk_replies::left(desk_replies::Answer::Done, e)
 }

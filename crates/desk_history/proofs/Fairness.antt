@@ -47,16 +47,16 @@ module _ (S : System) (m n : ℕ) (L : Laws S m n) (c s : ℕ) (hc : c < m) (hs 
   falls : (k : S .Call) (st : S .State) (a : Handout) → S .Good st → S .out k st ≡ some a → isFor c s a ≡ false → 1 ≤ S .backlog st c s
       → potential (S .step k st) < potential st
   unfolding potential
-  falls k st a g e other w = go (eqb c (a .client)) refl (eqb s (a .slot)) refl
+  falls k st a g e other w = go (eqb c (a .client)) refl (eqb s (a .place)) refl
     where
       -- another slot of the same client
-      slot : c ≡ a .client → (s ≡ a .slot → ⊥) → potential (S .step k st) < potential st
+      slot : c ≡ a .client → (s ≡ a .place → ⊥) → potential (S .step k st) < potential st
       slot ec ns =
-          let moved : S .slast (S .step k st) c ≡ a .slot = rw ec (L .slast-served k st a g e) in
+          let moved : S .slast (S .step k st) c ≡ a .place = rw ec (L .slast-served k st a g e) in
           let last : S .last (S .step k st) ≡ c = L .last-served k st a g e ∙ sym ec in
-          let first : dist n (S .slast st c) (a .slot) ≤ dist n (S .slast st c) s = rw ec (L .first-slot k st a g e s hs (rw (← ec) w)) in
-          let nearer : dist n (a .slot) s < dist n (S .slast st c) s =
-          dist-falls n (S .slast st c) (a .slot) s (L .slast< st c g hc) (L .slot< k st a g e) hs ns first in
+          let first : dist n (S .slast st c) (a .place) ≤ dist n (S .slast st c) s = rw ec (L .first-slot k st a g e s hs (rw (← ec) w)) in
+          let nearer : dist n (a .place) s < dist n (S .slast st c) s =
+          dist-falls n (S .slast st c) (a .place) s (L .slast< st c g hc) (L .slot< k st a g e) hs ns first in
           rw (moved, last) (omega (arith, mul-le-mul-right m nearer, dist-self m c hc, dist-range m (S .last st) c (L .last< st g) hc .0))
 
       -- another client
@@ -66,9 +66,9 @@ module _ (S : System) (m n : ℕ) (L : Laws S m n) (c s : ℕ) (hc : c < m) (hs 
           rw (L .slast-other k st a g e c nc, L .last-served k st a g e)
           (omega (arith, dist-falls m (S .last st) (a .client) c (L .last< st g) (L .client< k st a g e) hc nc first))
 
-      go : (t : Bool) → eqb c (a .client) ≡ t → (u : Bool) → eqb s (a .slot) ≡ u → potential (S .step k st) < potential st
+      go : (t : Bool) → eqb c (a .client) ≡ t → (u : Bool) → eqb s (a .place) ≡ u → potential (S .step k st) < potential st
       go true p true q = absurd (true≢false (rw (p, q) at other))
-      go true p false q = slot (eqb-true c (a .client) p) (eqb-false s (a .slot) q)
+      go true p false q = slot (eqb-true c (a .client) p) (eqb-false s (a .place) q)
       go false p u q = client (eqb-false c (a .client) p)
 
   -- from st on, with the answers l to come: of what waits now, the thing at place j, 0 the oldest, is countFor by the answer N, once N is as large as

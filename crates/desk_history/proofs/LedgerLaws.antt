@@ -4,43 +4,38 @@ use mathlib.Core.Bool.{Bool, true, false, not, _&&_, _||_, true≢false}
 use mathlib.Core.Logic.{_⊎_, inl, inr, ⊎-elim}
 use mathlib.Core.Option.{Option, none, some}
 use mathlib.Core.List.{List, [], _∷_, _++_}
-use Prim.Native.Nat.{ℕ, suc, _+_, _-_, _≤_, _<_, zero-le, suc-le-suc}
+use Prim.Native.Nat.{ℕ, suc, _-_, _≤_, _<_, zero-le, suc-le-suc}
 use native.Mathlib.Decide.{ℕ-discrete}
-use native.Mathlib.Nat.{le-refl, le-of-eq}
+use native.Mathlib.Nat.{le-refl, le-of-eq, le-trans}
 use native.Mathlib.Omega.{arith}
 use borrow.Author.Tests.{eq-eqb, ne-eqb, eqb-true, leb-false}
 use lib.Dec.{eqb, leb}
 use lib.ListN.{length, length-append}
 use Rattle.ground.specs.Cases.{pick}
 use Rattle.ground.specs.Words.{wordAt}
-use Rattle.ground.proofs.Cases.{past, here, clash}
+use Rattle.ground.proofs.Cases.{clash}
 use Rattle.catalogue_tables.specs.Tables.{Tables}
 use Rattle.player_state.specs.declared.Player.{Player}
 use Rattle.player_state.specs.Player.{renamed, deactivated, withOrder, withSpeed}
 use Rattle.player_moves.specs.Clock.{advanced, positioned, activated}
 use Rattle.ground.specs.Refusals.{accepted}
-use Rattle.desk_slots.specs.Slots.{placeCount, clientCount, slotOf}
+use Rattle.desk_slots.specs.Slots.{placeCount, clientCount, slotOf, placeOf, serviceOf, slotAt}
 use Rattle.desk_slots.specs.Round.{dist}
 use Rattle.desk_slots.proofs.NextLaws.{Nearest, next-hit, next-nearest}
+use Rattle.desk_slots.proofs.PlaceLaws.{place-again}
 use Rattle.desk_client.specs.declared.Entry.{Entry}
 use Rattle.desk_client.specs.Client.{controlSlot}
 use Rattle.desk_notices.specs.declared.Cause.{Cause}
 use Rattle.desk_notices.specs.Owed.{noWriter, byWriter}
-use Rattle.desk_console.specs.Console.{nameRows, activateRows, quietAdvance}
+use Rattle.desk_console.specs.Console.{nameRows, activateRows, serviceRows, quietAdvance}
 use Rattle.desk_exchange.specs.Write.{firstOctet}
 use Rattle.desk_history.specs.Calls.{Call, setName, activate, deactivate, advance, connect, disconnect, subscribe, unsubscribe, read, write, take}
-use Rattle.desk_history.specs.Ledger.{Side, Ledger, onAccount, linked, nobody, mayConnect, asks, mayJoin, mayRead, mayTake, changing, noticing, becoming, joining, leaving, reading, resulting, behind, serving, passing, owes, owedAny, nextIn, slotIn, servingNext, outcome, resultOf, controlWriting, mayWrite, writing, after}
+use Rattle.desk_history.specs.Ledger.{Line, Claims, Book, Ledger, noClaims, lineOf, noLine, inService, changing, relinking, mayConnect, mayLeave, mayJoin, mayRead, mayWrite, mayTake, noticing, becoming, joining, leaving, reading, resulting, behind, serving, passing, owedAt, owedAny, nextIn, placeIn, servingAt, outcome, resultOf, controlWriting, writing, after}
 use Rattle.desk_history.specs.Rounds.{Handout, isFor, System, Laws}
 use Rattle.desk_history.specs.History.{answerIn, dueOut}
-use Rattle.desk_history.proofs.Serving.{backlog, owes-of, owed-any, any-owed}
+use Rattle.desk_history.proofs.Serving.{backlog, backlogAt, owes-of, owed-any, any-owed}
 
--- ---- what a side loses by a call that hands out nothing, while its interest in s is kept: nothing
-abbrev Quiet : ℕ → Side → Side → Type 0
-Quiet s x y = (y .link .last ≡ x .link .last) × (backlog x s ≤ backlog y s)
-
-quiet-same : (s : ℕ) (x : Side) → Quiet s x x
-quiet-same s x = (refl, le-refl _)
-
+-- ---- what an account loses by a call that hands out nothing, while its interest in s is kept: nothing
 bit-up : (b d : Bool) → pick b 1 0 ≤ pick (b || d) 1 0
 bit-up true d = le-refl 1
 bit-up false d = zero-le
@@ -61,123 +56,151 @@ by-slot s a b c d f g =
       | no n ↦ subst (λ (t : Bool). pick t a b ≤ pick t c d) (sym (ne-eqb s controlSlot n)) (g n)
     ]
 
-module _ (s : ℕ) (x : Side) where
-  quiet-told : (k : Tables) (p q : Player) (cause : Cause) (who : ℕ) → Quiet s x (onAccount (noticing k p q cause who) x)
-  quiet-told k p q cause who = (refl, by-slot s _ _ _ _ (λ e. le-refl _) (λ n. bit-up (x .account .due s) _))
+module _ (s : ℕ) (x : Claims) where
+  abbrev Held : Claims → Type 0
+  Held y = backlog x s ≤ backlog y s
 
-  quiet-joining : (t : ℕ) → Quiet s x (onAccount (joining t) x)
-  quiet-joining t = (refl, le-refl _)
+  held-told : (k : Tables) (p q : Player) (cause : Cause) (who : ℕ) → Held (noticing k p q cause who x)
+  held-told k p q cause who = by-slot s _ _ _ _ (λ e. le-refl _) (λ n. bit-up (x .due s) _)
 
   kept-slot : (a b : Bool) → (a && not b) ≡ true → b ≡ false
   kept-slot true true e = clash e
   kept-slot true false e = refl
   kept-slot false b e = clash e
 
-  quiet-leaving : (t : ℕ) → leaving t (x .account) .wants s ≡ true → Quiet s x (onAccount (leaving t) x)
-  quiet-leaving t e =
-      let other : eqb t s ≡ false = kept-slot (x .account .wants s) (eqb t s) e in (
-        refl,
-        by-slot s _ _ _ _
-            (λ q. le-of-eq (ap (λ (b : Bool). length (pick b [] (x .account .waiting))) (sym (sym (ap (eqb t) q) ∙ other))))
-            (λ n. bit-kept (x .account .due s) (eqb t s) other),
-      )
+  held-leaving : (t : ℕ) → leaving t x .wants s ≡ true → Held (leaving t x)
+  held-leaving t e =
+      let other : eqb t s ≡ false = kept-slot (x .wants s) (eqb t s) e in
+      by-slot s _ _ _ _
+      (λ q. le-of-eq (ap (λ (b : Bool). length (pick b [] (x .waiting))) (sym (sym (ap (eqb t) q) ∙ other))))
+      (λ n. bit-kept (x .due s) (eqb t s) other)
 
-  quiet-reading : (y offset : ℕ) → Quiet s x (onAccount (reading y offset) x)
-  quiet-reading y offset = (refl, le-refl _)
-
-  quiet-resulting : (e : Entry) → Quiet s x (onAccount (resulting e) x)
-  quiet-resulting e = (refl, by-slot s _ _ _ _ (λ q. grows (x .account .wants controlSlot)) (λ n. le-refl _))
+  held-resulting : (e : Entry) → Held (resulting e x)
+  held-resulting e = by-slot s _ _ _ _ (λ q. grows (x .wants controlSlot)) (λ n. le-refl _)
     where
-      grows : (t : Bool) → length (x .account .waiting) ≤ length (pick t (x .account .waiting ++ (e ∷ [])) (x .account .waiting))
-      grows true = more (x .account .waiting) (e ∷ [])
+      grows : (t : Bool) → length (x .waiting) ≤ length (pick t (x .waiting ++ (e ∷ [])) (x .waiting))
+      grows true = more (x .waiting) (e ∷ [])
       grows false = le-refl _
 
--- ---- the same of the whole, for client c
-abbrev Still : ℕ → ℕ → Ledger → Ledger → Type 0
-Still c s L M = (M .turn ≡ L .turn) × Quiet s (L .side c) (M .side c)
-
+-- ---- the same of a service, for client c
 module _ (c s : ℕ) where
-  abbrev Wants : Ledger → Type 0
-  Wants M = M .side c .account .wants s ≡ true
+  abbrev WantsIn : Book → Type 0
+  WantsIn d = d .account c .wants s ≡ true
 
-  still-same : (L : Ledger) → Still c s L L
-  still-same L = (refl, quiet-same s (L .side c))
+  abbrev HeldIn : Book → Book → Type 0
+  HeldIn b d = Held s (b .account c) (d .account c)
+
+  in-changing : (who : ℕ) (f : Claims → Claims) (b : Book) → (f (b .account c) .wants s ≡ true → Held s (b .account c) (f (b .account c)))
+      → WantsIn (changing who f b) → HeldIn b (changing who f b)
+  in-changing who f b g = go (eqb c who)
+    where
+      go : (t : Bool) → pick t (f (b .account c)) (b .account c) .wants s ≡ true → Held s (b .account c) (pick t (f (b .account c)) (b .account c))
+      go true h = g h
+      go false h = le-refl _
+
+  in-becoming : (k : Tables) (cause : Cause) (q : Player) (b : Book) → HeldIn b (becoming k cause q b)
+  in-becoming k cause q b = held-told s (b .account c) k (b .player) q cause c
+
+  -- by a test: one, or the other
+  in-either : (t : Bool) (b d e : Book) → (WantsIn d → HeldIn b d) → (WantsIn e → HeldIn b e) → WantsIn (pick t d e) → HeldIn b (pick t d e)
+  in-either true b d e f g h = f h
+  in-either false b d e f g h = g h
+
+  in-writing : (k : Tables) (who x : ℕ) (value : List ℕ) (b : Book) → WantsIn (writing k who x value b) → HeldIn b (writing k who x value b)
+  in-writing k who x value b =
+      in-either (eqb x 7) b (becoming k (byWriter who 7) (positioned (k .tracks) (wordAt value 0) (b .player)) b) _ (λ h. in-becoming k _ _ b)
+      (in-either (eqb x 8) b (becoming k (byWriter who 8) (withSpeed (firstOctet value) (b .player)) b) _ (λ h. in-becoming k _ _ b)
+      (in-either (eqb x 15) b (becoming k (byWriter who 15) (withOrder (firstOctet value) (b .player)) b) (controlWriting k who value b) (λ h. in-becoming k _ _ b)
+      control))
+    where
+      control : WantsIn (controlWriting k who value b) → HeldIn b (controlWriting k who value b)
+      control h =
+          let told = becoming k (byWriter who 18) (outcome k b value .player) b in
+          le-trans (in-becoming k (byWriter who 18) (outcome k b value .player) b)
+          (in-changing who (resulting (resultOf k b value)) told (λ w. held-resulting s (told .account c) (resultOf k b value)) h)
+
+-- ---- the same of the whole, for client c, service v and slot s
+module _ (c v s : ℕ) where
+  abbrev Wants : Ledger → Type 0
+  Wants M = WantsIn c s (M .service v)
+
+  abbrev Still : Ledger → Ledger → Type 0
+  Still L M = (M .turn ≡ L .turn) × (M .link c .last ≡ L .link c .last) × HeldIn c s (L .service v) (M .service v)
+
+  still-same : (L : Ledger) → Still L L
+  still-same L = (refl, refl, le-refl _)
 
   -- by a test: the other ledger, or the same
-  still-if : (t : Bool) (M L : Ledger) → (Wants M → Still c s L M) → Wants (pick t M L) → Still c s L (pick t M L)
-  still-if true M L f w = f w
-  still-if false M L f w = still-same L
+  still-if : (t : Bool) (M L : Ledger) → (Wants M → Still L M) → Wants (pick t M L) → Still L (pick t M L)
+  still-if true M L f h = f h
+  still-if false M L f h = still-same L
 
-  still-changing : (who : ℕ) (f : Side → Side) (L : Ledger) → (f (L .side c) .account .wants s ≡ true → Quiet s (L .side c) (f (L .side c)))
-      → Wants (changing who f L) → Still c s L (changing who f L)
-  still-changing who f L g w = (refl, go (eqb c who) w)
+  still-in : (t : Bool) (w : ℕ) (f : Book → Book) (L : Ledger) → ((b : Book) → WantsIn c s (f b) → HeldIn c s b (f b))
+      → Wants (pick t (inService w f L) L) → Still L (pick t (inService w f L) L)
+  still-in t w f L g = still-if t (inService w f L) L (λ h. (refl, refl, go (eqb v w) h))
     where
-      go : (t : Bool) → pick t (f (L .side c)) (L .side c) .account .wants s ≡ true → Quiet s (L .side c) (pick t (f (L .side c)) (L .side c))
-      go true h = g h
-      go false h = quiet-same s (L .side c)
+      go : (u : Bool) → WantsIn c s (pick u (f (L .service v)) (L .service v)) → HeldIn c s (L .service v) (pick u (f (L .service v)) (L .service v))
+      go true h = g (L .service v) h
+      go false h = le-refl _
 
-  still-becoming : (k : Tables) (cause : Cause) (q : Player) (L : Ledger) → Still c s L (becoming k cause q L)
-  still-becoming k cause q L = (refl, quiet-told s (L .side c) k (L .player) q cause c)
+  still-told : (k : Tables) (t : Bool) (w : ℕ) (cause : Player → Cause) (q : Player → Player) (L : Ledger)
+      → Wants (pick t (inService w (λ b. becoming k (cause (b .player)) (q (b .player)) b) L) L)
+      → Still L (pick t (inService w (λ b. becoming k (cause (b .player)) (q (b .player)) b) L) L)
+  still-told k t w cause q L =
+      still-in t w (λ b. becoming k (cause (b .player)) (q (b .player)) b) L (λ b h. in-becoming c s k (cause (b .player)) (q (b .player)) b)
 
-  still-both : (L M N : Ledger) → Still c s L M → Still c s M N → Still c s L N
-  still-both L M N f g = (g .0 ∙ f .0, (g .1 .0 ∙ f .1 .0, omega (arith, f .1 .1, g .1 .1)))
+  still-changing : (t : Bool) (w who : ℕ) (f : Claims → Claims) (L : Ledger) → ((x : Claims) → f x .wants s ≡ true → Held s x (f x))
+      → Wants (pick t (inService w (changing who f) L) L) → Still L (pick t (inService w (changing who f) L) L)
+  still-changing t w who f L g = still-in t w (changing who f) L (λ b. in-changing c s who f b (g (b .account c)))
+
+  -- who is linked anew wants nothing
+  still-relinking : (t : Bool) (who : ℕ) (line : Line) (L : Ledger) → Wants (pick t (relinking who line L) L) → Still L (pick t (relinking who line L) L)
+  still-relinking t who line L = still-if t (relinking who line L) L (λ h. let w = go (eqb c who) h in (refl, w .0, w .1))
+    where
+      go : (u : Bool) → pick u noClaims (L .service v .account c) .wants s ≡ true
+          → (pick u line (L .link c) .last ≡ L .link c .last) × Held s (L .service v .account c) (pick u noClaims (L .service v .account c))
+      go true h = clash h
+      go false h = (refl, le-refl _)
 
 -- ---- a call that hands out nothing
 found : Option Handout → Bool
 found none = false
 found (some a) = true
 
-module _ (k : Tables) (c s : ℕ) where
-  still : (call : Call) (L : Ledger) → dueOut k call L ≡ none → Wants c s (after k call L) → Still c s L (after k call L)
+module _ (k : Tables) (c v s : ℕ) where
+  still : (call : Call) (L : Ledger) → dueOut k call L ≡ none → Wants c v s (after k call L) → Still c v s L (after k call L)
   unfolding found
-  still (setName name) L e w = still-if c s (accepted (nameRows name)) (becoming k (noWriter false) (renamed name (L .player)) L) L (λ v. still-becoming c s k (noWriter false) (renamed name (L .player)) L) w
-  still (activate g) L e w = still-if c s (accepted (activateRows k g)) (becoming k (noWriter false) (activated (k .groups) (k .tracks) g (L .player)) L) L (λ v. still-becoming c s k (noWriter false) (activated (k .groups) (k .tracks) g (L .player)) L) w
-  still deactivate L e w = still-becoming c s k (noWriter false) (deactivated (L .player)) L
-  still (advance step) L e w = still-becoming c s k (noWriter (quietAdvance (k .tracks) step (L .player))) (advanced (k .groups) (k .tracks) step (L .player)) L
-  still (connect who mtu encrypted) L e w = still-if c s (mayConnect L who mtu) (changing who (λ y. linked true encrypted mtu) L) L (still-changing c s who (λ y. linked true encrypted mtu) L (λ h. clash h)) w
-  still (disconnect who) L e w = still-if c s (asks L who) (changing who (λ y. nobody) L) L (still-changing c s who (λ y. nobody) L (λ h. clash h)) w
-  still (subscribe who x) L e w = still-if c s (mayJoin L who x) (changing who (onAccount (joining (slotOf x))) L) L (still-changing c s who (onAccount (joining (slotOf x))) L (λ h. quiet-joining s (L .side c) (slotOf x))) w
-  still (unsubscribe who x) L e w = still-if c s (mayJoin L who x) (changing who (onAccount (leaving (slotOf x))) L) L (still-changing c s who (onAccount (leaving (slotOf x))) L (λ h. quiet-leaving s (L .side c) (slotOf x) h)) w
-  still (read who x offset room) L e w = still-if c s (mayRead k L who x offset room) (changing who (onAccount (reading x offset)) L) L (still-changing c s who (onAccount (reading x offset)) L (λ h. quiet-reading s (L .side c) x offset)) w
-  still (write who x value) L e w = still-if c s (mayWrite L who x value) (writing k L who x value) L written w
-    where
-      written : Wants c s (writing k L who x value) → Still c s L (writing k L who x value)
-      written = one (eqb x 7) (eqb x 8) (eqb x 15)
-        where
-          control : Wants c s (controlWriting k L who value) → Still c s L (controlWriting k L who value)
-          control h =
-              still-both c s L (becoming k (byWriter who 18) (outcome k L value .player) L) (controlWriting k L who value)
-              (still-becoming c s k (byWriter who 18) (outcome k L value .player) L)
-              (still-changing c s who (onAccount (resulting (resultOf k L value))) (becoming k (byWriter who 18) (outcome k L value .player) L) (λ v. quiet-resulting s (becoming k (byWriter who 18) (outcome k L value .player) L .side c) (resultOf k L value)) h)
-
-          one : (t u v : Bool)
-              → Wants c s (pick t (becoming k (byWriter who 7) (positioned (k .tracks) (wordAt value 0) (L .player)) L)
-              (pick u (becoming k (byWriter who 8) (withSpeed (firstOctet value) (L .player)) L)
-              (pick v (becoming k (byWriter who 15) (withOrder (firstOctet value) (L .player)) L) (controlWriting k L who value))))
-              → Still c s L (pick t (becoming k (byWriter who 7) (positioned (k .tracks) (wordAt value 0) (L .player)) L)
-              (pick u (becoming k (byWriter who 8) (withSpeed (firstOctet value) (L .player)) L)
-              (pick v (becoming k (byWriter who 15) (withOrder (firstOctet value) (L .player)) L) (controlWriting k L who value))))
-          one true u v h = still-becoming c s k (byWriter who 7) (positioned (k .tracks) (wordAt value 0) (L .player)) L
-          one false true v h = still-becoming c s k (byWriter who 8) (withSpeed (firstOctet value) (L .player)) L
-          one false false true h = still-becoming c s k (byWriter who 15) (withOrder (firstOctet value) (L .player)) L
-          one false false false h = control h
-  still (take room) L e w = go (mayTake room) (leb clientCount (nextIn L)) e
+  still (setName w name) L e = still-told c v s k (accepted (nameRows w name)) w (λ p. noWriter false) (renamed name) L
+  still (activate w g) L e = still-told c v s k (accepted (activateRows k w g)) w (λ p. noWriter false) (activated (k .groups) (k .tracks) g) L
+  still (deactivate w) L e = still-told c v s k (accepted (serviceRows w)) w (λ p. noWriter false) deactivated L
+  still (advance w step) L e =
+      still-told c v s k (accepted (serviceRows w)) w (λ p. noWriter (quietAdvance (k .tracks) step p)) (advanced (k .groups) (k .tracks) step) L
+  still (connect who mtu encrypted) L e = still-relinking c v s (mayConnect L who mtu) who (lineOf true encrypted mtu) L
+  still (disconnect who) L e = still-relinking c v s (mayLeave L who) who noLine L
+  still (subscribe who w x) L e = still-changing c v s (mayJoin L who w x) w who (joining (slotOf x)) L (λ y h. le-refl _)
+  still (unsubscribe who w x) L e = still-changing c v s (mayJoin L who w x) w who (leaving (slotOf x)) L (λ y. held-leaving s y (slotOf x))
+  still (read who w x offset room) L e = still-changing c v s (mayRead k L who w x offset room) w who (reading x offset) L (λ y h. le-refl _)
+  still (write who w x value) L e = still-in c v s (mayWrite L who w x value) w (writing k who x value) L (in-writing c s k who x value)
+  still (take room) L e = λ h. go (mayTake room) (leb clientCount (nextIn L)) e
     where
       go : (t u : Bool) → pick t (pick u none (some (answerIn k L (nextIn L)))) none ≡ none
-          → Still c s L (pick t (pick u L (servingNext L (nextIn L))) L)
-      go true true h = still-same c s L
-      go true false h = absurd (true≢false (ap found h))
-      go false u h = still-same c s L
+          → Still c v s L (pick t (pick u L (servingAt L (nextIn L) (placeIn L (nextIn L)))) L)
+      go true true z = still-same c v s L
+      go true false z = absurd (true≢false (ap found z))
+      go false u z = still-same c v s L
 
--- ---- a call that hands out something is a take, and serves the next slot of the next client
+-- ---- a call that hands out something is a take, and serves the next place of the next client
 orElse : Handout → Option Handout → Handout
 orElse a none = a
 orElse a (some b) = b
 
+abbrev pub servingNext : Ledger → Ledger
+servingNext L = servingAt L (nextIn L) (placeIn L (nextIn L))
+
 pub record Serves (k : Tables) (call : Call) (L : Ledger) (a : Handout) : Type 0 where
   pub is : a ≡ answerIn k L (nextIn L)
   pub inside : nextIn L < clientCount
-  pub leaves : after k call L ≡ servingNext L (nextIn L)
+  pub leaves : after k call L ≡ servingNext L
 
 module _ (k : Tables) where
   never : {A : Type 0} (a : Handout) → none ≡ some a → A
@@ -186,16 +209,16 @@ module _ (k : Tables) where
 
   pub serves : (call : Call) (L : Ledger) (a : Handout) → dueOut k call L ≡ some a → Serves k call L a
   unfolding orElse found
-  serves (setName name) L a e = never a e
-  serves (activate g) L a e = never a e
-  serves deactivate L a e = never a e
-  serves (advance step) L a e = never a e
+  serves (setName w name) L a e = never a e
+  serves (activate w g) L a e = never a e
+  serves (deactivate w) L a e = never a e
+  serves (advance w step) L a e = never a e
   serves (connect who mtu encrypted) L a e = never a e
   serves (disconnect who) L a e = never a e
-  serves (subscribe who x) L a e = never a e
-  serves (unsubscribe who x) L a e = never a e
-  serves (read who x offset room) L a e = never a e
-  serves (write who x value) L a e = never a e
+  serves (subscribe who w x) L a e = never a e
+  serves (unsubscribe who w x) L a e = never a e
+  serves (read who w x offset room) L a e = never a e
+  serves (write who w x value) L a e = never a e
   serves (take room) L a e = go (mayTake room) refl (leb clientCount (nextIn L)) refl e
     where
       go : (t : Bool) → mayTake room ≡ t → (u : Bool) → leb clientCount (nextIn L) ≡ u
@@ -205,13 +228,16 @@ module _ (k : Tables) where
           record {
             is = sym (ap (orElse a) h);
             inside = leb-false clientCount (nextIn L) q;
-            leaves = λ i. pick (p i) (pick (q i) L (servingNext L (nextIn L))) L;
+            leaves = λ i. pick (p i) (pick (q i) L (servingNext L)) L;
           }
       go false p u q h = never a h
 
--- ---- the system
+-- ---- the system: its slots are the places of a client's round
 abbrev pub InRange : Ledger → Type 0
-InRange L = (L .turn < clientCount) × ((c : ℕ) → c < clientCount → L .side c .link .last < placeCount)
+InRange L = (L .turn < clientCount) × ((c : ℕ) → c < clientCount → L .link c .last < placeCount)
+
+abbrev pub wantsAt : Ledger → ℕ → ℕ → Bool
+wantsAt L who place = L .service (serviceOf place) .account who .wants (slotAt place)
 
 abbrev pub ledgerSystem : Tables → System
 ledgerSystem k =
@@ -220,42 +246,58 @@ ledgerSystem k =
       Call = Call;
       step = after k;
       out = dueOut k;
-      backlog = λ L c. backlog (L .side c);
+      backlog = backlogAt;
       last = λ L. L .turn;
-      slast = λ L c. L .side c .link .last;
-      Keeps = λ c s call L. after k call L .side c .account .wants s ≡ true;
+      slast = λ L c. L .link c .last;
+      Keeps = λ c p call L. wantsAt (after k call L) c p ≡ true;
       Good = InRange;
     }
 
 module _ (L : Ledger) (good : InRange L) (inside : nextIn L < clientCount) where
-  abbrev served : Side
-  served = L .side (nextIn L)
-
   -- the next client is the nearest that is owed something
-  near : Nearest clientCount (λ c. owedAny (L .side c)) (L .turn) (nextIn L)
+  near : Nearest clientCount (owedAny L) (L .turn) (nextIn L)
   unfolding nextIn
-  near = next-hit clientCount (λ c. owedAny (L .side c)) (L .turn) (good .0) inside
+  near = next-hit clientCount (owedAny L) (L .turn) (good .0) inside
 
-  -- its next slot is the nearest that is owed
-  pub slot-near : Nearest placeCount (owes served) (served .link .last) (slotIn served)
-  unfolding slotIn
+  -- its next place is the nearest that is owed
+  pub slot-near : Nearest placeCount (owedAt L (nextIn L)) (L .link (nextIn L) .last) (placeIn L (nextIn L))
+  unfolding placeIn
   slot-near =
-      let w = any-owed served (near .holds) in
-      next-nearest placeCount (owes served) (served .link .last) (good .1 (nextIn L) inside) (w .0) (w .1) (w .2)
+      let w = any-owed L (nextIn L) (near .holds) in
+      next-nearest placeCount (owedAt L (nextIn L)) (L .link (nextIn L) .last) (good .1 (nextIn L) inside) (w .0) (w .1) (w .2)
 
-  pub client-near : (c s : ℕ) → c < clientCount → s < placeCount → owes (L .side c) s ≡ true → dist clientCount (L .turn) (nextIn L) ≤ dist clientCount (L .turn) c
-  client-near c s hc hs e = near .least c hc (owed-any (L .side c) s hs e)
+  client-near : (c p : ℕ) → c < clientCount → p < placeCount → owedAt L c p ≡ true → dist clientCount (L .turn) (nextIn L) ≤ dist clientCount (L .turn) c
+  client-near c p hc hp e = near .least c hc (owed-any L c p hp e)
 
--- the one that is served, and the others
-module _ (L : Ledger) (who : ℕ) where
-  abbrev then : ℕ → Side
-  then c = servingNext L who .side c
+-- the link and the account that are served, and the others
+module _ (L : Ledger) (who p : ℕ) where
+  abbrev then : Ledger
+  then = servingAt L who p
 
-  at-served : then who ≡ passing (slotIn (L .side who)) (L .side who)
-  at-served = sym (here (L .side who) (eq-eqb who who refl) refl)
+  link-served : then .link who ≡ passing p (L .link who)
+  link-served = λ i. pick (eq-eqb who who refl i) (passing p (L .link who)) (L .link who)
 
-  at-other : (c : ℕ) → (c ≡ who → ⊥) → then c ≡ L .side c
-  at-other c n = sym (past (passing (slotIn (L .side c)) (L .side c)) (ne-eqb c who n) refl)
+  link-other : (c : ℕ) → (c ≡ who → ⊥) → then .link c ≡ L .link c
+  link-other c n = λ i. pick (ne-eqb c who n i) (passing p (L .link c)) (L .link c)
+
+  -- a service with the slot served
+  abbrev with-served : ℕ → Book
+  with-served v = changing who (serving (slotAt p)) (L .service v)
+
+  pub account-served : then .service (serviceOf p) .account who ≡ serving (slotAt p) (L .service (serviceOf p) .account who)
+  account-served =
+      (λ i. pick (eq-eqb (serviceOf p) (serviceOf p) refl i) (with-served (serviceOf p)) (L .service (serviceOf p)) .account who)
+      ∙ (λ i. pick (eq-eqb who who refl i) (serving (slotAt p) (L .service (serviceOf p) .account who)) (L .service (serviceOf p) .account who))
+
+  pub account-elsewhere : (v c : ℕ) → (v ≡ serviceOf p → ⊥) → then .service v .account c ≡ L .service v .account c
+  account-elsewhere v c n = λ i. pick (ne-eqb v (serviceOf p) n i) (with-served v) (L .service v) .account c
+
+  pub account-other : (v c : ℕ) → (c ≡ who → ⊥) → then .service v .account c ≡ L .service v .account c
+  account-other v c n = go (eqb v (serviceOf p))
+    where
+      go : (t : Bool) → pick t (with-served v) (L .service v) .account c ≡ L .service v .account c
+      go true = λ i. pick (ne-eqb c who n i) (serving (slotAt p) (L .service v .account c)) (L .service v .account c)
+      go false = refl
 
 rest-length : (l : List Entry) → length l ≤ suc (length (behind l))
 rest-length [] = zero-le
@@ -265,45 +307,70 @@ bit-one : (b : Bool) (n : ℕ) → pick b 1 0 ≤ suc n
 bit-one true n = suc-le-suc zero-le
 bit-one false n = zero-le
 
-module _ (x : Side) (t : ℕ) where
+module _ (x : Claims) (t : ℕ) where
   -- serving a slot takes one thing from it
-  serving-takes : backlog x t ≤ suc (backlog (passing t x) t)
+  abbrev Takes : Bool → Type 0
+  Takes b =
+      pick b (length (x .waiting)) (pick (x .due t) 1 0)
+      ≤ suc (pick b (length (pick b (behind (x .waiting)) (x .waiting))) (pick (x .due t && not (eqb t t)) 1 0))
+
+  serving-takes : backlog x t ≤ suc (backlog (serving t x) t)
   serving-takes =
       elim (ℕ-discrete t controlSlot) [
-        | yes e ↦
-            subst (λ (b : Bool). pick b (length (x .account .waiting)) (pick (x .account .due t) 1 0) ≤ suc (pick b (length (pick b (behind (x .account .waiting)) (x .account .waiting))) (pick (x .account .due t && not (eqb t t)) 1 0)))
-            (sym (eq-eqb t controlSlot e)) (rest-length (x .account .waiting))
-        | no n ↦
-            subst (λ (b : Bool). pick b (length (x .account .waiting)) (pick (x .account .due t) 1 0) ≤ suc (pick b (length (pick b (behind (x .account .waiting)) (x .account .waiting))) (pick (x .account .due t && not (eqb t t)) 1 0)))
-            (sym (ne-eqb t controlSlot n)) (bit-one (x .account .due t) _)
+        | yes e ↦ subst Takes (sym (eq-eqb t controlSlot e)) (rest-length (x .waiting))
+        | no n ↦ subst Takes (sym (ne-eqb t controlSlot n)) (bit-one (x .due t) _)
       ]
 
   -- and nothing from another
-  serving-keeps : (s : ℕ) → (s ≡ t → ⊥) → backlog x s ≤ backlog (passing t x) s
+  serving-keeps : (s : ℕ) → (s ≡ t → ⊥) → backlog x s ≤ backlog (serving t x) s
   serving-keeps s n =
       let other : eqb t s ≡ false = ne-eqb t s (λ e. n (sym e)) in
       by-slot s _ _ _ _
-      (λ e. le-of-eq (ap (λ (b : Bool). length (pick b (behind (x .account .waiting)) (x .account .waiting))) (sym (sym (ap (eqb t) e) ∙ other))))
-      (λ m. bit-kept (x .account .due s) (eqb t s) other)
+      (λ e. le-of-eq (ap (λ (b : Bool). length (pick b (behind (x .waiting)) (x .waiting))) (sym (sym (ap (eqb t) e) ∙ other))))
+      (λ m. bit-kept (x .due s) (eqb t s) other)
 
--- an answer that is not for slot s of client c is for another client, or for another slot
-not-for : (c s : ℕ) (a : Handout) → isFor c s a ≡ false → (c ≡ a .client → ⊥) ⊎ ((c ≡ a .client) × (s ≡ a .slot → ⊥))
-not-for c s a e =
+-- the same of the whole, by place
+module _ (L : Ledger) (who p : ℕ) where
+  place-takes : backlogAt L who p ≤ suc (backlogAt (servingAt L who p) who p)
+  place-takes =
+      subst (λ (x : Claims). backlogAt L who p ≤ suc (backlog x (slotAt p))) (sym (account-served L who p))
+      (serving-takes (L .service (serviceOf p) .account who) (slotAt p))
+
+  unserved : (c q : ℕ) → servingAt L who p .service (serviceOf q) .account c ≡ L .service (serviceOf q) .account c
+      → backlogAt L c q ≤ backlogAt (servingAt L who p) c q
+  unserved c q e = le-of-eq (ap (λ (x : Claims). backlog x (slotAt q)) (sym e))
+
+  place-keeps : (q : ℕ) → (q ≡ p → ⊥) → backlogAt L who q ≤ backlogAt (servingAt L who p) who q
+  place-keeps q n =
+      elim (ℕ-discrete (serviceOf q) (serviceOf p)) [
+        | no m ↦ unserved who q (account-elsewhere L who p (serviceOf q) who m)
+        | yes e ↦
+            subst (λ (v : ℕ). backlog (L .service v .account who) (slotAt q) ≤ backlog (servingAt L who p .service v .account who) (slotAt q)) (sym e)
+            (subst (λ (x : Claims). backlog (L .service (serviceOf p) .account who) (slotAt q) ≤ backlog x (slotAt q)) (sym (account-served L who p))
+            (serving-keeps (L .service (serviceOf p) .account who) (slotAt p) (slotAt q) (λ f. n (sym (place-again q) ∙ (λ i. placeOf (e i) (f i)) ∙ place-again p))))
+      ]
+
+-- an answer that is not for place p of client c is for another client, or for another place
+not-for : (c p : ℕ) (a : Handout) → isFor c p a ≡ false → (c ≡ a .client → ⊥) ⊎ ((c ≡ a .client) × (p ≡ a .place → ⊥))
+not-for c p a e =
     elim (ℕ-discrete c (a .client)) [
       | no n ↦ inl n
-      | yes p ↦ inr (p, λ q. true≢false (sym (λ i. eq-eqb c (a .client) p i && eq-eqb s (a .slot) q i) ∙ e))
+      | yes r ↦ inr (r, λ q. true≢false (sym (λ i. eq-eqb c (a .client) r i && eq-eqb p (a .place) q i) ∙ e))
     ]
 
 for-both : (a b : Bool) → (a && b) ≡ true → (a ≡ true) × (b ≡ true)
 for-both true b e = (refl, e)
 for-both false b e = clash e
 
+abbrev Marked : Line → Type 0
+Marked x = x .last < placeCount
+
 -- ---- the marks of a call that hands out nothing: where they were, or at the end of the round
-abbrev Mark : Side → Side → Type 0
-Mark x y = (y .link .last ≡ x .link .last) ⊎ (y .link .last ≡ placeCount - 1)
+abbrev Mark : Line → Line → Type 0
+Mark x y = (y .last ≡ x .last) ⊎ (y .last ≡ placeCount - 1)
 
 abbrev Marks : Ledger → Ledger → Type 0
-Marks L M = (M .turn ≡ L .turn) × ((c : ℕ) → Mark (L .side c) (M .side c))
+Marks L M = (M .turn ≡ L .turn) × ((c : ℕ) → Mark (L .link c) (M .link c))
 
 marks-same : (L : Ledger) → Marks L L
 marks-same L = (refl, λ c. inl refl)
@@ -312,42 +379,36 @@ marks-if : (t : Bool) (M L : Ledger) → Marks L M → Marks L (pick t M L)
 marks-if true M L f = f
 marks-if false M L f = marks-same L
 
-marks-changing : (who : ℕ) (f : Side → Side) (L : Ledger) → ((x : Side) → Mark x (f x)) → Marks L (changing who f L)
-marks-changing who f L g = (refl, λ c. go c (eqb c who))
-  where
-    go : (c : ℕ) (t : Bool) → Mark (L .side c) (pick t (f (L .side c)) (L .side c))
-    go c true = g (L .side c)
-    go c false = inl refl
+marks-in : (t : Bool) (w : ℕ) (f : Book → Book) (L : Ledger) → Marks L (pick t (inService w f L) L)
+marks-in t w f L = marks-if t (inService w f L) L (refl, λ c. inl refl)
 
-marks-becoming : (k : Tables) (cause : Cause) (q : Player) (L : Ledger) → Marks L (becoming k cause q L)
-marks-becoming k cause q L = (refl, λ c. inl refl)
+marks-told : (k : Tables) (t : Bool) (w : ℕ) (cause : Player → Cause) (q : Player → Player) (L : Ledger)
+    → Marks L (pick t (inService w (λ b. becoming k (cause (b .player)) (q (b .player)) b) L) L)
+marks-told k t w cause q L = marks-in t w (λ b. becoming k (cause (b .player)) (q (b .player)) b) L
+
+marks-relinking : (t : Bool) (who : ℕ) (on safe : Bool) (mtu : ℕ) (L : Ledger) → Marks L (pick t (relinking who (lineOf on safe mtu) L) L)
+marks-relinking t who on safe mtu L = marks-if t (relinking who (lineOf on safe mtu) L) L (refl, λ c. go c (eqb c who))
+  where
+    go : (c : ℕ) (u : Bool) → Mark (L .link c) (pick u (lineOf on safe mtu) (L .link c))
+    go c true = inr refl
+    go c false = inl refl
 
 module _ (k : Tables) where
   marks : (call : Call) (L : Ledger) → dueOut k call L ≡ none → Marks L (after k call L)
   unfolding found
-  marks (setName name) L e = marks-if (accepted (nameRows name)) (becoming k (noWriter false) (renamed name (L .player)) L) L (marks-becoming k (noWriter false) (renamed name (L .player)) L)
-  marks (activate g) L e = marks-if (accepted (activateRows k g)) (becoming k (noWriter false) (activated (k .groups) (k .tracks) g (L .player)) L) L (marks-becoming k (noWriter false) (activated (k .groups) (k .tracks) g (L .player)) L)
-  marks deactivate L e = marks-becoming k (noWriter false) (deactivated (L .player)) L
-  marks (advance step) L e = marks-becoming k (noWriter (quietAdvance (k .tracks) step (L .player))) (advanced (k .groups) (k .tracks) step (L .player)) L
-  marks (connect who mtu encrypted) L e = marks-if (mayConnect L who mtu) (changing who (λ y. linked true encrypted mtu) L) L (marks-changing who (λ y. linked true encrypted mtu) L (λ y. inr refl))
-  marks (disconnect who) L e = marks-if (asks L who) (changing who (λ y. nobody) L) L (marks-changing who (λ y. nobody) L (λ y. inr refl))
-  marks (subscribe who x) L e = marks-if (mayJoin L who x) (changing who (onAccount (joining (slotOf x))) L) L (marks-changing who (onAccount (joining (slotOf x))) L (λ y. inl refl))
-  marks (unsubscribe who x) L e = marks-if (mayJoin L who x) (changing who (onAccount (leaving (slotOf x))) L) L (marks-changing who (onAccount (leaving (slotOf x))) L (λ y. inl refl))
-  marks (read who x offset room) L e = marks-if (mayRead k L who x offset room) (changing who (onAccount (reading x offset)) L) L (marks-changing who (onAccount (reading x offset)) L (λ y. inl refl))
-  marks (write who x value) L e = marks-if (mayWrite L who x value) (writing k L who x value) L (one (eqb x 7) (eqb x 8) (eqb x 15))
-    where
-      one : (t u v : Bool)
-          → Marks L (pick t (becoming k (byWriter who 7) (positioned (k .tracks) (wordAt value 0) (L .player)) L)
-          (pick u (becoming k (byWriter who 8) (withSpeed (firstOctet value) (L .player)) L)
-          (pick v (becoming k (byWriter who 15) (withOrder (firstOctet value) (L .player)) L) (controlWriting k L who value))))
-      one true u v = marks-becoming k (byWriter who 7) (positioned (k .tracks) (wordAt value 0) (L .player)) L
-      one false true v = marks-becoming k (byWriter who 8) (withSpeed (firstOctet value) (L .player)) L
-      one false false true = marks-becoming k (byWriter who 15) (withOrder (firstOctet value) (L .player)) L
-      one false false false =
-          marks-changing who (onAccount (resulting (resultOf k L value))) (becoming k (byWriter who 18) (outcome k L value .player) L) (λ y. inl refl)
+  marks (setName w name) L e = marks-told k (accepted (nameRows w name)) w (λ p. noWriter false) (renamed name) L
+  marks (activate w g) L e = marks-told k (accepted (activateRows k w g)) w (λ p. noWriter false) (activated (k .groups) (k .tracks) g) L
+  marks (deactivate w) L e = marks-told k (accepted (serviceRows w)) w (λ p. noWriter false) deactivated L
+  marks (advance w step) L e = marks-told k (accepted (serviceRows w)) w (λ p. noWriter (quietAdvance (k .tracks) step p)) (advanced (k .groups) (k .tracks) step) L
+  marks (connect who mtu encrypted) L e = marks-relinking (mayConnect L who mtu) who true encrypted mtu L
+  marks (disconnect who) L e = marks-relinking (mayLeave L who) who false false 23 L
+  marks (subscribe who w x) L e = marks-in (mayJoin L who w x) w (changing who (joining (slotOf x))) L
+  marks (unsubscribe who w x) L e = marks-in (mayJoin L who w x) w (changing who (leaving (slotOf x))) L
+  marks (read who w x offset room) L e = marks-in (mayRead k L who w x offset room) w (changing who (reading x offset)) L
+  marks (write who w x value) L e = marks-in (mayWrite L who w x value) w (writing k who x value) L
   marks (take room) L e = go (mayTake room) (leb clientCount (nextIn L)) e
     where
-      go : (t u : Bool) → pick t (pick u none (some (answerIn k L (nextIn L)))) none ≡ none → Marks L (pick t (pick u L (servingNext L (nextIn L))) L)
+      go : (t u : Bool) → pick t (pick u none (some (answerIn k L (nextIn L)))) none ≡ none → Marks L (pick t (pick u L (servingNext L)) L)
       go true true h = marks-same L
       go true false h = absurd (true≢false (ap found h))
       go false u h = marks-same L
@@ -357,9 +418,9 @@ module _ (k : Tables) where
   in-range call L g = go (dueOut k call L) refl
     where
       -- a mark is where it was, or at the end of its round
-      kept : (c : ℕ) → c < clientCount → (x y : Side) → (y .link .last ≡ x .link .last) ⊎ (y .link .last ≡ placeCount - 1) → x .link .last < placeCount → y .link .last < placeCount
-      kept c h x y (inl e) l = subst (λ (n : ℕ). n < placeCount) (sym e) l
-      kept c h x y (inr e) l = subst (λ (n : ℕ). n < placeCount) (sym e) (omega arith)
+      kept : (x y : Line) → Mark x y → x .last < placeCount → y .last < placeCount
+      kept x y (inl e) l = subst (λ (n : ℕ). n < placeCount) (sym e) l
+      kept x y (inr e) l = subst (λ (n : ℕ). n < placeCount) (sym e) (omega arith)
 
       go : (o : Option Handout) → dueOut k call L ≡ o → InRange (after k call L)
       go (some a) e =
@@ -367,40 +428,44 @@ module _ (k : Tables) where
           subst InRange (sym (w .leaves)) (
             w .inside,
             λ c h. elim (ℕ-discrete c (nextIn L)) [
-              | yes q ↦ subst (λ (n : ℕ). servingNext L (nextIn L) .side n .link .last < placeCount) (sym q) (subst (λ (x : Side). x .link .last < placeCount) (sym (at-served L (nextIn L))) (slot-near L g (w .inside) .inside))
-              | no n ↦ subst (λ (x : Side). x .link .last < placeCount) (sym (at-other L (nextIn L) c n)) (g .1 c h)
+              | yes q ↦
+                  subst (λ (n : ℕ). Marked (servingNext L .link n)) (sym q)
+                  (subst Marked (sym (link-served L (nextIn L) (placeIn L (nextIn L)))) (slot-near L g (w .inside) .inside))
+              | no n ↦ subst Marked (sym (link-other L (nextIn L) (placeIn L (nextIn L)) c n)) (g .1 c h)
             ],
           )
       go none e =
           let m = marks k call L e in
-          (subst (λ (n : ℕ). n < clientCount) (sym (m .0)) (g .0), λ c h. kept c h (L .side c) (after k call L .side c) (m .1 c) (g .1 c h))
+          (subst (λ (n : ℕ). n < clientCount) (sym (m .0)) (g .0), λ c h. kept (L .link c) (after k call L .link c) (m .1 c) (g .1 c h))
 
-  taken : (call : Call) (L : Ledger) (a : Handout) (c s : ℕ) → InRange L → dueOut k call L ≡ some a → isFor c s a ≡ true
-      → backlog (L .side c) s ≤ suc (backlog (after k call L .side c) s)
-  taken call L a c s g e f =
+  taken : (call : Call) (L : Ledger) (a : Handout) (c p : ℕ) → InRange L → dueOut k call L ≡ some a → isFor c p a ≡ true
+      → backlogAt L c p ≤ suc (backlogAt (after k call L) c p)
+  taken call L a c p g e f =
       let w = serves k call L a e in
-      let b = for-both (eqb c (a .client)) (eqb s (a .slot)) f in
+      let b = for-both (eqb c (a .client)) (eqb p (a .place)) f in
       let who : c ≡ nextIn L = eqb-true c (a .client) (b .0) ∙ ap (λ (x : Handout). x .client) (w .is) in
-      let slot : s ≡ slotIn (L .side (nextIn L)) = eqb-true s (a .slot) (b .1) ∙ ap (λ (x : Handout). x .slot) (w .is) in
-      subst (λ (M : Ledger). backlog (L .side c) s ≤ suc (backlog (M .side c) s)) (sym (w .leaves))
-      (subst (λ (n : ℕ). backlog (L .side n) s ≤ suc (backlog (servingNext L (nextIn L) .side n) s)) (sym who)
-      (subst (λ (x : Side). backlog (L .side (nextIn L)) s ≤ suc (backlog x s)) (sym (at-served L (nextIn L)))
-      (subst (λ (t : ℕ). backlog (L .side (nextIn L)) t ≤ suc (backlog (passing (slotIn (L .side (nextIn L))) (L .side (nextIn L))) t)) (sym slot)
-      (serving-takes (L .side (nextIn L)) (slotIn (L .side (nextIn L)))))))
+      let place : p ≡ placeIn L (nextIn L) = eqb-true p (a .place) (b .1) ∙ ap (λ (x : Handout). x .place) (w .is) in
+      subst (λ (M : Ledger). backlogAt L c p ≤ suc (backlogAt M c p)) (sym (w .leaves))
+      (subst (λ (n : ℕ). backlogAt L n p ≤ suc (backlogAt (servingNext L) n p)) (sym who)
+      (subst (λ (q : ℕ). backlogAt L (nextIn L) q ≤ suc (backlogAt (servingNext L) (nextIn L) q)) (sym place)
+      (place-takes L (nextIn L) (placeIn L (nextIn L)))))
 
-  kept-others : (call : Call) (L : Ledger) (a : Handout) (c s : ℕ) → InRange L → dueOut k call L ≡ some a → isFor c s a ≡ false
-      → backlog (L .side c) s ≤ backlog (after k call L .side c) s
-  kept-others call L a c s g e f =
+  kept-others : (call : Call) (L : Ledger) (a : Handout) (c p : ℕ) → InRange L → dueOut k call L ≡ some a → isFor c p a ≡ false
+      → backlogAt L c p ≤ backlogAt (after k call L) c p
+  kept-others call L a c p g e f =
       let w = serves k call L a e in
       let client = ap (λ (x : Handout). x .client) (w .is) in
-      let slot = ap (λ (x : Handout). x .slot) (w .is) in
-      subst (λ (M : Ledger). backlog (L .side c) s ≤ backlog (M .side c) s) (sym (w .leaves))
+      let place = ap (λ (x : Handout). x .place) (w .is) in
+      subst (λ (M : Ledger). backlogAt L c p ≤ backlogAt M c p) (sym (w .leaves))
       (⊎-elim
-      (λ (n : c ≡ a .client → ⊥). subst (λ (x : Side). backlog (L .side c) s ≤ backlog x s) (sym (at-other L (nextIn L) c (λ q. n (q ∙ sym client)))) (le-refl _))
-      (λ p. subst (λ (n : ℕ). backlog (L .side n) s ≤ backlog (servingNext L (nextIn L) .side n) s) (sym (p .0 ∙ client))
-      (subst (λ (x : Side). backlog (L .side (nextIn L)) s ≤ backlog x s) (sym (at-served L (nextIn L)))
-      (serving-keeps (L .side (nextIn L)) (slotIn (L .side (nextIn L))) s (λ q. p .1 (q ∙ sym slot)))))
-      (not-for c s a f))
+      (λ (n : c ≡ a .client → ⊥). unserved L (nextIn L) (placeIn L (nextIn L)) c p (account-other L (nextIn L) (placeIn L (nextIn L)) (serviceOf p) c (λ q. n (q ∙ sym client))))
+      (λ r. subst (λ (n : ℕ). backlogAt L n p ≤ backlogAt (servingNext L) n p) (sym (r .0 ∙ client))
+      (place-keeps L (nextIn L) (placeIn L (nextIn L)) p (λ q. r .1 (q ∙ sym place))))
+      (not-for c p a f))
+
+  -- something waits, so it is owed
+  owed-of : (L : Ledger) (c p : ℕ) → 1 ≤ backlogAt L c p → owedAt L c p ≡ true
+  owed-of L c p b = owes-of (L .service (serviceOf p) .account c) (slotAt p) b
 
   pub laws : Laws (ledgerSystem k) clientCount placeCount
   laws =
@@ -410,28 +475,28 @@ module _ (k : Tables) where
         slast< = λ L c g h. g .1 c h;
         client< = λ call L a g e. let w = serves k call L a e in subst (λ (b : Handout). b .client < clientCount) (sym (w .is)) (w .inside);
         slot< = λ call L a g e.
-            let w = serves k call L a e in subst (λ (b : Handout). b .slot < placeCount) (sym (w .is)) (slot-near L g (w .inside) .inside);
-        first-client = λ call L a g e c s hc hs b.
+            let w = serves k call L a e in subst (λ (b : Handout). b .place < placeCount) (sym (w .is)) (slot-near L g (w .inside) .inside);
+        first-client = λ call L a g e c p hc hp b.
             let w = serves k call L a e in
             subst (λ (x : Handout). dist clientCount (L .turn) (x .client) ≤ dist clientCount (L .turn) c) (sym (w .is))
-            (client-near L g (w .inside) c s hc hs (owes-of (L .side c) s b));
-        first-slot = λ call L a g e s hs.
+            (client-near L g (w .inside) c p hc hp (owed-of L c p b));
+        first-slot = λ call L a g e p hp.
             let w = serves k call L a e in
-            subst (λ (x : Handout). 1 ≤ backlog (L .side (x .client)) s → dist placeCount (L .side (x .client) .link .last) (x .slot) ≤ dist placeCount (L .side (x .client) .link .last) s) (sym (w .is))
-            (λ b. slot-near L g (w .inside) .least s hs (owes-of (L .side (nextIn L)) s b));
+            subst (λ (x : Handout). 1 ≤ backlogAt L (x .client) p → dist placeCount (L .link (x .client) .last) (x .place) ≤ dist placeCount (L .link (x .client) .last) p) (sym (w .is))
+            (λ b. slot-near L g (w .inside) .least p hp (owed-of L (nextIn L) p b));
         last-served = λ call L a g e.
             let w = serves k call L a e in ap (λ (M : Ledger). M .turn) (w .leaves) ∙ sym (ap (λ (x : Handout). x .client) (w .is));
         slast-served = λ call L a g e.
             let w = serves k call L a e in
-            subst (λ (x : Handout). after k call L .side (x .client) .link .last ≡ x .slot) (sym (w .is))
-            (ap (λ (M : Ledger). M .side (nextIn L) .link .last) (w .leaves) ∙ ap (λ (x : Side). x .link .last) (at-served L (nextIn L)));
+            subst (λ (x : Handout). after k call L .link (x .client) .last ≡ x .place) (sym (w .is))
+            (ap (λ (M : Ledger). M .link (nextIn L) .last) (w .leaves) ∙ ap (λ (x : Line). x .last) (link-served L (nextIn L) (placeIn L (nextIn L))));
         slast-other = λ call L a g e c n.
             let w = serves k call L a e in
-            ap (λ (M : Ledger). M .side c .link .last) (w .leaves)
-            ∙ ap (λ (x : Side). x .link .last) (at-other L (nextIn L) c (λ q. n (q ∙ sym (ap (λ (x : Handout). x .client) (w .is)))));
-        last-kept = λ call L c s g kp e. still k c s call L e kp .0;
-        slast-kept = λ call L c s g kp e. still k c s call L e kp .1 .0;
-        one-less = λ call L a c s g e f. taken call L a c s g e f;
-        others-kept = λ call L a c s g e f. kept-others call L a c s g e f;
-        kept = λ call L c s g kp e. still k c s call L e kp .1 .1;
+            ap (λ (M : Ledger). M .link c .last) (w .leaves)
+            ∙ ap (λ (x : Line). x .last) (link-other L (nextIn L) (placeIn L (nextIn L)) c (λ q. n (q ∙ sym (ap (λ (x : Handout). x .client) (w .is)))));
+        last-kept = λ call L c p g kp e. still k c (serviceOf p) (slotAt p) call L e kp .0;
+        slast-kept = λ call L c p g kp e. still k c (serviceOf p) (slotAt p) call L e kp .1;
+        one-less = λ call L a c p g e f. taken call L a c p g e f;
+        others-kept = λ call L a c p g e f. kept-others call L a c p g e f;
+        kept = λ call L c p g kp e. still k c (serviceOf p) (slotAt p) call L e kp .2;
       }

@@ -11,5 +11,6 @@ pub mod Results
 pub mod Agree
 pub mod Order
 pub mod InTime
-pub mod Forty
+pub mod Reached
+pub mod Apart
 pub mod Demand3

@@ -1,4 +1,4 @@
--- The stored record of a client, and what the ledger says of it: alike before, alike after whatever becomes of it. Assumes nothing.
+-- A client's link and its account as they are stored, and what the ledger says of them: alike before, alike after whatever becomes of them. Assumes nothing.
 use mathlib.Core.Path.{_≡_, refl, sym, ap, _∙_, subst}
 use mathlib.Core.Bool.{Bool, true, false, not, _&&_, _||_, and-true, or-false}
 use mathlib.Core.List.{List, [], _∷_, _++_}
@@ -19,28 +19,33 @@ use Rattle.desk_notices.specs.Changes.{changed, trackChanged}
 use Rattle.desk_notices.specs.declared.Cause.{Cause}
 use Rattle.desk_notices.specs.Owed.{fallsDue, spared, dueTo, alteredOf}
 use Rattle.desk_client.specs.declared.Entry.{Entry}
+use Rattle.desk_client.specs.declared.Link.{Link}
 use Rattle.desk_client.specs.declared.Account.{Account}
-use Rattle.desk_client.specs.declared.Client.{Client}
-use Rattle.desk_client.specs.Client.{controlSlot, mostResults, blankEntry, blankAccount, startClient, connectedClient}
-use Rattle.desk_client.specs.Setters.{withSlots}
+use Rattle.desk_client.specs.Client.{controlSlot, mostResults, blankEntry, blankAccount, startLink, connectedLink}
+use Rattle.desk_client.specs.Setters.{withSlots, withMark}
 use Rattle.desk_client.specs.Queue.{withoutOldest}
-use Rattle.desk_client.specs.Duties.{joined, dropped, noted, wasRead, resulted, served, passedOn}
+use Rattle.desk_client.specs.Duties.{joined, dropped, noted, wasRead, resulted, served}
 use Rattle.desk_client.proofs.SlotBySlot.{dropped-queue, noted-owed, noted-fresh, resulted-none, resulted-is, resulted-queue, served-value, served-result, served-queue}
 use Rattle.player_values.specs.Values.{sourceOf}
 use Rattle.desk_exchange.specs.Read.{afterRead}
-use Rattle.desk_history.specs.Ledger.{Claims, Side, linked, nobody, noticing, joining, leaving, reading, resulting, behind, serving, passing}
-use Rattle.desk_history.specs.Stored.{LikeAccount, Like}
+use Rattle.desk_history.specs.Ledger.{Line, Claims, noClaims, lineOf, noLine, noticing, joining, leaving, reading, resulting, behind, serving, passing}
+use Rattle.desk_history.specs.Stored.{LikeLink, LikeAccount}
 
-blank-account : LikeAccount (nobody .account) blankAccount
-blank-account = record { wants = λ s h. has-zero s; due = λ s h n. has-zero s; waiting = refl; mind = λ c h. has-zero c; long = refl }
+pub like-blank : LikeAccount noClaims blankAccount
+unfolding blankAccount
+like-blank = record { wants = λ s h. has-zero s; due = λ s h n. has-zero s; waiting = refl; mind = λ c h. has-zero c; long = refl }
 
-pub like-start : Like nobody startClient
-unfolding startClient
-like-start = record { link = record { on = refl; safe = refl; mtu = refl; last = refl }; account = blank-account }
+pub like-start : LikeLink noLine startLink
+unfolding startLink
+like-start = record { on = refl; safe = refl; mtu = refl; last = refl }
 
-pub like-connected : (mtu : ℕ) (encrypted : Bool) → Like (linked true encrypted mtu) (connectedClient mtu encrypted)
-unfolding connectedClient
-like-connected mtu encrypted = record { link = record { on = refl; safe = refl; mtu = refl; last = refl }; account = blank-account }
+pub like-connected : (mtu : ℕ) (encrypted : Bool) → LikeLink (lineOf true encrypted mtu) (connectedLink mtu encrypted)
+unfolding connectedLink
+like-connected mtu encrypted = record { on = refl; safe = refl; mtu = refl; last = refl }
+
+-- the client's round goes on behind a place that was served
+pub like-passed : (x : Line) (l : Link) → LikeLink x l → (place : ℕ) → LikeLink (passing place x) (withMark place l)
+like-passed x l like place = record { on = like .on; safe = like .safe; mtu = like .mtu; last = refl }
 
 -- results without the oldest are as many places
 shifted-long : (l : List Entry) → length l ≡ mostResults → length (withoutOldest l) ≡ mostResults
@@ -194,13 +199,3 @@ module _ (x : Claims) (a : Account) (like : LikeAccount x a) where
                 mind = λ c h. ap (λ (r : Account). has (r .fresh) c) is ∙ like .mind c h;
                 long = ap (λ (r : Account). length (r .results)) is ∙ shifted-long (a .results) (like .long);
               }
-
--- and the client's round goes on behind it
-pub like-passed : (x : Side) (c : Client) → Like x c → (s : ℕ) → c .account .waiting ≤ mostResults → (s ≡ controlSlot → 0 < c .account .waiting)
-    → Like (passing s x) (passedOn s c)
-unfolding passedOn
-like-passed x c like s few some =
-    record {
-      link = record { on = like .link .on; safe = like .link .safe; mtu = like .link .mtu; last = refl };
-      account = like-served (x .account) (c .account) (like .account) s few some;
-    }

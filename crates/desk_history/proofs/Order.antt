@@ -1,4 +1,4 @@
--- Results come at most once each, in the order of the client's own writes. Assumes nothing.
+-- Of each service results come at most once each, in the order of the client's own writes to it. Assumes nothing.
 use mathlib.Core.Path.{_≡_, refl, sym, ap, _∙_, subst}
 use mathlib.Core.Bool.{Bool, true, false, _&&_}
 use mathlib.Core.Logic.{_⊎_, inl, inr}
@@ -15,8 +15,9 @@ use Rattle.ground.proofs.Cases.{past, here}
 use Rattle.catalogue_tables.specs.Tables.{Tables}
 use Rattle.catalogue_check.specs.Catalogue.{catalogueRule}
 use Rattle.player_check.specs.Standing.{textRule}
-use Rattle.desk_slots.specs.Slots.{clientCount}
+use Rattle.desk_slots.specs.Slots.{clientCount, placeOf}
 use Rattle.desk_client.specs.Client.{controlSlot}
+use Rattle.desk_console.specs.Console.{Beginning}
 use Rattle.desk_take.specs.Serving.{resultOctets}
 use Rattle.desk_history.specs.Calls.{Call, setName, activate, deactivate, advance, connect, disconnect, subscribe, unsubscribe, read, write, take}
 use Rattle.desk_history.specs.Ledger.{Ledger, mayWrite, resultOf}
@@ -34,90 +35,90 @@ front-of zero x y h = refl
 front-of (suc j) [] y h = absurd (not-suc-le-zero h)
 front-of (suc j) (a ∷ x) y h = ap (λ (r : Lists). a ∷ r) (front-of j x y (le-of-suc-le-suc h))
 
-module _ (c s : ℕ) where
-  handed-append : (x y : List Handout) → handoutsTo c s (x ++ y) ≡ handoutsTo c s x ++ handoutsTo c s y
+module _ (c v s : ℕ) where
+  handed-append : (x y : List Handout) → handoutsTo c v s (x ++ y) ≡ handoutsTo c v s x ++ handoutsTo c v s y
   handed-append [] y = refl
-  handed-append (a ∷ x) y = go (isFor c s a) (handed-append x y)
+  handed-append (a ∷ x) y = go (isFor c (placeOf v s) a) (handed-append x y)
     where
-      go : (t : Bool) → handoutsTo c s (x ++ y) ≡ handoutsTo c s x ++ handoutsTo c s y
-          → pick t (a .octets ∷ handoutsTo c s (x ++ y)) (handoutsTo c s (x ++ y)) ≡ pick t (a .octets ∷ handoutsTo c s x) (handoutsTo c s x) ++ handoutsTo c s y
+      go : (t : Bool) → handoutsTo c v s (x ++ y) ≡ handoutsTo c v s x ++ handoutsTo c v s y
+          → pick t (a .octets ∷ handoutsTo c v s (x ++ y)) (handoutsTo c v s (x ++ y)) ≡ pick t (a .octets ∷ handoutsTo c v s x) (handoutsTo c v s x) ++ handoutsTo c v s y
       go true e = ap (λ (r : Lists). a .octets ∷ r) e
       go false e = e
 
-  handed-prepend : (o : Option Handout) (l : List Handout) → handoutsTo c s (prepend o l) ≡ handoutsTo c s (prepend o []) ++ handoutsTo c s l
+  handed-prepend : (o : Option Handout) (l : List Handout) → handoutsTo c v s (prepend o l) ≡ handoutsTo c v s (prepend o []) ++ handoutsTo c v s l
   handed-prepend none l = refl
   handed-prepend (some a) l = handed-append (a ∷ []) l
 
-  pub handed-served : (l : List Handout) → length (handoutsTo c s l) ≡ countFor c s l
+  pub handed-served : (l : List Handout) → length (handoutsTo c v s l) ≡ countFor c (placeOf v s) l
   handed-served [] = refl
-  handed-served (a ∷ l) = go (isFor c s a) (handed-served l)
+  handed-served (a ∷ l) = go (isFor c (placeOf v s) a) (handed-served l)
     where
-      go : (t : Bool) → length (handoutsTo c s l) ≡ countFor c s l → length (pick t (a .octets ∷ handoutsTo c s l) (handoutsTo c s l)) ≡ pick t (suc (countFor c s l)) (countFor c s l)
+      go : (t : Bool) → length (handoutsTo c v s l) ≡ countFor c (placeOf v s) l → length (pick t (a .octets ∷ handoutsTo c v s l) (handoutsTo c v s l)) ≡ pick t (suc (countFor c (placeOf v s) l)) (countFor c (placeOf v s) l)
       go true e = ap suc e
       go false e = e
 
 -- ---- over a history
-module _ (k : Tables) (right : catalogueRule k ≡ true) (name : List ℕ) (named : textRule name ≡ true) (mask ccid who : ℕ) (there : who < clientCount) where
+module _ (k : Tables) (right : catalogueRule k ≡ true) (gen nam : Beginning) (gt : textRule (gen .name) ≡ true) (nt : textRule (nam .name) ≡ true) (who v : ℕ) (there : who < clientCount) where
   abbrev L : List Call → Ledger
-  L h = ledgerAt k name mask ccid h
+  L h = ledgerAt k gen nam h
 
   abbrev waits : List Call → Lists
-  waits h = shown (L h .side who .account .waiting)
+  waits h = shown (L h .service v .account who .waiting)
 
   abbrev out : Call → List Call → Lists
-  out c h = handoutsTo who controlSlot (prepend (handedOut k c (deskAt k name mask ccid h)) [])
+  out c h = handoutsTo who v controlSlot (prepend (handedOut k c (deskAt k gen nam h)) [])
 
-  a-turn : (c : Call) (h : List Call) → Turn (L (c ∷ h) .side who .account .wants controlSlot) (waits h) (resultBy k who c (L h)) (out c h) (waits (c ∷ h))
+  a-turn : (c : Call) (h : List Call) → Turn (L (c ∷ h) .service v .account who .wants controlSlot) (waits h) (resultBy k who v c (L h)) (out c h) (waits (c ∷ h))
   a-turn c h =
-      subst (λ (o : Option Handout). Turn (L (c ∷ h) .side who .account .wants controlSlot) (waits h) (resultBy k who c (L h)) (handoutsTo who controlSlot (prepend o [])) (waits (c ∷ h)))
-      (sym (hands-at k right name named mask ccid c h)) (turn k who c (L h) (in-range k right name named mask ccid h) (mtu-at k right name named mask ccid h who there))
+      subst (λ (o : Option Handout). Turn (L (c ∷ h) .service v .account who .wants controlSlot) (waits h) (resultBy k who v c (L h)) (handoutsTo who v controlSlot (prepend o [])) (waits (c ∷ h)))
+      (sym (hands-at k right gen nam gt nt c h)) (turn k who v c (L h) (in-range k right gen nam gt nt h) (mtu-at k right gen nam gt nt h who there))
 
   -- one call, while subscribed: what waited, with the call's own result, is what it hands out and what then waits
-  in-turn : (c : Call) (h : List Call) → L (c ∷ h) .side who .account .wants controlSlot ≡ true → waits h ++ resultBy k who c (L h) ≡ out c h ++ waits (c ∷ h)
+  in-turn : (c : Call) (h : List Call) → L (c ∷ h) .service v .account who .wants controlSlot ≡ true → waits h ++ resultBy k who v c (L h) ≡ out c h ++ waits (c ∷ h)
   in-turn c h later = go (a-turn c h)
     where
-      go : Turn (L (c ∷ h) .side who .account .wants controlSlot) (waits h) (resultBy k who c (L h)) (out c h) (waits (c ∷ h)) → waits h ++ resultBy k who c (L h) ≡ out c h ++ waits (c ∷ h)
+      go : Turn (L (c ∷ h) .service v .account who .wants controlSlot) (waits h) (resultBy k who v c (L h)) (out c h) (waits (c ∷ h)) → waits h ++ resultBy k who v c (L h) ≡ out c h ++ waits (c ∷ h)
       go (adds e f) = sym ((λ i. e i ++ waits (c ∷ h)) ∙ f)
       go (drops e f g n) = absurd (n later)
       go (hands e f) = (λ i. waits h ++ e i) ∙ append-nil (waits h) ∙ f
 
-  still : (h ks : List Call) → Stays k name mask ccid who controlSlot h ks → L h .side who .account .wants controlSlot ≡ true
+  still : (h ks : List Call) → Stays k gen nam who v controlSlot h ks → L h .service v .account who .wants controlSlot ≡ true
   still h [] st = st
   still h (c ∷ ks) st = st .0
 
-  pub in-order : (h ks : List Call) → Stays k name mask ccid who controlSlot h ks
-      → waits h ++ writtenIn k name mask ccid who h ks ≡ handoutsTo who controlSlot (given k name mask ccid h ks) ++ waits (onward k name mask ccid h ks)
+  pub in-order : (h ks : List Call) → Stays k gen nam who v controlSlot h ks
+      → waits h ++ writtenIn k gen nam who v h ks ≡ handoutsTo who v controlSlot (given k gen nam h ks) ++ waits (onward k gen nam h ks)
   in-order h [] st = append-nil (waits h)
   in-order h (c ∷ ks) st =
-      let r = resultBy k who c (L h) in
-      let ws = writtenIn k name mask ccid who (c ∷ h) ks in
-      let gs = handoutsTo who controlSlot (given k name mask ccid (c ∷ h) ks) in
-      let end = waits (onward k name mask ccid (c ∷ h) ks) in
+      let r = resultBy k who v c (L h) in
+      let ws = writtenIn k gen nam who v (c ∷ h) ks in
+      let gs = handoutsTo who v controlSlot (given k gen nam (c ∷ h) ks) in
+      let end = waits (onward k gen nam (c ∷ h) ks) in
       sym (append-assoc (waits h) r ws)
       ∙ ap (λ (l : Lists). l ++ ws) (in-turn c h (still (c ∷ h) ks (st .1)))
       ∙ append-assoc (out c h) (waits (c ∷ h)) ws
       ∙ ap (λ (l : Lists). out c h ++ l) (in-order (c ∷ h) ks (st .1))
       ∙ sym (append-assoc (out c h) gs end)
-      ∙ ap (λ (l : Lists). l ++ end) (sym (handed-prepend who controlSlot (handedOut k c (deskAt k name mask ccid h)) (given k name mask ccid (c ∷ h) ks)))
+      ∙ ap (λ (l : Lists). l ++ end) (sym (handed-prepend who v controlSlot (handedOut k c (deskAt k gen nam h)) (given k gen nam (c ∷ h) ks)))
 
   -- the first j that are handed out are the j oldest that wait, once there are so many among the first N answers
-  pub oldest-first : (h ks : List Call) → Stays k name mask ccid who controlSlot h ks → (j N : ℕ) → j ≤ length (waits h)
-      → j ≤ countFor who controlSlot (firsts N (given k name mask ccid h ks))
-      → firsts j (handoutsTo who controlSlot (firsts N (given k name mask ccid h ks))) ≡ firsts j (waits h)
+  pub oldest-first : (h ks : List Call) → Stays k gen nam who v controlSlot h ks → (j N : ℕ) → j ≤ length (waits h)
+      → j ≤ countFor who (placeOf v controlSlot) (firsts N (given k gen nam h ks))
+      → firsts j (handoutsTo who v controlSlot (firsts N (given k gen nam h ks))) ≡ firsts j (waits h)
   oldest-first h ks st j N w enough =
-      let G = given k name mask ccid h ks in
-      let end = waits (onward k name mask ccid h ks) in
-      let front = handoutsTo who controlSlot (firsts N G) in
-      let rest = handoutsTo who controlSlot (drop N G) in
-      sym (front-of j front (rest ++ end) (subst (λ (n : ℕ). j ≤ n) (sym (handed-served who controlSlot (firsts N G))) enough))
+      let G = given k gen nam h ks in
+      let end = waits (onward k gen nam h ks) in
+      let front = handoutsTo who v controlSlot (firsts N G) in
+      let rest = handoutsTo who v controlSlot (drop N G) in
+      sym (front-of j front (rest ++ end) (subst (λ (n : ℕ). j ≤ n) (sym (handed-served who v controlSlot (firsts N G))) enough))
       ∙ ap (firsts j) (sym (append-assoc front rest end))
-      ∙ ap (λ (l : Lists). firsts j (l ++ end)) (sym (ap (handoutsTo who controlSlot) (sym (take-append-drop N G)) ∙ handed-append who controlSlot (firsts N G) (drop N G)))
+      ∙ ap (λ (l : Lists). firsts j (l ++ end)) (sym (ap (handoutsTo who v controlSlot) (sym (take-append-drop N G)) ∙ handed-append who v controlSlot (firsts N G) (drop N G)))
       ∙ ap (firsts j) (sym (in-order h ks st))
-      ∙ front-of j (waits h) (writtenIn k name mask ccid who h ks) w
+      ∙ front-of j (waits h) (writtenIn k gen nam who v h ks) w
 
   -- ---- places of writes
   abbrev Own : List Call → ℕ → List ℕ → List Handed → Type 0
-  Own h n ps l = OwnWrites k name mask ccid who h n ps l
+  Own h n ps l = OwnWrites k gen nam who v h n ps l
 
   -- no place is at or behind n
   abbrev Below : ℕ → List Handed → Type 0
@@ -164,7 +165,7 @@ module _ (k : Tables) (right : catalogueRule k ≡ true) (name : List ℕ) (name
   front-own h n (p ∷ ps) (a ∷ x) y o = let f = front-own h (suc p) ps x y (o .3) in (p ∷ f .0, (o .0, o .1, o .2, f .1))
 
   -- one write more, behind all others
-  one-more : (h : List Call) (m n : ℕ) (ps : List ℕ) (l : List Handed) (o : List ℕ) → n ≤ m → Below m l → resultAt k name mask ccid who h m ≡ o ∷ []
+  one-more : (h : List Call) (m n : ℕ) (ps : List ℕ) (l : List Handed) (o : List ℕ) → n ≤ m → Below m l → resultAt k gen nam who v h m ≡ o ∷ []
       → Own h n ps l → (qs : List ℕ) × Own h n qs (l ++ handedBy (suc m) (o ∷ []))
   one-more h m n [] [] o b d e own = (m ∷ [], (b, omega arith, e, tt))
   one-more h m n (p ∷ ps) [] o b d e own = absurd own
@@ -175,7 +176,7 @@ module _ (k : Tables) (right : catalogueRule k ≡ true) (name : List ℕ) (name
 
   -- what was handed out, and then what waits, as if the next call handed it out
   abbrev all : List Call → List Handed
-  all h = allHanded k name mask ccid who h
+  all h = allHanded k gen nam who v h
 
   abbrev Stands : List Call → Type 0
   Stands h = (ps : List ℕ) × Own h 0 ps (all h ++ handedBy (length h) (waits h))
@@ -185,23 +186,23 @@ module _ (k : Tables) (right : catalogueRule k ≡ true) (name : List ℕ) (name
   all-below (c ∷ h) =
       below-both (suc (length h)) (all h) (handedBy (length h) (out c h)) (below-more (length h) (all h) (all-below h)) (below-by (suc (length h)) (length h) (out c h) (omega arith))
 
-  one-or-none : (c : Call) (h : List Call) → (resultBy k who c (L h) ≡ []) ⊎ ((o : List ℕ) × (resultBy k who c (L h) ≡ o ∷ []))
-  one-or-none (setName n) h = inl refl
-  one-or-none (activate g) h = inl refl
-  one-or-none deactivate h = inl refl
-  one-or-none (advance n) h = inl refl
+  one-or-none : (c : Call) (h : List Call) → (resultBy k who v c (L h) ≡ []) ⊎ ((o : List ℕ) × (resultBy k who v c (L h) ≡ o ∷ []))
+  one-or-none (setName w n) h = inl refl
+  one-or-none (activate w g) h = inl refl
+  one-or-none (deactivate w) h = inl refl
+  one-or-none (advance w n) h = inl refl
   one-or-none (connect w mtu e) h = inl refl
   one-or-none (disconnect w) h = inl refl
-  one-or-none (subscribe w x) h = inl refl
-  one-or-none (unsubscribe w x) h = inl refl
-  one-or-none (read w x offset room) h = inl refl
-  one-or-none (write w x value) h = go (mayWrite (L h) w x value) (eqb who w && (eqb x 18 && L h .side who .account .wants controlSlot))
+  one-or-none (subscribe c w x) h = inl refl
+  one-or-none (unsubscribe c w x) h = inl refl
+  one-or-none (read c w x offset room) h = inl refl
+  one-or-none (write c w x value) h = go (mayWrite (L h) c w x value) (eqb who c && (eqb v w && (eqb x 18 && L h .service v .account who .wants controlSlot)))
     where
       R : Bool → Bool → Lists
-      R t u = pick t (pick u (resultOctets (resultOf k (L h) value) ∷ []) []) []
+      R t u = pick t (pick u (resultOctets (resultOf k (L h .service v) value) ∷ []) []) []
 
       go : (t u : Bool) → (R t u ≡ []) ⊎ ((o : List ℕ) × (R t u ≡ o ∷ []))
-      go true true = inr (resultOctets (resultOf k (L h) value), refl)
+      go true true = inr (resultOctets (resultOf k (L h .service v) value), refl)
       go true false = inl refl
       go false u = inl refl
   one-or-none (take room) h = inl refl
@@ -240,7 +241,7 @@ module _ (k : Tables) (right : catalogueRule k ≡ true) (name : List ℕ) (name
     unhanded : out c h ≡ [] → (T : Lists) → waits (c ∷ h) ≡ T → X ++ handedBy (suc N) T ≡ all (c ∷ h) ++ handedBy (suc N) (waits (c ∷ h))
     unhanded e T f = λ i. (sym (append-nil X) ∙ (λ j. X ++ handedBy N (sym e j))) i ++ handedBy (suc N) (sym f i)
 
-    with-result : (R : Lists) → resultBy k who c (L h) ≡ R → (R ≡ []) ⊎ ((o : List ℕ) × (R ≡ o ∷ [])) → Among (X ++ handedBy (suc N) (W ++ R))
+    with-result : (R : Lists) → resultBy k who v c (L h) ≡ R → (R ≡ []) ⊎ ((o : List ℕ) × (R ≡ o ∷ [])) → Among (X ++ handedBy (suc N) (W ++ R))
     with-result R e (inl r) =
         through ((λ i. X ++ sym (handed-both (suc N) W []) i) ∙ (λ i. X ++ handedBy (suc N) (W ++ sym r i)))
         (later X W [] (through (λ i. X ++ sym (append-nil (handedBy N W)) i) so-far))
@@ -250,8 +251,8 @@ module _ (k : Tables) (right : catalogueRule k ≡ true) (name : List ℕ) (name
         through ((λ i. X ++ sym (handed-both (suc N) W (o ∷ [])) i) ∙ (λ i. X ++ handedBy (suc N) (W ++ sym r i)))
         (later X W (handedBy (suc N) (o ∷ [])) (through (append-assoc X (handedBy N W) (handedBy (suc N) (o ∷ []))) one))
 
-    goes-on : Turn (L (c ∷ h) .side who .account .wants controlSlot) (waits h) (resultBy k who c (L h)) (out c h) (waits (c ∷ h)) → Stands (c ∷ h)
-    goes-on (adds e f) = through (unhanded e (W ++ resultBy k who c (L h)) f) (with-result (resultBy k who c (L h)) refl (one-or-none c h))
+    goes-on : Turn (L (c ∷ h) .service v .account who .wants controlSlot) (waits h) (resultBy k who v c (L h)) (out c h) (waits (c ∷ h)) → Stands (c ∷ h)
+    goes-on (adds e f) = through (unhanded e (W ++ resultBy k who v c (L h)) f) (with-result (resultBy k who v c (L h)) refl (one-or-none c h))
     goes-on (drops e r f n) =
         let q = front-own (c ∷ h) 0 (so-far .0) X (handedBy N W) (so-far .1) in
         through (unhanded e [] f) (through (sym (append-nil X)) q)
@@ -270,5 +271,5 @@ module _ (k : Tables) (right : catalogueRule k ≡ true) (name : List ℕ) (name
   stands (c ∷ h) = goes-on c h (stands h) (a-turn c h)
 
   -- "Results come at most once each, in the order of that client's own writes."
-  pub own-writes : (h : List Call) → (ps : List ℕ) × OwnWrites k name mask ccid who h 0 ps (allHanded k name mask ccid who h)
+  pub own-writes : (h : List Call) → (ps : List ℕ) × OwnWrites k gen nam who v h 0 ps (allHanded k gen nam who v h)
   own-writes h = let s = stands h in front-own h 0 (s .0) (all h) (handedBy (length h) (waits h)) (s .1)

@@ -1,9 +1,9 @@
--- The ledger is served fairly: it obeys the laws of `Rounds`. Assumes nothing.
+-- What waits for a client at a slot of a service, and at a place of its round. Assumes nothing.
 use mathlib.Core.Path.{_≡_, refl, sym, ap, _∙_, subst}
 use mathlib.Core.Bool.{Bool, true, false, _||_}
 use mathlib.Core.Logic.{_⊎_, inl, inr, ⊎-elim}
 use mathlib.Core.List.{map, List, [], _∷_}
-use Prim.Native.Nat.{ℕ, zero, suc, _-_, _≤_, _<_, zero-le, suc-le-suc}
+use Prim.Native.Nat.{ℕ, zero, suc, _≤_, _<_, zero-le, suc-le-suc}
 use native.Mathlib.Nat.{le-refl, not-suc-le-zero}
 use native.Mathlib.Decide.{ℕ-discrete}
 use native.Mathlib.Omega.{arith}
@@ -11,30 +11,34 @@ use lib.Dec.{eqb}
 use lib.ListN.{length}
 use Rattle.ground.specs.Cases.{pick}
 use Rattle.ground.proofs.Cases.{clash}
-use Rattle.desk_slots.specs.Slots.{placeCount}
+use Rattle.desk_slots.specs.Slots.{slotCount, placeCount, placeOf, serviceOf, slotAt}
+use Rattle.desk_slots.proofs.PlaceLaws.{service-of-place, slot-of-place}
 use Rattle.desk_client.specs.declared.Entry.{Entry}
 use Rattle.desk_client.specs.Client.{controlSlot, isControl}
 use Rattle.desk_take.specs.Serving.{resultOctets}
-use Rattle.desk_history.specs.Ledger.{Side, anyWaits as any, owes, anyBelow, owedAny}
+use Rattle.desk_history.specs.Ledger.{Claims, Ledger, anyWaits as any, owes, owedAt, anyBelow, owedAny}
 
--- how many things wait at a slot
-abbrev pub backlog : Side → ℕ → ℕ
-backlog x s = pick (isControl s) (length (x .account .waiting)) (pick (x .account .due s) 1 0)
+-- how many things wait at a slot; for client who at a place
+abbrev pub backlog : Claims → ℕ → ℕ
+backlog x s = pick (isControl s) (length (x .waiting)) (pick (x .due s) 1 0)
+
+abbrev pub backlogAt : Ledger → ℕ → ℕ → ℕ
+backlogAt L who place = backlog (L .service (serviceOf place) .account who) (slotAt place)
 
 any-of : {A : Type 0} (l : List A) → 1 ≤ length l → any l ≡ true
 any-of [] h = absurd (not-suc-le-zero h)
 any-of (x ∷ l) h = refl
 
-pub owes-of : (x : Side) (s : ℕ) → 1 ≤ backlog x s → owes x s ≡ true
-owes-of x s = go (eqb s controlSlot) (x .account .due s)
+pub owes-of : (x : Claims) (s : ℕ) → 1 ≤ backlog x s → owes x s ≡ true
+owes-of x s = go (eqb s controlSlot) (x .due s)
   where
-    go : (t b : Bool) → 1 ≤ pick t (length (x .account .waiting)) (pick b 1 0) → pick t (any (x .account .waiting)) b ≡ true
-    go true b h = any-of (x .account .waiting) h
+    go : (t b : Bool) → 1 ≤ pick t (length (x .waiting)) (pick b 1 0) → pick t (any (x .waiting)) b ≡ true
+    go true b h = any-of (x .waiting) h
     go false true h = refl
     go false false h = absurd (not-suc-le-zero h)
 
-pub owes-to : (x : Side) (s : ℕ) → owes x s ≡ true → 1 ≤ backlog x s
-owes-to x s = go (eqb s controlSlot) (x .account .due s) (x .account .waiting)
+pub owes-to : (x : Claims) (s : ℕ) → owes x s ≡ true → 1 ≤ backlog x s
+owes-to x s = go (eqb s controlSlot) (x .due s) (x .waiting)
   where
     go : (t b : Bool) (l : List Entry) → pick t (any l) b ≡ true → 1 ≤ pick t (length l) (pick b 1 0)
     go true b [] h = clash h
@@ -68,17 +72,29 @@ below-any (suc n) test e = at (anyBelow n test) (test n) refl refl e (below-any 
     at false true p q h ih = (n, omega arith, q)
     at false false p q h ih = clash h
 
-pub owed-any : (x : Side) (s : ℕ) → s < placeCount → owes x s ≡ true → owedAny x ≡ true
+pub owed-any : (L : Ledger) (who place : ℕ) → place < placeCount → owedAt L who place ≡ true → owedAny L who ≡ true
 unfolding owedAny
-owed-any x s h e = any-below placeCount (owes x) s h e
+owed-any L who place h e = any-below placeCount (owedAt L who) place h e
 
-pub any-owed : (x : Side) → owedAny x ≡ true → (s : ℕ) × (s < placeCount) × (owes x s ≡ true)
+pub any-owed : (L : Ledger) (who : ℕ) → owedAny L who ≡ true → (place : ℕ) × (place < placeCount) × (owedAt L who place ≡ true)
 unfolding owedAny
-any-owed x e = below-any placeCount (owes x) e
+any-owed L who e = below-any placeCount (owedAt L who) e
+
+-- at the place of a service's slot, what that service owes at that slot
+module _ (L : Ledger) (who v s : ℕ) (h : s < slotCount) where
+  at-place : {A : Type 0} (f : Claims → ℕ → A)
+      → f (L .service (serviceOf (placeOf v s)) .account who) (slotAt (placeOf v s)) ≡ f (L .service v .account who) s
+  at-place f = λ i. f (L .service (service-of-place v s h i) .account who) (slot-of-place v s h i)
+
+  pub owed-at : owedAt L who (placeOf v s) ≡ owes (L .service v .account who) s
+  owed-at = at-place owes
+
+  pub backlog-at : backlogAt L who (placeOf v s) ≡ backlog (L .service v .account who) s
+  backlog-at = at-place backlog
 
 -- as many results wait as the list has
-pub results-backlog : (x : Side) (j : ℕ) → j ≤ length (map resultOctets (x .account .waiting)) → j ≤ backlog x controlSlot
-results-backlog x j h = subst (λ (n : ℕ). j ≤ n) (long (x .account .waiting)) h
+pub results-backlog : (x : Claims) (j : ℕ) → j ≤ length (map resultOctets (x .waiting)) → j ≤ backlog x controlSlot
+results-backlog x j h = subst (λ (n : ℕ). j ≤ n) (long (x .waiting)) h
   where
     long : (l : List Entry) → length (map resultOctets l) ≡ length l
     long [] = refl

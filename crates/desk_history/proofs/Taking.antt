@@ -1,180 +1,257 @@
 -- A take: the desk serves whom the ledger serves, hands out what the ledger says, and stands and agrees afterwards. Assumes nothing.
 use mathlib.Core.Path.{_≡_, refl, sym, ap, _∙_, subst}
 use mathlib.Core.Bool.{Bool, true, false, not, _||_, true≢false}
-use mathlib.Core.Logic.{⊎-elim, _⊎_}
+use mathlib.Core.Logic.{⊎-elim}
 use mathlib.Core.Option.{none, some}
-use mathlib.Core.List.{List, [], _∷_, _++_}
-use Prim.Native.Nat.{ℕ, zero, suc, _-_, _<_}
+use mathlib.Core.List.{List, [], _∷_, _++_, map}
+use Prim.Native.Nat.{ℕ, zero, suc, _+_, _-_, _^_, _<_}
 use native.Mathlib.Decide.{ℕ-discrete}
 use native.Mathlib.Nat.{not-suc-le-zero}
 use native.Mathlib.Omega.{arith}
 use borrow.Author.Tests.{eq-eqb, ne-eqb, lt-ltb, ltb-true, leb-false}
 use lib.Dec.{eqb, ltb, leb}
-use lib.ListN.{length, getD, set, length-set, take as firsts}
-use lib.Seq.{getD-set-same, getD-set-other}
+use lib.ListN.{length, getD, take as firsts}
 use Rattle.ground.specs.Cases.{pick, has}
 use Rattle.ground.specs.Limits.{leastOutput}
+use Rattle.ground.specs.Lists.{span}
 use Rattle.ground.specs.Refusals.{Said, granted, Row, row, rowWith, saidBy, leaves}
 use Rattle.ground.proofs.Rows.{said-of}
-use Rattle.desk_replies.specs.Replies.{stateRight, fronted, caller}
-use Rattle.ground.proofs.Bounded.{all-intro}
-use Rattle.ground.proofs.Cases.{past, here, clash, true-or, and-both}
+use Rattle.ground.proofs.Cases.{past, here, clash, true-or}
+use Rattle.desk_replies.specs.Replies.{stateRight, fronted, linkOf, accountOf}
 use Rattle.catalogue_tables.specs.Tables.{Tables}
 use Rattle.catalogue_check.specs.Catalogue.{catalogueRule, catalogueCarries}
 use Rattle.player_state.specs.declared.Player.{Player}
 use Rattle.player_values.specs.Values.{sourceOf, valueOf}
-use Rattle.desk_slots.specs.Slots.{placeCount, clientCount, owing, slotOf, characteristicOf}
+use Rattle.desk_slots.specs.Slots.{slotCount, serviceCount, placeCount, clientCount, owing, slotOf, characteristicOf, placeOf, serviceOf, slotAt}
 use Rattle.desk_slots.specs.Round.{next}
 use Rattle.desk_slots.proofs.Bits.{has-zero, no-slot}
 use Rattle.desk_slots.proofs.NextLaws.{Nearest, next-hit, next-nearest, next-same}
+use Rattle.desk_slots.proofs.PlaceLaws.{AllSets, has-places, places-lt, place-again, service-there, slot-there}
 use Rattle.desk_slots.proofs.TableLaws.{slot-back}
 use Rattle.desk_client.specs.declared.Entry.{Entry}
+use Rattle.desk_client.specs.declared.Link.{Link}
+use Rattle.desk_client.specs.declared.Account.{Account}
 use Rattle.desk_client.specs.declared.Client.{Client}
-use Rattle.desk_client.specs.Client.{controlSlot, blankEntry, clientRule}
-use Rattle.desk_client.specs.Duties.{passedOn}
-use Rattle.desk_client.proofs.Rule.{connected-linked, linked-connected, owed-within, mark-within, waits-when-owed, few-results, owed-connected}
+use Rattle.desk_client.specs.Client.{controlSlot, blankEntry, linkRule, accountFits, noAccount, accountWith, clientRule}
+use Rattle.desk_client.specs.Setters.{withMark}
+use Rattle.desk_client.specs.Duties.{served, passedOn}
+use Rattle.desk_client.proofs.Rule.{Fit, connected-linked, linked-connected, connected-fit, fit-connected, mark-within, owed-within, waits-when-owed, few-results, owed-connected, client-stands}
 use Rattle.desk_client.proofs.Kept.{kept-served}
 use Rattle.desk_client.proofs.SlotBySlot.{served-subscribed}
 use Rattle.desk_state.specs.declared.Desk.{Desk}
-use Rattle.desk_state.specs.Desk.{noClient, clientAt, clientsRule, deskRule}
-use Rattle.desk_state.proofs.Laws.{player-stands, turn-there}
-use Rattle.desk_take.specs.Serving.{nextSlot, resultOctets, presentOctets, handedOctets, handedValues, afterServing}
-use Rattle.desk_take.specs.Take.{owedSets, nextClient, withServed, takenBy, takeCall, takeOctets}
-use Rattle.desk_take.proofs.Laws.{set-of}
-use Rattle.desk_history.specs.Ledger.{Side, Ledger, passing, anyWaits as any, owes, owedAny, nextIn, slotIn, servingNext, taking, mayTake}
+use Rattle.desk_state.specs.Desk.{noPlayer, serviceAt, clientAt, withAccount, withClient}
+use Rattle.desk_state.proofs.Laws.{listed, own-account, link-stands, turn-there, account-stands, desk-stands, service-there as service-stands}
+use Rattle.desk_take.specs.Serving.{placesOwed, nextPlace, resultOctets, presentOctets, playerAt, handedOctets, handedValues, afterServing}
+use Rattle.desk_take.specs.Take.{owedSets, nextClient, playersOf, withServed, takenBy, takeCall, takeOctets}
+use Rattle.desk_history.specs.Ledger.{Claims, Ledger, changing, serving, passing, anyWaits as any, owes, owedAt, owedAny, nextIn, placeIn, servingAt, taking, mayTake}
 use Rattle.desk_history.specs.History.{oldest, octetsIn, answerIn, spoken}
-use Rattle.desk_history.specs.Stored.{Like}
-use Rattle.desk_history.proofs.Likeness.{like-passed}
-use Rattle.desk_history.proofs.Steps.{Ok, ok-call, guard, like, rule}
+use Rattle.desk_history.specs.Stored.{LikeLink, LikeAccount, LikeService}
+use Rattle.desk_history.proofs.Likeness.{like-passed, like-served}
+use Rattle.desk_history.proofs.Agreement.{at-each, like-with, like-changing, agree-client, client-kept}
+use Rattle.desk_history.proofs.Steps.{Ok, ok-call, guard, like-link}
 use Rattle.desk_history.proofs.Exchanges.{as-many}
 use Rattle.desk_history.proofs.Serving.{owed-any, any-owed}
 
--- ---- one client: what is stored as owed is what the ledger owes
-module _ (x : Side) (c : Client) (l : Like x c) (r : clientRule c ≡ true) where
-  some-waits : (w : List Entry) → ltb 0 (length w) ≡ any w
-  some-waits [] = refl
-  some-waits (e ∷ w) = lt-ltb 0 (suc (length w)) (omega arith)
+-- ---- one account: what is stored as owed is what the ledger owes
+some-waits : (w : List Entry) → ltb 0 (length w) ≡ any w
+some-waits [] = refl
+some-waits (e ∷ w) = lt-ltb 0 (suc (length w)) (omega arith)
 
-  pub owed-bit : (s : ℕ) → s < placeCount → has (c .account .owed) s ≡ owes x s
-  owed-bit s h =
-      elim (ℕ-discrete s controlSlot) [
-        | yes e ↦
-            ap (has (c .account .owed)) e ∙ waits-when-owed c r ∙ ap (ltb 0) (sym (as-many x c l r)) ∙ some-waits (x .account .waiting) ∙ here (x .account .due s) (eq-eqb s controlSlot e) refl
-        | no n ↦ l .account .due s h n ∙ past (any (x .account .waiting)) (ne-eqb s controlSlot n) refl
-      ]
+owed-slot : (x : Claims) (l : Link) (a : Account) → LikeAccount x a → accountFits l a ≡ true → (s : ℕ) → s < slotCount → has (a .owed) s ≡ owes x s
+owed-slot x l a alike fits s h =
+    elim (ℕ-discrete s controlSlot) [
+      | yes e ↦
+          ap (has (a .owed)) e ∙ waits-when-owed l a fits ∙ ap (ltb 0) (sym (as-many x l a alike fits)) ∙ some-waits (x .waiting) ∙ here (x .due s) (eq-eqb s controlSlot e) refl
+      | no n ↦ alike .due s h n ∙ past (any (x .waiting)) (ne-eqb s controlSlot n) refl
+    ]
 
-  -- the client is owed something
-  pub owing-any : not (eqb (c .account .owed) 0) ≡ owedAny x
-  owing-any = go (owedAny x) refl
-    where
-      go : (t : Bool) → owedAny x ≡ t → not (eqb (c .account .owed) 0) ≡ t
-      go true e =
-          let w = any-owed x e in
-          ap not (ne-eqb (c .account .owed) 0 (λ z. true≢false (sym (owed-bit (w .0) (w .1) ∙ w .2) ∙ ap (λ (v : ℕ). has v (w .0)) z ∙ has-zero (w .0))))
-      go false e =
-          ap not (eq-eqb (c .account .owed) 0 (no-slot placeCount (c .account .owed) (owed-within c r)
-          (λ s h. ⊎-elim (λ (o : owes x s ≡ true). clash (sym e ∙ owed-any x s h o)) (λ o. owed-bit s h ∙ o) (true-or (owes x s)))))
-
-  -- and the slot that comes next
-  pub slot-same : nextSlot c ≡ slotIn x
-  unfolding slotIn
-  slot-same = next-same placeCount (has (c .account .owed)) (owes x) (c .link .mark) (mark-within c r) owed-bit ∙ ap (next placeCount (owes x)) (l .link .last)
+-- numbers that are sets of slots, listed
+all-listed : (f : ℕ → ℕ) (n a : ℕ) → ((i : ℕ) → i < a + n → f i < 2 ^ slotCount) → AllSets (map f (span a n))
+all-listed f zero a h = tt
+all-listed f (suc n) a h = (h a (omega arith), all-listed f n (suc a) (λ i l. h i (omega arith)))
 
 -- ---- the whole
 module _ (k : Tables) (right : catalogueRule k ≡ true) (L : Ledger) (d : Desk) (ok : Ok k L d) where
   turned : d .turn < clientCount
   turned = turn-there (k .groups) (k .tracks) d (ok .1)
 
+  -- a client, with every service
+  module _ (who : ℕ) (there : who < clientCount) where
+    abbrev own : Client
+    own = clientAt d who
+
+    abbrev setOwed : ℕ → ℕ
+    setOwed v = accountWith (clientAt d who) v .owed
+
+    line : LikeLink (L .link who) (linkOf d who)
+    line = like-link k right L d ok who there
+
+    stands : linkRule (linkOf d who) ≡ true
+    stands = link-stands (k .groups) (k .tracks) d (ok .1) who there
+
+    module _ (v : ℕ) (h : v < serviceCount) where
+      alike : LikeAccount (L .service v .account who) (accountOf d who v)
+      alike = ok .0 .service v h .account who there
+
+      fits : accountFits (linkOf d who) (accountOf d who v) ≡ true
+      fits = account-stands (k .groups) (k .tracks) d (ok .1) v who h there
+
+      is-own : accountWith own v ≡ accountOf d who v
+      is-own = own-account d who v h
+
+    all-sets : AllSets (map setOwed (span 0 serviceCount))
+    all-sets =
+        all-listed setOwed serviceCount 0
+        (λ v h. subst (λ (a : Account). a .owed < 2 ^ slotCount) (sym (is-own v (omega arith))) (owed-within (linkOf d who) (accountOf d who v) (fits v (omega arith))))
+
+    -- the places that are stored as owed are those that the ledger owes
+    owed-bit : (place : ℕ) → place < placeCount → has (placesOwed own) place ≡ owedAt L who place
+    unfolding placesOwed
+    owed-bit place h =
+        let v = serviceOf place in
+        let s = slotAt place in
+        let t = service-there place h in
+        ap (has (placesOwed own)) (sym (place-again place))
+        ∙ has-places (map setOwed (span 0 serviceCount)) all-sets v s (slot-there place)
+        ∙ ap (λ (w : ℕ). has w s) (listed setOwed serviceCount v 0 t ∙ ap (λ (a : Account). a .owed) (is-own v t))
+        ∙ owed-slot (L .service v .account who) (linkOf d who) (accountOf d who v) (alike v t) (fits v t) s (slot-there place)
+
+    -- the client is owed something
+    owing-any : not (eqb (placesOwed own) 0) ≡ owedAny L who
+    unfolding placesOwed
+    owing-any = go (owedAny L who) refl
+      where
+        go : (t : Bool) → owedAny L who ≡ t → not (eqb (placesOwed own) 0) ≡ t
+        go true e =
+            let w = any-owed L who e in
+            ap not (ne-eqb (placesOwed own) 0 (λ z. true≢false (sym (owed-bit (w .0) (w .1) ∙ w .2) ∙ ap (λ (v : ℕ). has v (w .0)) z ∙ has-zero (w .0))))
+        go false e =
+            ap not (eq-eqb (placesOwed own) 0 (no-slot placeCount (placesOwed own) (places-lt (map setOwed (span 0 serviceCount)) all-sets)
+            (λ p h. ⊎-elim (λ (o : owedAt L who p ≡ true). clash (sym e ∙ owed-any L who p h o)) (λ o. owed-bit p h ∙ o) (true-or (owedAt L who p)))))
+
+    -- and the place that comes next
+    place-same : nextPlace own ≡ placeIn L who
+    unfolding placeIn clientAt
+    place-same =
+        next-same placeCount (has (placesOwed own)) (owedAt L who) (linkOf d who .mark) (mark-within (linkOf d who) stands) owed-bit
+        ∙ ap (next placeCount (owedAt L who)) (line .last)
+
   -- the same client comes next
-  pub next-agrees : nextClient d ≡ nextIn L
-  unfolding nextClient nextIn owing
+  next-agrees : nextClient d ≡ nextIn L
+  unfolding nextClient nextIn owing owedSets
   next-agrees =
-      next-same clientCount (owing (owedSets (d .clients))) (λ c. owedAny (L .side c)) (d .turn) turned
-      (λ c h. ap (λ (w : ℕ). not (eqb w 0)) (set-of (d .clients) c) ∙ owing-any (L .side c) (clientAt (d .clients) c) (like k right L d ok c h) (rule k right L d ok c h))
-      ∙ ap (next clientCount (λ c. owedAny (L .side c))) (ok .0 .turn)
+      next-same clientCount (owing (owedSets d)) (owedAny L) (d .turn) turned
+      (λ c h. ap (λ (w : ℕ). not (eqb w 0)) (listed (λ (who : ℕ). placesOwed (clientAt d who)) clientCount c 0 h) ∙ owing-any c h)
+      ∙ ap (next clientCount (owedAny L)) (ok .0 .turn)
 
   module _ (inside : nextIn L < clientCount) where
     abbrev who : ℕ
     who = nextIn L
 
-    abbrev own : Client
-    own = clientAt (d .clients) (nextIn L)
+    abbrev place : ℕ
+    place = placeIn L (nextIn L)
 
-    abbrev x : Side
-    x = L .side (nextIn L)
+    abbrev v : ℕ
+    v = serviceOf (placeIn L (nextIn L))
 
-    l : Like x own
-    l = like k right L d ok who inside
+    abbrev slot : ℕ
+    slot = slotAt (placeIn L (nextIn L))
 
-    r : clientRule own ≡ true
-    r = rule k right L d ok who inside
+    -- the client's link, its account with the service that is served, and what the ledger says of it
+    abbrev link : Link
+    link = linkOf d (nextIn L)
 
-    near : Nearest clientCount (λ c. owedAny (L .side c)) (L .turn) who
+    abbrev account : Account
+    account = accountOf d (nextIn L) (serviceOf (placeIn L (nextIn L)))
+
+    abbrev x : Claims
+    x = L .service (serviceOf (placeIn L (nextIn L))) .account (nextIn L)
+
+    near : Nearest clientCount (owedAny L) (L .turn) who
     unfolding nextIn
-    near = next-hit clientCount (λ c. owedAny (L .side c)) (L .turn) (subst (λ (n : ℕ). n < clientCount) (ok .0 .turn) turned) inside
+    near = next-hit clientCount (owedAny L) (L .turn) (subst (λ (n : ℕ). n < clientCount) (ok .0 .turn) turned) inside
 
-    -- the slot that is served is owed
-    slot : Nearest placeCount (owes x) (x .link .last) (slotIn x)
-    unfolding slotIn
-    slot =
-        let w = any-owed x (near .holds) in
-        next-nearest placeCount (owes x) (x .link .last) (subst (λ (n : ℕ). n < placeCount) (l .link .last) (mark-within own r)) (w .0) (w .1) (w .2)
+    -- the place that is served is owed
+    near-place : Nearest placeCount (owedAt L who) (L .link who .last) place
+    unfolding placeIn
+    near-place =
+        let w = any-owed L who (near .holds) in
+        next-nearest placeCount (owedAt L who) (L .link who .last) (subst (λ (n : ℕ). n < placeCount) (line who inside .last) (mark-within link (stands who inside))) (w .0) (w .1) (w .2)
 
-    is-owed : has (own .account .owed) (slotIn x) ≡ true
-    is-owed = owed-bit x own l r (slotIn x) (slot .inside) ∙ slot .holds
+    serviced : v < serviceCount
+    serviced = service-there place (near-place .inside)
 
-    waits : slotIn x ≡ controlSlot → 0 < own .account .waiting
-    waits e = ltb-true 0 (own .account .waiting) (sym (waits-when-owed own r) ∙ ap (has (own .account .owed)) (sym e) ∙ is-owed)
+    fitting : accountFits link account ≡ true
+    fitting = fits who inside v serviced
 
-    connected : own .link .connected ≡ true
-    connected = owed-connected own r (slotIn x) is-owed
+    like-account : LikeAccount x account
+    like-account = alike who inside v serviced
 
-    served-like : Like (passing (slotIn x) x) (passedOn (slotIn x) own)
-    served-like = like-passed x own l (slotIn x) (few-results own r) waits
+    is-owed : has (account .owed) slot ≡ true
+    is-owed = owed-slot x link account like-account fitting slot (slot-there place) ∙ near-place .holds
 
-    served-rule : clientRule (passedOn (slotIn x) own) ≡ true
-    unfolding passedOn
+    waits : slot ≡ controlSlot → 0 < account .waiting
+    waits e = ltb-true 0 (account .waiting) (sym (waits-when-owed link account fitting) ∙ ap (has (account .owed)) (sym e) ∙ is-owed)
+
+    connected : link .connected ≡ true
+    connected = owed-connected link account fitting slot is-owed
+
+    abbrev after : Client
+    after = passedOn (placeIn L (nextIn L)) (clientAt d (nextIn L))
+
+    -- the client's accounts afterwards: of the service that is served another, of the others as they were
+    each-account : (Fits : ℕ → Account → Type 0) → Fits v (served slot account) → ((w : ℕ) → w < serviceCount → (w ≡ v → ⊥) → Fits w (accountOf d who w))
+        → (w : ℕ) → w < serviceCount → Fits w (accountWith after w)
+    unfolding passedOn clientAt
+    each-account Fits new others w h =
+        at-each Fits (clientAt d who .accounts) v (served slot (accountWith (clientAt d who) v)) noAccount serviced
+        (subst (λ (a : Account). Fits v (served slot a)) (sym (is-own who inside v serviced)) new) w
+        (λ n. subst (Fits w) (sym (is-own who inside w h)) (others w h n))
+
+    served-rule : clientRule after ≡ true
+    unfolding passedOn clientAt
     served-rule =
-        let linked = connected-linked own r connected in
-        linked-connected (passedOn (slotIn x) own) connected
-        (record {
-          mtu-from = linked .mtu-from;
-          mtu-to = linked .mtu-to;
-          marked = slot .inside;
-          account = kept-served (own .account) (linked .account) (slotIn x) (l .account .long) is-owed;
-          safe = ap (λ (n : ℕ). own .link .encrypted || eqb n 0) (served-subscribed (own .account) (slotIn x)) ∙ linked .safe;
-        })
-
-    pub served-ok : Ok k (servingNext L who) (withServed who (passedOn (slotIn x) own) d)
-    unfolding deskRule clientsRule
-    served-ok = (
-      record {
-        player = ok .0 .player;
-        turn = refl;
-        long = length-set (d .clients) who (passedOn (slotIn x) own) ∙ ok .0 .long;
-        side = λ c h. at c h (ℕ-discrete c who);
-      },
-      and-both (and-both (player-stands (k .groups) (k .tracks) d (ok .1)) (all-intro (λ c. clientRule (clientAt (set (d .clients) who (passedOn (slotIn x) own)) c)) clientCount each)) (lt-ltb who clientCount inside),
-    )
+        client-stands after
+        (linked-connected (withMark place link) connected
+        (let l = connected-linked link (stands who inside) connected in record { mtu-from = l .mtu-from; mtu-to = l .mtu-to; marked = near-place .inside }))
+        (each-account (λ w a. accountFits (withMark place link) a ≡ true)
+        (again (served slot account)
+        (let f = connected-fit link account fitting connected in
+        record {
+          account = kept-served account (f .account) slot (like-account .long) is-owed;
+          safe = ap (λ (n : ℕ). link .encrypted || eqb n 0) (served-subscribed account slot) ∙ f .safe;
+        }))
+        (λ w h n. again (accountOf d who w) (connected-fit link (accountOf d who w) (fits who inside w h) connected)))
       where
-        stored : clientAt (set (d .clients) who (passedOn (slotIn x) own)) who ≡ passedOn (slotIn x) own
-        stored = getD-set-same (d .clients) who (passedOn (slotIn x) own) noClient (subst (λ (n : ℕ). who < n) (sym (ok .0 .long)) inside)
+        -- the mark does not matter to an account
+        again : (a : Account) → Fit link a → accountFits (withMark place link) a ≡ true
+        again a f = fit-connected (withMark place link) a connected (record { account = f .account; safe = f .safe })
 
-        at : (c : ℕ) → c < clientCount → Dec (c ≡ who) → Like (pick (eqb c who) (passing (slotIn (L .side c)) (L .side c)) (L .side c)) (clientAt (set (d .clients) who (passedOn (slotIn x) own)) c)
-        at c h (yes e) =
-            subst (λ (n : ℕ). Like (pick (eqb n who) (passing (slotIn (L .side n)) (L .side n)) (L .side n)) (clientAt (set (d .clients) who (passedOn (slotIn x) own)) n)) (sym e)
-            (subst (λ (b : Bool). Like (pick b (passing (slotIn x) x) x) (clientAt (set (d .clients) who (passedOn (slotIn x) own)) who)) (sym (eq-eqb who who refl))
-            (subst (Like (passing (slotIn x) x)) (sym stored) served-like))
-        at c h (no n) =
-            subst (λ (b : Bool). Like (pick b (passing (slotIn (L .side c)) (L .side c)) (L .side c)) (clientAt (set (d .clients) who (passedOn (slotIn x) own)) c)) (sym (ne-eqb c who n))
-            (subst (Like (L .side c)) (sym (getD-set-other (d .clients) who c (passedOn (slotIn x) own) noClient n)) (ok .0 .side c h))
+    served-like : (w : ℕ) → w < serviceCount → LikeService (servingAt L who place .service w) (withAccount who (accountWith after w) (serviceAt d w))
+    served-like =
+        each-account (λ w a. LikeService (servingAt L who place .service w) (withAccount who a (serviceAt d w)))
+        (subst (λ (t : Bool). LikeService (pick t (changing who (serving slot) (L .service v)) (L .service v)) (withAccount who (served slot account) (serviceAt d v))) (sym (eq-eqb v v refl))
+        (like-changing (L .service v) (serviceAt d v) (ok .0 .service v serviced) who inside (served slot account) (serving slot)
+        (like-served x account like-account slot (few-results link account fitting) waits)))
+        (λ w h n.
+        subst (λ (t : Bool). LikeService (pick t (changing who (serving slot) (L .service w)) (L .service w)) (withAccount who (accountOf d who w) (serviceAt d w))) (sym (ne-eqb w v n))
+        (like-with (L .service w) (serviceAt d w) (ok .0 .service w h) who inside (accountOf d who w) (L .service w) refl (alike who inside w h) (λ c m. refl)))
 
-        each : (c : ℕ) → c < clientCount → clientRule (clientAt (set (d .clients) who (passedOn (slotIn x) own)) c) ≡ true
-        each c h =
-            elim (ℕ-discrete c who) [
-              | yes e ↦ ap (λ (n : ℕ). clientRule (clientAt (set (d .clients) who (passedOn (slotIn x) own)) n)) e ∙ ap clientRule stored ∙ served-rule
-              | no n ↦ ap clientRule (getD-set-other (d .clients) who c (passedOn (slotIn x) own) noClient n) ∙ rule k right L d ok c h
-            ]
+    served-link : LikeLink (servingAt L who place .link who) (after .link)
+    unfolding passedOn clientAt
+    served-link =
+        subst (λ (t : Bool). LikeLink (pick t (passing place (L .link who)) (L .link who)) (withMark place link)) (sym (eq-eqb who who refl))
+        (like-passed (L .link who) link (line who inside) place)
+
+    served-ok : Ok k (servingAt L who place) (withServed who after d)
+    unfolding withServed
+    served-ok =
+        let kept = client-kept L d (ok .0) who inside after (k .groups) (k .tracks) (ok .1) served-rule in (
+          agree-client L d (ok .0) who inside after (servingAt L who place) served-link
+              (λ c n. ap (λ (t : Bool). pick t (passing place (L .link c)) (L .link c)) (ne-eqb c who n)) served-like who refl,
+          desk-stands (k .groups) (k .tracks) (withServed who after d)
+              (service-stands (k .groups) (k .tracks) (withClient who after d) kept) (link-stands (k .groups) (k .tracks) (withClient who after d) kept) inside,
+        )
 
     -- what is handed out is what the ledger says
     first-result : (n : ℕ) (rs : List Entry) → 0 < n → 0 < length rs → resultOctets (getD rs 0 blankEntry) ≡ oldest (firsts n rs)
@@ -182,35 +259,43 @@ module _ (k : Tables) (right : catalogueRule k ≡ true) (L : Ledger) (d : Desk)
     first-result (suc n) [] h m = absurd (not-suc-le-zero m)
     first-result (suc n) (e ∷ rs) h m = refl
 
-    present : presentOctets k (d .player) own (nextSlot own)
-        ≡ pick (eqb (slotIn x) controlSlot) (oldest (x .account .waiting)) (valueOf (sourceOf k) (L .player) (characteristicOf (slotIn x)))
-    present = ap (presentOctets k (d .player) own) (slot-same x own l r) ∙ at (ℕ-discrete (slotIn x) controlSlot)
+    abbrev value : Player → List ℕ
+    value p = valueOf (sourceOf k) p (characteristicOf (slotAt (placeIn L (nextIn L))))
+
+    present : presentOctets k (serviceAt d v .player) account slot ≡ pick (eqb slot controlSlot) (oldest (x .waiting)) (value (L .service v .player))
+    present = at (ℕ-discrete slot controlSlot)
       where
-        value : valueOf (sourceOf k) (d .player) (characteristicOf (slotIn x)) ≡ valueOf (sourceOf k) (L .player) (characteristicOf (slotIn x))
-        value = ap (λ (p : Player). valueOf (sourceOf k) p (characteristicOf (slotIn x))) (ok .0 .player)
-
-        at : Dec (slotIn x ≡ controlSlot) → presentOctets k (d .player) own (slotIn x) ≡ pick (eqb (slotIn x) controlSlot) (oldest (x .account .waiting)) (valueOf (sourceOf k) (L .player) (characteristicOf (slotIn x)))
+        at : Dec (slot ≡ controlSlot) → presentOctets k (serviceAt d v .player) account slot ≡ pick (eqb slot controlSlot) (oldest (x .waiting)) (value (L .service v .player))
         at (yes e) =
-            sym (here _ (eq-eqb (slotIn x) controlSlot e) refl)
-            ∙ first-result (own .account .waiting) (own .account .results) (waits e) (omega (arith, l .account .long)) ∙ ap oldest (l .account .waiting)
-            ∙ here _ (eq-eqb (slotIn x) controlSlot e) refl
-        at (no n) = sym (past _ (ne-eqb (slotIn x) controlSlot n) refl) ∙ value ∙ past _ (ne-eqb (slotIn x) controlSlot n) refl
+            sym (here _ (eq-eqb slot controlSlot e) refl)
+            ∙ first-result (account .waiting) (account .results) (waits e) (omega (arith, like-account .long)) ∙ ap oldest (like-account .waiting)
+            ∙ here _ (eq-eqb slot controlSlot e) refl
+        at (no n) = sym (past _ (ne-eqb slot controlSlot n) refl) ∙ ap value (ok .0 .service v serviced .player) ∙ past _ (ne-eqb slot controlSlot n) refl
 
-    pub octets-agree : handedOctets k (d .player) own ≡ octetsIn k (L .player) x (slotIn x)
-    unfolding handedOctets
-    octets-agree = λ i. firsts (l .link .mtu i - 3) (present i)
+    octets-agree : handedOctets k (playersOf d) (clientAt d who) ≡ octetsIn k (L .service v) who (L .link who) slot
+    unfolding handedOctets clientAt
+    octets-agree =
+        ap (λ (p : ℕ). firsts (link .mtu - 3) (presentOctets k (playerAt (playersOf d) (serviceOf p)) (accountWith (clientAt d who) (serviceOf p)) (slotAt p))) (place-same who inside)
+        ∙ (λ i. firsts (link .mtu - 3) (presentOctets k (listed (λ (w : ℕ). serviceAt d w .player) serviceCount v noPlayer serviced i) (is-own who inside v serviced i) slot))
+        ∙ (λ i. firsts (line who inside .mtu i - 3) (present i))
+
+    -- the place that is named is the one that was served
+    place-named : placeOf (serviceOf (nextPlace (clientAt d who))) (slotOf (characteristicOf (slotAt (nextPlace (clientAt d who))))) ≡ place
+    place-named =
+        ap (λ (p : ℕ). placeOf (serviceOf p) (slotOf (characteristicOf (slotAt p)))) (place-same who inside)
+        ∙ ap (placeOf v) (slot-back slot (slot-there place)) ∙ place-again place
 
   taken-ok : Ok k (taking L (nextIn L)) (takenBy k d (nextIn L) .state)
   taken-ok = go (leb clientCount (nextIn L)) refl
     where
       go : (t : Bool) → leb clientCount (nextIn L) ≡ t
-          → Ok k (pick t L (servingNext L (nextIn L))) (pick t (leaves (granted []) d) (leaves (granted (nextIn L ∷ handedValues k (d .player) (caller d (nextIn L)))) (withServed (nextIn L) (afterServing (caller d (nextIn L))) d)) .state)
+          → Ok k (pick t L (servingAt L (nextIn L) (placeIn L (nextIn L))))
+          (pick t (leaves (granted []) d) (leaves (granted (nextIn L ∷ handedValues k (playersOf d) (clientAt d (nextIn L)))) (withServed (nextIn L) (afterServing (clientAt d (nextIn L))) d)) .state)
       go true e = ok
       go false e =
           let h = leb-false clientCount (nextIn L) e in
-          let own = clientAt (d .clients) (nextIn L) in
-          subst (λ (s : ℕ). Ok k (servingNext L (nextIn L)) (withServed (nextIn L) (passedOn s own) d))
-          (sym (slot-same (L .side (nextIn L)) own (like k right L d ok (nextIn L) h) (rule k right L d ok (nextIn L) h))) (served-ok h)
+          subst (λ (p : ℕ). Ok k (servingAt L (nextIn L) (placeIn L (nextIn L))) (withServed (nextIn L) (passedOn p (clientAt d (nextIn L))) d))
+          (sym (place-same (nextIn L) h)) (served-ok h)
 
   pub take-step : (room : ℕ) → Ok k (pick (mayTake room) (taking L (nextIn L)) L) (takeCall k d room .state)
   unfolding takeCall
@@ -236,18 +321,17 @@ module _ (k : Tables) (right : catalogueRule k ≡ true) (L : Ledger) (d : Desk)
       rows = fronted k (ltb room leastOutput) d ++ []
 
       octets : ℕ → List ℕ
-      octets n = pick (leb clientCount n) [] (handedOctets k (d .player) (clientAt (d .clients) n))
+      octets n = pick (leb clientCount n) [] (handedOctets k (playersOf d) (clientAt d n))
 
       serves : (u : Bool) → leb clientCount (nextIn L) ≡ u
-          → spoken (pick u (leaves (granted []) d) (leaves (granted (nextIn L ∷ handedValues k (d .player) (caller d (nextIn L)))) (withServed (nextIn L) (afterServing (caller d (nextIn L))) d)) .said .values) (pick u [] (handedOctets k (d .player) (clientAt (d .clients) (nextIn L))))
+          → spoken
+          (pick u (leaves (granted []) d) (leaves (granted (nextIn L ∷ handedValues k (playersOf d) (clientAt d (nextIn L)))) (withServed (nextIn L) (afterServing (clientAt d (nextIn L))) d)) .said .values)
+          (pick u [] (handedOctets k (playersOf d) (clientAt d (nextIn L))))
           ≡ pick u none (some (answerIn k L (nextIn L)))
       serves true e = refl
       serves false e =
           let h = leb-false clientCount (nextIn L) e in
-          let own = clientAt (d .clients) (nextIn L) in
-          let same = slot-same (L .side (nextIn L)) own (like k right L d ok (nextIn L) h) (rule k right L d ok (nextIn L) h) in
-          let back = ap (λ (s : ℕ). slotOf (characteristicOf s)) same ∙ slot-back (slotIn (L .side (nextIn L))) (slot h .inside) in
-          λ i. some (record { client = nextIn L; slot = back i; octets = octets-agree h i })
+          λ i. some (record { client = nextIn L; place = place-named h i; octets = octets-agree h i })
 
       enough : (t : Bool) → spoken (pick t (takenBy k d (nextIn L) .said) (saidBy rows) .values) (octets (nextClient d))
           ≡ pick t (pick (leb clientCount (nextIn L)) none (some (answerIn k L (nextIn L)))) none

@@ -12,30 +12,31 @@ use Rattle.desk_exchange.specs.Read.{readCall}
 use Rattle.desk_exchange.specs.Write.{writeCall}
 use Rattle.desk_take.specs.Take.{takeCall}
 
--- document 01, "Calls": all but start, which begins a history, and card load, which takes no state; a read and a take with the octets of room that they lend
+-- document 01, "Calls": all but start, which begins a history, and card load, which takes no state; a client, then a service, then what else they are told; a
+-- read and a take with the octets of room that they lend
 pub data Call : Type 0 where
-  setName : List ℕ → Call
-  activate : ℕ → Call
-  deactivate : Call
-  advance : ℕ → Call
+  setName : ℕ → List ℕ → Call
+  activate : ℕ → ℕ → Call
+  deactivate : ℕ → Call
+  advance : ℕ → ℕ → Call
   connect : ℕ → ℕ → Bool → Call
   disconnect : ℕ → Call
-  subscribe : ℕ → ℕ → Call
-  unsubscribe : ℕ → ℕ → Call
-  read : ℕ → ℕ → ℕ → ℕ → Call
-  write : ℕ → ℕ → List ℕ → Call
+  subscribe : ℕ → ℕ → ℕ → Call
+  unsubscribe : ℕ → ℕ → ℕ → Call
+  read : ℕ → ℕ → ℕ → ℕ → ℕ → Call
+  write : ℕ → ℕ → ℕ → List ℕ → Call
   take : ℕ → Call
 
 -- what a call says and leaves, by its contract
 abbrev pub left : Tables → Call → Desk → Left Desk
-left k (setName name) d = nameCall k d name
-left k (activate g) d = activateCall k d g
-left k deactivate d = deactivateCall k d
-left k (advance step) d = advanceCall k d step
+left k (setName v name) d = nameCall k d v name
+left k (activate v g) d = activateCall k d v g
+left k (deactivate v) d = deactivateCall k d v
+left k (advance v step) d = advanceCall k d v step
 left k (connect who mtu encrypted) d = connectCall k d who mtu encrypted
 left k (disconnect who) d = disconnectCall k d who
-left k (subscribe who c) d = subscribeCall k d who c
-left k (unsubscribe who c) d = unsubscribeCall k d who c
-left k (read who c offset room) d = readCall k d who c offset room
-left k (write who c value) d = writeCall k d who c value
+left k (subscribe who v c) d = subscribeCall k d who v c
+left k (unsubscribe who v c) d = unsubscribeCall k d who v c
+left k (read who v c offset room) d = readCall k d who v c offset room
+left k (write who v c value) d = writeCall k d who v c value
 left k (take room) d = takeCall k d room

@@ -16,16 +16,15 @@ use Rattle.player_state.specs.Player.{renamed, deactivated, withOrder, withSpee
 use Rattle.player_moves.specs.declared.Controlled.{Controlled}
 use Rattle.player_moves.specs.Control.{controlled}
 use Rattle.player_moves.specs.Clock.{advanced, positioned, activated}
-use Rattle.desk_slots.specs.Slots.{placeCount, clientCount, slotOf, characteristicOf}
+use Rattle.desk_slots.specs.Slots.{placeCount, clientCount, slotOf, characteristicOf, serviceOf, slotAt}
 use Rattle.desk_slots.specs.Round.{next}
 use Rattle.desk_client.specs.declared.Entry.{Entry}
 use Rattle.desk_client.specs.Client.{controlSlot, isControl}
 use Rattle.desk_notices.specs.Changes.{changed, trackChanged}
 use Rattle.desk_notices.specs.declared.Cause.{Cause}
 use Rattle.desk_notices.specs.Owed.{fallsDue, spared, noWriter, byWriter}
-use Rattle.desk_replies.specs.Replies.{ofClient}
-use Rattle.desk_links.specs.Links.{connectRows, slotRows}
-use Rattle.desk_console.specs.Console.{nameRows, activateRows, quietAdvance}
+use Rattle.desk_links.specs.Links.{connectRows, disconnectRows, slotRows}
+use Rattle.desk_console.specs.Console.{nameRows, activateRows, serviceRows, quietAdvance}
 use Rattle.desk_exchange.specs.Read.{readRows}
 use Rattle.desk_exchange.specs.Write.{firstOctet, writeRows, numberOf}
 use Rattle.player_values.specs.Values.{sourceOf, valueOf}
@@ -38,7 +37,7 @@ pub record Line : Type 0 where
   pub mtu : ℕ
   pub last : ℕ
 
--- of its account: the slots that it is subscribed to, the values that are owed, the results that wait, oldest first, and the characteristics whose values
+-- of its account with a service: the slots that it is subscribed to, the values that are owed, the results that wait, oldest first, and the characteristics whose values
 -- it has in mind
 pub record Claims : Type 0 where
   pub wants : ℕ → Bool
@@ -46,39 +45,52 @@ pub record Claims : Type 0 where
   pub waiting : List Entry
   pub mind : ℕ → Bool
 
-pub record Side : Type 0 where
-  pub link : Line
-  pub account : Claims
-
--- of the whole: the player, the clients by number, and the client that was served last
-pub record Ledger : Type 0 where
+-- of a service: its player, and the accounts of its clients by number
+pub record Book : Type 0 where
   pub player : Player
-  pub side : ℕ → Side
+  pub account : ℕ → Claims
+
+-- of the whole: the services and the clients' links by number, and the client that was served last
+pub record Ledger : Type 0 where
+  pub service : ℕ → Book
+  pub link : ℕ → Line
   pub turn : ℕ
 
--- a client that is not connected; one that has just connected: the round begins at the lowest place
-abbrev pub linked : Bool → Bool → ℕ → Side
-linked on safe mtu =
-    record {
-      link = record { on = on; safe = safe; mtu = mtu; last = placeCount - 1 };
-      account = record { wants = λ s. false; due = λ s. false; waiting = []; mind = λ c. false };
-    }
+-- nothing asked for and nothing owed; a link, whose round begins at the lowest place; that of a client that is not connected
+abbrev pub noClaims : Claims
+noClaims = record { wants = λ s. false; due = λ s. false; waiting = []; mind = λ c. false }
 
-abbrev pub nobody : Side
-nobody = linked false false 23
+abbrev pub lineOf : Bool → Bool → ℕ → Line
+lineOf on safe mtu = record { on = on; safe = safe; mtu = mtu; last = placeCount - 1 }
+
+abbrev pub noLine : Line
+noLine = lineOf false false 23
 
 -- "After start the round of clients begins at 0"
-abbrev pub opening : Player → Ledger
-opening p = record { player = p; side = λ c. nobody; turn = clientCount - 1 }
+abbrev pub opening : Player → Player → Ledger
+opening generic named =
+    record {
+      service = λ v. record { player = pick (eqb v 0) generic named; account = λ c. noClaims };
+      link = λ c. noLine;
+      turn = clientCount - 1;
+    }
 
--- one client's part becomes f of it
-abbrev pub changing : ℕ → (Side → Side) → Ledger → Ledger
-changing who f L =
-    record { player = L .player; side = λ c. pick (eqb c who) (f (L .side c)) (L .side c); turn = L .turn }
+-- one service becomes f of it; within a service, one client's account
+abbrev pub inService : ℕ → (Book → Book) → Ledger → Ledger
+inService v f L =
+    record { service = λ w. pick (eqb w v) (f (L .service w)) (L .service w); link = L .link; turn = L .turn }
 
--- the account becomes f of it, the link stays
-abbrev pub onAccount : (Claims → Claims) → Side → Side
-onAccount f x = record { link = x .link; account = f (x .account) }
+abbrev pub changing : ℕ → (Claims → Claims) → Book → Book
+changing who f b = record { player = b .player; account = λ c. pick (eqb c who) (f (b .account c)) (b .account c) }
+
+-- "Connect and disconnect act on both" (document 02, W-208): a client's link becomes another, and no service owes it anything
+abbrev pub relinking : ℕ → Line → Ledger → Ledger
+relinking who line L =
+    record {
+      service = λ v. changing who (λ a. noClaims) (L .service v);
+      link = λ c. pick (eqb c who) line (L .link c);
+      turn = L .turn;
+    }
 
 -- "A slot is owed to a subscribed client when a call changes its value": whatever was owed stays owed; what changed is no longer in mind
 abbrev pub noticing : Tables → Player → Player → Cause → ℕ → Claims → Claims
@@ -94,9 +106,8 @@ noticing k p q cause who a =
       mind = λ c. a .mind c && not (changed (sourceOf k) p q c);
     }
 
-abbrev pub becoming : Tables → Cause → Player → Ledger → Ledger
-becoming k cause q L =
-    record { player = q; side = λ c. onAccount (noticing k (L .player) q cause c) (L .side c); turn = L .turn }
+abbrev pub becoming : Tables → Cause → Player → Book → Book
+becoming k cause q b = record { player = q; account = λ c. noticing k (b .player) q cause c (b .account c) }
 
 -- subscribing and unsubscribing: "Unsubscribing drops what the slot owes"
 abbrev pub joining : ℕ → Claims → Claims
@@ -136,7 +147,7 @@ abbrev pub behind : {A : Type 0} → List A → List A
 behind [] = []
 behind (e ∷ l) = l
 
--- a slot is served, and the client's round goes on behind it
+-- a slot is served; and the client's round goes on behind its place
 abbrev pub serving : ℕ → Claims → Claims
 serving s a =
     record {
@@ -146,103 +157,106 @@ serving s a =
       mind = a .mind;
     }
 
-abbrev pub passing : ℕ → Side → Side
-passing s x =
-    record {
-      link = record { on = x .link .on; safe = x .link .safe; mtu = x .link .mtu; last = s };
-      account = serving s (x .account);
-    }
+abbrev pub passing : ℕ → Line → Line
+passing place l = record { on = l .on; safe = l .safe; mtu = l .mtu; last = place }
 
 -- a slot is owed: 18 when results wait, another when its value is
 abbrev pub anyWaits : {A : Type 0} → List A → Bool
 anyWaits [] = false
 anyWaits (e ∷ l) = true
 
-abbrev pub owes : Side → ℕ → Bool
-owes x s = pick (isControl s) (anyWaits (x .account .waiting)) (x .account .due s)
+abbrev pub owes : Claims → ℕ → Bool
+owes a s = pick (isControl s) (anyWaits (a .waiting)) (a .due s)
+
+-- client who is owed something at a place: by that service, at that slot
+abbrev pub owedAt : Ledger → ℕ → ℕ → Bool
+owedAt L who place = owes (L .service (serviceOf place) .account who) (slotAt place)
 
 unfoldable pub anyBelow : ℕ → (ℕ → Bool) → Bool
 anyBelow zero test = false
 anyBelow (suc n) test = anyBelow n test || test n
 
-unfoldable pub owedAny : Side → Bool
-owedAny x = anyBelow placeCount (owes x)
+unfoldable pub owedAny : Ledger → ℕ → Bool
+owedAny L who = anyBelow placeCount (owedAt L who)
 
 -- "Take starts after the client last served, in number order round the four, and serves the first that is owed something; within it, the first owed
--- slot after its last served, round the ten."
+-- slot after its last served", "running through the generic service and then the other" (document 02, W-208)
 unfoldable pub nextIn : Ledger → ℕ
-nextIn L = next clientCount (λ c. owedAny (L .side c)) (L .turn)
+nextIn L = next clientCount (owedAny L) (L .turn)
 
-unfoldable pub slotIn : Side → ℕ
-slotIn x = next placeCount (owes x) (x .link .last)
+unfoldable pub placeIn : Ledger → ℕ → ℕ
+placeIn L who = next placeCount (owedAt L who) (L .link who .last)
 
-abbrev pub servingNext : Ledger → ℕ → Ledger
-servingNext L who =
+abbrev pub servingAt : Ledger → ℕ → ℕ → Ledger
+servingAt L who place =
     record {
-      player = L .player;
-      side = λ c. pick (eqb c who) (passing (slotIn (L .side c)) (L .side c)) (L .side c);
+      service = λ v. pick (eqb v (serviceOf place)) (changing who (serving (slotAt place)) (L .service v)) (L .service v);
+      link = λ c. pick (eqb c who) (passing place (L .link c)) (L .link c);
       turn = who;
     }
 
 abbrev pub taking : Ledger → ℕ → Ledger
-taking L who = pick (leb clientCount who) L (servingNext L who)
+taking L who = pick (leb clientCount who) L (servingAt L who (placeIn L who))
 
 -- which calls are accepted: by the same rows as the desk's, with what the ledger knows of the client
 abbrev pub mayConnect : Ledger → ℕ → ℕ → Bool
-mayConnect L who mtu = accepted (connectRows who (L .side who .link .on) mtu)
+mayConnect L who mtu = accepted (connectRows who (L .link who .on) mtu)
 
-abbrev pub asks : Ledger → ℕ → Bool
-asks L who = accepted (ofClient who (L .side who .link .on))
+abbrev pub mayLeave : Ledger → ℕ → Bool
+mayLeave L who = accepted (disconnectRows who (L .link who .on))
 
-abbrev pub mayJoin : Ledger → ℕ → ℕ → Bool
-mayJoin L who c = accepted (slotRows who (L .side who .link .on) (L .side who .link .safe) c)
+abbrev pub mayJoin : Ledger → ℕ → ℕ → ℕ → Bool
+mayJoin L who v c = accepted (slotRows who v (L .link who .on) (L .link who .safe) c)
 
-abbrev pub mayWrite : Ledger → ℕ → ℕ → List ℕ → Bool
-mayWrite L who c value = accepted (writeRows who (L .side who .link .on) (L .side who .link .safe) (length (L .side who .account .waiting)) c value)
+abbrev pub mayWrite : Ledger → ℕ → ℕ → ℕ → List ℕ → Bool
+mayWrite L who v c value =
+    accepted (writeRows who v (L .link who .on) (L .link who .safe) (length (L .service v .account who .waiting)) c value)
 
 -- 0x80: "read at offset above 0, and some call changed the value .. since the client's last accepted read of it at 0, or no such read since connecting"
-abbrev pub rowsOfRead : Tables → Ledger → ℕ → ℕ → ℕ → ℕ → List Row
-rowsOfRead k L who c offset room =
+abbrev pub rowsOfRead : Tables → Ledger → ℕ → ℕ → ℕ → ℕ → ℕ → List Row
+rowsOfRead k L who v c offset room =
     row 205 (ltb room leastOutput)
-    ∷ readRows who (L .side who .link .on) (L .side who .link .safe) (L .side who .account .mind c) c offset (length (valueOf (sourceOf k) (L .player) c))
+    ∷ readRows who v (L .link who .on) (L .link who .safe) (L .service v .account who .mind c) c offset (length (valueOf (sourceOf k) (L .service v .player) c))
 
-abbrev pub mayRead : Tables → Ledger → ℕ → ℕ → ℕ → ℕ → Bool
-mayRead k L who c offset room = accepted (rowsOfRead k L who c offset room)
+abbrev pub mayRead : Tables → Ledger → ℕ → ℕ → ℕ → ℕ → ℕ → Bool
+mayRead k L who v c offset room = accepted (rowsOfRead k L who v c offset room)
 
 abbrev pub mayTake : ℕ → Bool
 mayTake room = accepted (row 205 (ltb room leastOutput) ∷ [])
 
 -- a control write: the requested opcode and the result
-abbrev pub outcome : Tables → Ledger → List ℕ → Controlled
-outcome k L value = controlled (k .groups) (k .tracks) (k .segments) (firstOctet value) (numberOf value) (L .player)
+abbrev pub outcome : Tables → Book → List ℕ → Controlled
+outcome k b value = controlled (k .groups) (k .tracks) (k .segments) (firstOctet value) (numberOf value) (b .player)
 
-abbrev pub resultOf : Tables → Ledger → List ℕ → Entry
-resultOf k L value = record { opcode = firstOctet value; code = outcome k L value .result }
+abbrev pub resultOf : Tables → Book → List ℕ → Entry
+resultOf k b value = record { opcode = firstOctet value; code = outcome k b value .result }
 
-abbrev pub controlWriting : Tables → Ledger → ℕ → List ℕ → Ledger
-controlWriting k L who value =
-    changing who (onAccount (resulting (resultOf k L value))) (becoming k (byWriter who 18) (outcome k L value .player) L)
+abbrev pub controlWriting : Tables → ℕ → List ℕ → Book → Book
+controlWriting k who value b =
+    changing who (resulting (resultOf k b value)) (becoming k (byWriter who 18) (outcome k b value .player) b)
 
 -- "7, 8, 15, 18 may be written"
-abbrev pub writing : Tables → Ledger → ℕ → ℕ → List ℕ → Ledger
-writing k L who c value =
-    pick (eqb c 7) (becoming k (byWriter who 7) (positioned (k .tracks) (wordAt value 0) (L .player)) L)
-    (pick (eqb c 8) (becoming k (byWriter who 8) (withSpeed (firstOctet value) (L .player)) L)
-    (pick (eqb c 15) (becoming k (byWriter who 15) (withOrder (firstOctet value) (L .player)) L)
-    (controlWriting k L who value)))
+abbrev pub writing : Tables → ℕ → ℕ → List ℕ → Book → Book
+writing k who c value b =
+    pick (eqb c 7) (becoming k (byWriter who 7) (positioned (k .tracks) (wordAt value 0) (b .player)) b)
+    (pick (eqb c 8) (becoming k (byWriter who 8) (withSpeed (firstOctet value) (b .player)) b)
+    (pick (eqb c 15) (becoming k (byWriter who 15) (withOrder (firstOctet value) (b .player)) b)
+    (controlWriting k who value b)))
 
 -- a call that is refused alters nothing
 abbrev pub after : Tables → Call → Ledger → Ledger
-after k (setName name) L = pick (accepted (nameRows name)) (becoming k (noWriter false) (renamed name (L .player)) L) L
-after k (activate g) L = pick (accepted (activateRows k g)) (becoming k (noWriter false) (activated (k .groups) (k .tracks) g (L .player)) L) L
-after k deactivate L = becoming k (noWriter false) (deactivated (L .player)) L
-after k (advance step) L =
-    becoming k (noWriter (quietAdvance (k .tracks) step (L .player))) (advanced (k .groups) (k .tracks) step (L .player)) L
-after k (connect who mtu encrypted) L =
-    pick (mayConnect L who mtu) (changing who (λ x. linked true encrypted mtu) L) L
-after k (disconnect who) L = pick (asks L who) (changing who (λ x. nobody) L) L
-after k (subscribe who c) L = pick (mayJoin L who c) (changing who (onAccount (joining (slotOf c))) L) L
-after k (unsubscribe who c) L = pick (mayJoin L who c) (changing who (onAccount (leaving (slotOf c))) L) L
-after k (read who c offset room) L = pick (mayRead k L who c offset room) (changing who (onAccount (reading c offset)) L) L
-after k (write who c value) L = pick (mayWrite L who c value) (writing k L who c value) L
+after k (setName v name) L =
+    pick (accepted (nameRows v name)) (inService v (λ b. becoming k (noWriter false) (renamed name (b .player)) b) L) L
+after k (activate v g) L =
+    pick (accepted (activateRows k v g)) (inService v (λ b. becoming k (noWriter false) (activated (k .groups) (k .tracks) g (b .player)) b) L) L
+after k (deactivate v) L = pick (accepted (serviceRows v)) (inService v (λ b. becoming k (noWriter false) (deactivated (b .player)) b) L) L
+after k (advance v step) L =
+    pick (accepted (serviceRows v))
+    (inService v (λ b. becoming k (noWriter (quietAdvance (k .tracks) step (b .player))) (advanced (k .groups) (k .tracks) step (b .player)) b) L) L
+after k (connect who mtu encrypted) L = pick (mayConnect L who mtu) (relinking who (lineOf true encrypted mtu) L) L
+after k (disconnect who) L = pick (mayLeave L who) (relinking who noLine L) L
+after k (subscribe who v c) L = pick (mayJoin L who v c) (inService v (changing who (joining (slotOf c))) L) L
+after k (unsubscribe who v c) L = pick (mayJoin L who v c) (inService v (changing who (leaving (slotOf c))) L) L
+after k (read who v c offset room) L = pick (mayRead k L who v c offset room) (inService v (changing who (reading c offset)) L) L
+after k (write who v c value) L = pick (mayWrite L who v c value) (inService v (writing k who c value) L) L
 after k (take room) L = pick (mayTake room) (taking L (nextIn L)) L

@@ -4,4 +4,5 @@ pub mod Ledger
 pub mod Rounds
 pub mod History
 pub mod Stored
-pub mod Forty
+pub mod Reached
+pub mod Apart

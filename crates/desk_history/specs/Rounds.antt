@@ -9,14 +9,14 @@ use lib.Dec.{eqb}
 use Rattle.ground.specs.Cases.{pick}
 use Rattle.desk_slots.specs.Round.{dist}
 
--- "An answered take is one that serves a slot": the client, the slot, and the octets handed out
+-- "An answered take is one that serves a slot": the client, the place of the service's slot, and the octets handed out
 pub record Handout : Type 0 where
   pub client : ℕ
-  pub slot : ℕ
+  pub place : ℕ
   pub octets : List ℕ
 
 abbrev pub isFor : ℕ → ℕ → Handout → Bool
-isFor c s a = eqb c (a .client) && eqb s (a .slot)
+isFor c s a = eqb c (a .client) && eqb s (a .place)
 
 -- how many of these answers are for slot s of client c
 abbrev pub countFor : ℕ → ℕ → List Handout → ℕ
@@ -60,14 +60,14 @@ module _ (S : System) where
     pub slast< : (st : S .State) (c : ℕ) → S .Good st → c < m → S .slast st c < n
     -- an answer is for the first client after the last one countFor that anything waits for, and for the first slot after the last one countFor to it
     pub client< : (k : S .Call) (st : S .State) (a : Handout) → S .Good st → S .out k st ≡ some a → a .client < m
-    pub slot< : (k : S .Call) (st : S .State) (a : Handout) → S .Good st → S .out k st ≡ some a → a .slot < n
+    pub slot< : (k : S .Call) (st : S .State) (a : Handout) → S .Good st → S .out k st ≡ some a → a .place < n
     pub first-client : (k : S .Call) (st : S .State) (a : Handout) → S .Good st → S .out k st ≡ some a
         → (c s : ℕ) → c < m → s < n → 1 ≤ S .backlog st c s → dist m (S .last st) (a .client) ≤ dist m (S .last st) c
     pub first-slot : (k : S .Call) (st : S .State) (a : Handout) → S .Good st → S .out k st ≡ some a
-        → (s : ℕ) → s < n → 1 ≤ S .backlog st (a .client) s → dist n (S .slast st (a .client)) (a .slot) ≤ dist n (S .slast st (a .client)) s
+        → (s : ℕ) → s < n → 1 ≤ S .backlog st (a .client) s → dist n (S .slast st (a .client)) (a .place) ≤ dist n (S .slast st (a .client)) s
     -- the marks move to what was handed out, and to nothing else
     pub last-served : (k : S .Call) (st : S .State) (a : Handout) → S .Good st → S .out k st ≡ some a → S .last (S .step k st) ≡ a .client
-    pub slast-served : (k : S .Call) (st : S .State) (a : Handout) → S .Good st → S .out k st ≡ some a → S .slast (S .step k st) (a .client) ≡ a .slot
+    pub slast-served : (k : S .Call) (st : S .State) (a : Handout) → S .Good st → S .out k st ≡ some a → S .slast (S .step k st) (a .client) ≡ a .place
     pub slast-other : (k : S .Call) (st : S .State) (a : Handout) → S .Good st → S .out k st ≡ some a
         → (c : ℕ) → (c ≡ a .client → ⊥) → S .slast (S .step k st) c ≡ S .slast st c
     pub last-kept : (k : S .Call) (st : S .State) (c s : ℕ) → S .Good st → S .Keeps c s k st → S .out k st ≡ none → S .last (S .step k st) ≡ S .last st

@@ -4,17 +4,17 @@ use mathlib.Core.Path.{_≡_}
 use Prim.Native.Nat.{ℕ, _<_}
 use lib.ListN.{length}
 use Rattle.ground.specs.Cases.{has}
-use Rattle.desk_slots.specs.Slots.{slotCount, clientCount}
+use Rattle.desk_slots.specs.Slots.{slotCount, serviceCount, clientCount}
 use Rattle.desk_client.specs.declared.Link.{Link}
 use Rattle.desk_client.specs.declared.Account.{Account}
-use Rattle.desk_client.specs.declared.Client.{Client}
 use Rattle.desk_client.specs.Client.{controlSlot, mostResults}
 use Rattle.desk_client.specs.Queue.{queueOf}
+use Rattle.desk_state.specs.declared.Service.{Service}
 use Rattle.desk_state.specs.declared.Desk.{Desk}
-use Rattle.desk_state.specs.Desk.{clientAt}
-use Rattle.desk_history.specs.Ledger.{Line, Claims, Side, Ledger}
+use Rattle.desk_state.specs.Desk.{linkAt, serviceAt, accountIn}
+use Rattle.desk_history.specs.Ledger.{Line, Claims, Book, Ledger}
 
--- a client's link, its account, and both
+-- a client's link, and its account with a service
 pub record LikeLink (x : Line) (l : Link) : Type 0 where
   pub on : l .connected ≡ x .on
   pub safe : l .encrypted ≡ x .safe
@@ -28,13 +28,16 @@ pub record LikeAccount (x : Claims) (a : Account) : Type 0 where
   pub mind : (c : ℕ) → c < 32 → has (a .fresh) c ≡ x .mind c
   pub long : length (a .results) ≡ mostResults
 
-pub record Like (x : Side) (c : Client) : Type 0 where
-  pub link : LikeLink (x .link) (c .link)
-  pub account : LikeAccount (x .account) (c .account)
+-- a service: its player, and each client's account
+pub record LikeService (b : Book) (s : Service) : Type 0 where
+  pub player : s .player ≡ b .player
+  pub long : length (s .accounts) ≡ clientCount
+  pub account : (c : ℕ) → c < clientCount → LikeAccount (b .account c) (accountIn s c)
 
--- the whole: the player, the turn, and each client
+-- the whole: the turn, each client's link, and each service
 pub record Agrees (L : Ledger) (d : Desk) : Type 0 where
-  pub player : d .player ≡ L .player
   pub turn : d .turn ≡ L .turn
-  pub long : length (d .clients) ≡ clientCount
-  pub side : (c : ℕ) → c < clientCount → Like (L .side c) (clientAt (d .clients) c)
+  pub links : length (d .links) ≡ clientCount
+  pub link : (c : ℕ) → c < clientCount → LikeLink (L .link c) (linkAt (d .links) c)
+  pub services : length (d .services) ≡ serviceCount
+  pub service : (v : ℕ) → v < serviceCount → LikeService (L .service v) (serviceAt d v)

@@ -6,15 +6,15 @@ use Prim.Native.Nat.{ℕ}
 use Rattle.ground.specs.Refusals.{table, inOrder}
 use Rattle.catalogue_tables.specs.Tables.{Tables}
 use Rattle.desk_state.specs.declared.Desk.{Desk}
-use Rattle.desk_replies.specs.Replies.{fronted, ofClient}
-use Rattle.desk_links.specs.Links.{connectRows, slotRows}
+use Rattle.desk_replies.specs.Replies.{fronted}
+use Rattle.desk_links.specs.Links.{connectRows, disconnectRows, slotRows}
 
 module _ (k : Tables) (d : Desk) (who : ℕ) (connected : Bool) where
   pub connect-order : (mtu : ℕ) → inOrder table (fronted k false d ++ connectRows who connected mtu) ≡ true
   connect-order mtu = refl
 
-  pub disconnect-order : inOrder table (fronted k false d ++ ofClient who connected) ≡ true
+  pub disconnect-order : inOrder table (fronted k false d ++ disconnectRows who connected) ≡ true
   disconnect-order = refl
 
-  pub slot-order : (encrypted : Bool) (characteristic : ℕ) → inOrder table (fronted k false d ++ slotRows who connected encrypted characteristic) ≡ true
-  slot-order encrypted characteristic = refl
+  pub slot-order : (service : ℕ) (encrypted : Bool) (characteristic : ℕ) → inOrder table (fronted k false d ++ slotRows who service connected encrypted characteristic) ≡ true
+  slot-order service encrypted characteristic = refl

@@ -25,13 +25,13 @@ module _ (κs : Lfts 4) (groups tracks segments text : RefT (List ℕ)) (d : Des
       → o₁ ≡ o₂
   disconnect-settled = one-outcome o₁ o₂
 
-  module _ (characteristic : ℕ) where
-    pub subscribe-settled : subscribe.Post κs (groups, (tracks, (segments, (text, (d, (who, (characteristic, tt))))))) o₁ (groups, (tracks, (segments, (text, (d, (who, (characteristic, tt)))))))
-        → subscribe.Post κs (groups, (tracks, (segments, (text, (d, (who, (characteristic, tt))))))) o₂ (groups, (tracks, (segments, (text, (d, (who, (characteristic, tt)))))))
+  module _ (service characteristic : ℕ) where
+    pub subscribe-settled : subscribe.Post κs (groups, (tracks, (segments, (text, (d, (who, (service, (characteristic, tt)))))))) o₁ (groups, (tracks, (segments, (text, (d, (who, (service, (characteristic, tt))))))))
+        → subscribe.Post κs (groups, (tracks, (segments, (text, (d, (who, (service, (characteristic, tt)))))))) o₂ (groups, (tracks, (segments, (text, (d, (who, (service, (characteristic, tt))))))))
         → o₁ ≡ o₂
     subscribe-settled = one-outcome o₁ o₂
 
-    pub unsubscribe-settled : unsubscribe.Post κs (groups, (tracks, (segments, (text, (d, (who, (characteristic, tt))))))) o₁ (groups, (tracks, (segments, (text, (d, (who, (characteristic, tt)))))))
-        → unsubscribe.Post κs (groups, (tracks, (segments, (text, (d, (who, (characteristic, tt))))))) o₂ (groups, (tracks, (segments, (text, (d, (who, (characteristic, tt)))))))
+    pub unsubscribe-settled : unsubscribe.Post κs (groups, (tracks, (segments, (text, (d, (who, (service, (characteristic, tt)))))))) o₁ (groups, (tracks, (segments, (text, (d, (who, (service, (characteristic, tt))))))))
+        → unsubscribe.Post κs (groups, (tracks, (segments, (text, (d, (who, (service, (characteristic, tt)))))))) o₂ (groups, (tracks, (segments, (text, (d, (who, (service, (characteristic, tt))))))))
         → o₁ ≡ o₂
     unsubscribe-settled = one-outcome o₁ o₂

@@ -22,21 +22,19 @@ pub fn connect(
 ) -> desk_replies::Outcome
     ensures { λ r. ⌜ leftBy r ≡ connectCall (tables (now (groups .entry)) (now (tracks .entry)) (now (segments .entry)) (now (text .entry))) d who mtu encrypted ⌝ }
 {
-    let g = desk_replies::front_gate(groups, tracks, segments, text, false, d);
+    let g = desk_replies::client_gate(groups, tracks, segments, text, false, d, who);
     if !g.passes {
         return desk_replies::shut(g, d);
     }
-    if desk_slots::CLIENTS <= who {
-        return desk_replies::refuse(ground::NO_CLIENT, d);
-    }
-    let c = desk_state::client_at(d, who);
-    if c.link.connected {
+    let old = desk_state::link_at(d, who);
+    if old.connected {
         return desk_replies::refuse(ground::ALREADY_CONNECTED, d);
     }
     if !desk_client::mtu_right(mtu) {
         return desk_replies::refuse(ground::BAD_MTU, d);
     }
-    let fresh = desk_client::connected_client(mtu, encrypted);
+    let link = desk_client::connected_link(mtu, encrypted);
+    let fresh = desk_client::blank_client(link);
     let e = desk_state::with_client(d, who, fresh);
     desk_replies::left(desk_replies::Answer::Done, e)
 }
@@ -56,7 +54,12 @@ pub fn disconnect(
     if !g.passes {
         return desk_replies::shut(g, d);
     }
-    let fresh = desk_client::fresh_client();
+    let old = desk_state::link_at(d, who);
+    if !old.connected {
+        return desk_replies::refuse(ground::NOT_CONNECTED, d);
+    }
+    let link = desk_client::fresh_link();
+    let fresh = desk_client::blank_client(link);
     let e = desk_state::with_client(d, who, fresh);
     desk_replies::left(desk_replies::Answer::Done, e)
 }
@@ -80,10 +83,11 @@ fn set_slot(
     text: &[u8],
     d: desk_state::Desk,
     who: u32,
+    service: u32,
     characteristic: u32,
     on: bool,
 ) -> desk_replies::Outcome
-    ensures { λ r. ⌜ leftBy r ≡ slotCall (tables (now (groups .entry)) (now (tracks .entry)) (now (segments .entry)) (now (text .entry))) d who characteristic (pick on joined dropped) ⌝ }
+    ensures { λ r. ⌜ leftBy r ≡ slotCall (tables (now (groups .entry)) (now (tracks .entry)) (now (segments .entry)) (now (text .entry))) d who service characteristic (pick on joined dropped) ⌝ }
 {
     let s = desk_slots::slot_of(characteristic);
     let g = desk_replies::characteristic_gate(
@@ -94,6 +98,7 @@ fn set_slot(
         false,
         d,
         who,
+        service,
         characteristic,
         ground::NO_SLOT,
         s < desk_slots::SLOTS,
@@ -101,13 +106,15 @@ fn set_slot(
     if !g.passes {
         return desk_replies::shut(g, d);
     }
-    let a = desk_state::account_at(d, who);
+    let at = desk_state::service_at(d, service);
+    let a = desk_state::account_in(at, who);
     let next = with_slot(a, s, on);
-    let e = desk_state::with_account(d, who, next);
+    let told = desk_state::with_account(at, who, next);
+    let e = desk_state::with_service(d, service, told);
     desk_replies::left(desk_replies::Answer::Done, e)
 }
 
-// A client asks to be told of a characteristic.
+// A client asks to be told of a characteristic of a service.
 pub fn subscribe(
     groups: &[u32],
     tracks: &[u32],
@@ -115,24 +122,10 @@ pub fn subscribe(
     text: &[u8],
     d: desk_state::Desk,
     who: u32,
+    service: u32,
     characteristic: u32,
 ) -> desk_replies::Outcome
-    ensures { λ r. ⌜ leftBy r ≡ subscribeCall (tables (now (groups .entry)) (now (tracks .entry)) (now (segments .entry)) (now (text .entry))) d who characteristic ⌝ }
-{
-    set_slot(groups, tracks, segments, text, d, who, characteristic, true)
-}
-
-// A client no longer wants to be told of a characteristic.
-pub fn unsubscribe(
-    groups: &[u32],
-    tracks: &[u32],
-    segments: &[u32],
-    text: &[u8],
-    d: desk_state::Desk,
-    who: u32,
-    characteristic: u32,
-) -> desk_replies::Outcome
-    ensures { λ r. ⌜ leftBy r ≡ unsubscribeCall (tables (now (groups .entry)) (now (tracks .entry)) (now (segments .entry)) (now (text .entry))) d who characteristic ⌝ }
+    ensures { λ r. ⌜ leftBy r ≡ subscribeCall (tables (now (groups .entry)) (now (tracks .entry)) (now (segments .entry)) (now (text .entry))) d who service characteristic ⌝ }
 {
     set_slot(
         groups,
@@ -141,6 +134,33 @@ pub fn unsubscribe(
         text,
         d,
         who,
+        service,
+        characteristic,
+        true,
+    )
+}
+
+// A client no longer wants to be told of a characteristic of a service.
+pub fn unsubscribe(
+    groups: &[u32],
+    tracks: &[u32],
+    segments: &[u32],
+    text: &[u8],
+    d: desk_state::Desk,
+    who: u32,
+    service: u32,
+    characteristic: u32,
+) -> desk_replies::Outcome
+    ensures { λ r. ⌜ leftBy r ≡ unsubscribeCall (tables (now (groups .entry)) (now (tracks .entry)) (now (segments .entry)) (now (text .entry))) d who service characteristic ⌝ }
+{
+    set_slot(
+        groups,
+        tracks,
+        segments,
+        text,
+        d,
+        who,
+        service,
         characteristic,
         false,
     )

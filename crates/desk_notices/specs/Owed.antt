@@ -9,11 +9,10 @@ use Rattle.player_state.specs.declared.Player.{Player}
 use Rattle.player_values.specs.Values.{Source}
 use Rattle.desk_slots.specs.Slots.{slotCount, clientCount, characteristicOf}
 use Rattle.desk_slots.specs.Characteristics.{writerKnows, isIn, setOf}
-use Rattle.desk_client.specs.declared.Client.{Client}
-use Rattle.desk_client.specs.Setters.{withAccount}
+use Rattle.desk_client.specs.declared.Account.{Account}
 use Rattle.desk_client.specs.Duties.{noted}
 use Rattle.desk_notices.specs.Changes.{changed, trackChanged}
-use Rattle.desk_state.specs.declared.Desk.{Desk}
+use Rattle.desk_state.specs.declared.Service.{Service}
 use Rattle.desk_notices.specs.declared.Cause.{Cause}
 
 -- "A slot is owed to a subscribed client when a call changes its value. Added: 4 and 7 whenever the track number changes, to or from none too."
@@ -37,21 +36,20 @@ abbrev pub falls : ℕ → Bool → Cause → ℕ → ℕ → Bool
 falls altered track cause who s =
     fallsDue (has altered (characteristicOf s)) track (characteristicOf s) && not (spared cause who (characteristicOf s))
 
--- a record is told what changed
-abbrev pub noticed : ℕ → Bool → Cause → ℕ → Client → Client
-noticed altered track cause who c = withAccount (noted (setOf slotCount (falls altered track cause who)) altered (c .account)) c
+-- an account is told what changed
+abbrev pub noticed : ℕ → Bool → Cause → ℕ → Account → Account
+noticed altered track cause who a = noted (setOf slotCount (falls altered track cause who)) altered a
 
 -- "some call changed the value": for the changed marks, whoever is spared
 unfoldable pub alteredOf : Source → Player → Player → ℕ
 alteredOf from p q = setOf 32 (changed from p q)
 
--- the state after a call that leaves the player q: each account is noted, links and round stay
-unfoldable pub settled : Source → Cause → Player → Desk → Desk
-settled from cause q d =
+-- a service after a call that leaves its player q: each account is noted
+unfoldable pub settled : Source → Cause → Player → Service → Service
+settled from cause q s =
     record {
       player = q;
-      clients = mapFrom (λ who c. withAccount (noted (dueTo from (d .player) q cause who) (alteredOf from (d .player) q) (c .account)) c) 0 (d .clients);
-      turn = d .turn;
+      accounts = mapFrom (λ who a. noted (dueTo from (s .player) q cause who) (alteredOf from (s .player) q) a) 0 (s .accounts);
     }
 
 -- a call by no client

@@ -171,46 +171,44 @@ fn due_to(altered: u32, track: bool, cause: Cause, who: u32) -> u32
 }
 
 fn note_all(
-    clients: [desk_client::Client; 4],
+    accounts: [desk_client::Account; 4],
     altered: u32,
     track: bool,
     cause: Cause,
-) -> [desk_client::Client; 4]
-    ensures { λ r. ⌜ r ≡ mapFrom (noticed altered track cause) 0 clients ⌝ }
+) -> [desk_client::Account; 4]
+    ensures { λ r. ⌜ r ≡ mapFrom (noticed altered track cause) 0 accounts ⌝ }
 {
-    let mut out = clients;
+    let mut out = accounts;
     let mut i: usize = 0;
     while i < 4 {
         let who = i as u32;
         let due = due_to(altered, track, cause, who);
-        let mut c = out[i];
-        let a = c.account;
-        c.account = desk_client::note(a, due, altered);
-        out[i] = c;
+        let a = out[i];
+        out[i] = desk_client::note(a, due, altered);
         i += 1;
     }
     out
 }
 
-// The state with another player, and every client told what that owes it.
+// The service with another player, and every client told what that owes it.
 pub fn settle(
     tracks: &[u32],
     text: &[u8],
-    d: desk_state::Desk,
+    s: desk_state::Service,
     q: player_state::Player,
     cause: Cause,
-) -> desk_state::Desk
-    ensures { λ r. ⌜ r ≡ settled (source (now (tracks .entry)) (now (text .entry))) cause q d ⌝ }
+) -> desk_state::Service
+    ensures { λ r. ⌜ r ≡ settled (source (now (tracks .entry)) (now (text .entry))) cause q s ⌝ }
 {
-    let p = d.player;
+    let p = s.player;
     let altered = changed_word(tracks, text, p, q);
     let track = track_changed(p, q);
-    let clients = d.clients;
-    let told = note_all(clients, altered, track, cause);
-    let mut e = d;
-    e.player = q;
-    e.clients = told;
-    e
+    let accounts = s.accounts;
+    let told = note_all(accounts, altered, track, cause);
+    desk_state::Service {
+        player: q,
+        accounts: told,
+    }
 }
 
 // A call by no client.

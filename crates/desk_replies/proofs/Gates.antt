@@ -2,7 +2,7 @@
 use mathlib.Core.Path.{_≡_, refl, sym, ap, _∙_}
 use mathlib.Core.Bool.{Bool, true, false}
 use mathlib.Core.List.{List, [], _++_}
-use Prim.Native.Nat.{ℕ}
+use Prim.Native.Nat.{ℕ, _<_}
 use borrow.Author.Tests.{not-false}
 use Rattle.ground.specs.Refusals.{Said, granted, Row, answered, saidBy}
 use Rattle.ground.specs.Lists.{filled, tableAfter}
@@ -12,7 +12,9 @@ use Rattle.catalogue_tables.specs.Tables.{Tables}
 use Rattle.catalogue_check.specs.Catalogue.{Right}
 use Rattle.catalogue_check.proofs.Laws.{is-right}
 use Rattle.player_check.specs.Standing.{playerRule}
+use Rattle.desk_slots.specs.Slots.{serviceCount}
 use Rattle.desk_state.specs.declared.Desk.{Desk}
+use Rattle.desk_state.specs.Desk.{serviceAt}
 use Rattle.desk_state.proofs.Laws.{player-stands}
 use Rattle.desk_replies.specs.declared.Gate.{Gate}
 use Rattle.desk_replies.specs.Replies.{saidOf, stateRight, fronted, Gated}
@@ -53,7 +55,7 @@ module _ (k : Tables) (small : Bool) (d : Desk) (behind : List Row) (passed : No
   pub stands : stateRight k d ≡ true
   stands = not-false _ (passed .1 .1 .0)
 
-  pub player : playerRule (k .groups) (k .tracks) (d .player) ≡ true
+  pub player : (v : ℕ) → v < serviceCount → playerRule (k .groups) (k .tracks) (serviceAt d v .player) ≡ true
   player = player-stands (k .groups) (k .tracks) d stands
 
 -- the lent output: as it was where the gate does not pass, its front filled where the call is accepted

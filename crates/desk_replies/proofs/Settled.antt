@@ -15,8 +15,9 @@ use Rattle.desk_replies.specs.Replies.{saidOf, leftBy}
 grantedAs : List ℕ → Answer
 grantedAs [] = Done
 grantedAs (n ∷ []) = Octets n
-grantedAs (a ∷ b ∷ []) = Handed a b
-grantedAs (a ∷ b ∷ c ∷ l) = Served a b c
+grantedAs (a ∷ b ∷ []) = Done
+grantedAs (a ∷ b ∷ c ∷ []) = Handed a b c
+grantedAs (a ∷ b ∷ c ∷ d ∷ l) = Served a b c d
 
 answerOf : Said → Answer
 answerOf said = pick (said .isGranted) (grantedAs (said .values)) (Refused (refusalAs said))
@@ -25,8 +26,8 @@ said-back : (a : Answer) → answerOf (saidOf a) ≡ a
 unfolding answerOf grantedAs
 said-back Done = refl
 said-back (Octets n) = refl
-said-back (Served who c n) = refl
-said-back (Handed c n) = refl
+said-back (Served who v c n) = refl
+said-back (Handed v c n) = refl
 said-back (Refused r) = ap Refused (refusal-back r)
 
 -- an answer is settled by what it says

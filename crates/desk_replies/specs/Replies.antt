@@ -8,11 +8,12 @@ use lib.Dec.{leb}
 use Rattle.ground.specs.Refusals.{Said, granted, refusalOf, Left, leaves, keeping, Row, row, answered, saidBy}
 use Rattle.catalogue_tables.specs.Tables.{Tables}
 use Rattle.catalogue_check.specs.Catalogue.{catalogueRow}
-use Rattle.desk_slots.specs.Slots.{clientCount}
+use Rattle.desk_slots.specs.Slots.{serviceCount, clientCount}
 use Rattle.desk_slots.specs.Characteristics.{thirteen, isIn}
-use Rattle.desk_client.specs.declared.Client.{Client}
+use Rattle.desk_client.specs.declared.Link.{Link}
+use Rattle.desk_client.specs.declared.Account.{Account}
 use Rattle.desk_state.specs.declared.Desk.{Desk}
-use Rattle.desk_state.specs.Desk.{clientAt, deskRule}
+use Rattle.desk_state.specs.Desk.{linkAt, serviceAt, accountIn, deskRule}
 use Rattle.desk_replies.specs.declared.Answer.{Answer}
 use Rattle.desk_replies.specs.declared.Answer.the-variants.{Done, Octets, Served, Handed, Refused}
 use Rattle.desk_replies.specs.declared.Gate.{Gate}
@@ -22,8 +23,8 @@ use Rattle.desk_replies.specs.declared.Outcome.{Outcome}
 abbrev pub saidOf : Answer → Said
 saidOf Done = granted []
 saidOf (Octets n) = granted (n ∷ [])
-saidOf (Served who characteristic n) = granted (who ∷ characteristic ∷ n ∷ [])
-saidOf (Handed characteristic n) = granted (characteristic ∷ n ∷ [])
+saidOf (Served who service characteristic n) = granted (who ∷ service ∷ characteristic ∷ n ∷ [])
+saidOf (Handed service characteristic n) = granted (service ∷ characteristic ∷ n ∷ [])
 saidOf (Refused r) = refusalOf r
 
 abbrev pub leftBy : Outcome → Left Desk
@@ -45,9 +46,21 @@ stateRight k d = deskRule (k .groups) (k .tracks) d
 abbrev pub fronted : Tables → Bool → Desk → List Row
 fronted k small d = lentRows k small ++ (stateRow (stateRight k d) ∷ [])
 
--- 202, "client over 3"; 203, "not connected"
-abbrev pub ofClient : ℕ → Bool → List Row
-ofClient who connected = row 202 (leb clientCount who) ∷ row 203 (not connected) ∷ []
+-- 202, "client over 3"
+abbrev pub clientRow : ℕ → Row
+clientRow who = row 202 (leb clientCount who)
+
+-- "219, service number over 1, after 202" (document 02, W-208)
+abbrev pub serviceRow : ℕ → Row
+serviceRow service = row 219 (leb serviceCount service)
+
+-- 203, "not connected"
+abbrev pub connectedRow : Bool → Row
+connectedRow connected = row 203 (not connected)
+
+-- what every call of a connected client on a service asks
+abbrev pub ofCaller : ℕ → ℕ → Bool → List Row
+ofCaller who service connected = clientRow who ∷ serviceRow service ∷ connectedRow connected ∷ []
 
 -- 0x01, "not one of the thirteen"; the number by which what is asked of the characteristic is not allowed; 0x0F, ".. by a client connected unencrypted"
 abbrev pub ofCharacteristic : Bool → ℕ → ℕ → Bool → List Row
@@ -58,9 +71,12 @@ ofCharacteristic encrypted characteristic number allowed =
 abbrev pub asked : Tables → Bool → Desk → List Row → Left Desk → Left Desk
 asked k small d rows work = answered (keeping d) (fronted k small d ++ rows) work
 
--- the client that calls
-abbrev pub caller : Desk → ℕ → Client
-caller d who = clientAt (d .clients) who
+-- the link of the client that calls; its account with the service that it calls
+abbrev pub linkOf : Desk → ℕ → Link
+linkOf d who = linkAt (d .links) who
+
+abbrev pub accountOf : Desk → ℕ → ℕ → Account
+accountOf d who service = accountIn (serviceAt d service) who
 
 -- what a gate says of rows: the first that applies, and whether none does
 abbrev pub Gated : List Row → Gate → Type 0

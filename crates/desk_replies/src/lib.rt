@@ -1,20 +1,20 @@
 // What the calls on the whole answer, and the rows of the refusal table that many of them share.
 ghost use mathlib.Core.Path.{_≡_};
 ghost use mathlib.Core.Bool.{false, true};
-ghost use mathlib.Core.List.{[], _++_};
+ghost use mathlib.Core.List.{[], _∷_, _++_};
 ghost use Rattle.ground.specs.Refusals.{granted, refused, refusalOf, leaves};
 ghost use Rattle.catalogue_tables.specs.Tables.{tables};
-ghost use Rattle.desk_replies.specs.Replies.{saidOf, leftBy, Gated, lentRows, fronted, ofClient, ofCharacteristic, caller};
+ghost use Rattle.desk_replies.specs.Replies.{saidOf, leftBy, Gated, lentRows, fronted, clientRow, serviceRow, ofCaller, ofCharacteristic, linkOf};
 
 pub enum Answer {
     // Accepted. Of a take: nothing is owed.
     Done,
     // A read handed out so many octets.
     Octets(usize),
-    // A take served this client this characteristic in so many octets.
-    Served(u32, u32, usize),
-    // A take of a client's own record handed out this characteristic in so many octets.
-    Handed(u32, usize),
+    // A take served this client, of this service, this characteristic in so many octets.
+    Served(u32, u32, u32, usize),
+    // A take of a client's own record handed out, of this service, this characteristic in so many octets.
+    Handed(u32, u32, usize),
     Refused(ground::Refusal),
 }
 
@@ -116,7 +116,28 @@ pub fn front_gate(
     gate_shut(ground::BAD_STATE)
 }
 
-// The same, and then 202 and 203: of a call by a connected client.
+// The same, and then 219: of a call on a service.
+pub fn service_gate(
+    groups: &[u32],
+    tracks: &[u32],
+    segments: &[u32],
+    text: &[u8],
+    d: desk_state::Desk,
+    service: u32,
+) -> Gate
+    ensures { λ r. ⌜ Gated (fronted (tables (now (groups .entry)) (now (tracks .entry)) (now (segments .entry)) (now (text .entry))) false d ++ (serviceRow service ∷ [])) r ⌝ }
+{
+    let g = front_gate(groups, tracks, segments, text, false, d);
+    if !g.passes {
+        return g;
+    }
+    if desk_slots::SERVICES <= service {
+        return gate_shut(ground::NO_SERVICE);
+    }
+    g
+}
+
+// The same as the first, and then 202: of a call by a client.
 pub fn client_gate(
     groups: &[u32],
     tracks: &[u32],
@@ -126,7 +147,7 @@ pub fn client_gate(
     d: desk_state::Desk,
     who: u32,
 ) -> Gate
-    ensures { λ r. ⌜ Gated (fronted (tables (now (groups .entry)) (now (tracks .entry)) (now (segments .entry)) (now (text .entry))) small d ++ ofClient who (caller d who .link .connected)) r ⌝ }
+    ensures { λ r. ⌜ Gated (fronted (tables (now (groups .entry)) (now (tracks .entry)) (now (segments .entry)) (now (text .entry))) small d ++ (clientRow who ∷ [])) r ⌝ }
 {
     let g = front_gate(groups, tracks, segments, text, small, d);
     if !g.passes {
@@ -135,8 +156,31 @@ pub fn client_gate(
     if desk_slots::CLIENTS <= who {
         return gate_shut(ground::NO_CLIENT);
     }
-    let c = desk_state::client_at(d, who);
-    if !c.link.connected {
+    g
+}
+
+// The same, and then 219 and 203: of a call by a connected client on a service.
+pub fn caller_gate(
+    groups: &[u32],
+    tracks: &[u32],
+    segments: &[u32],
+    text: &[u8],
+    small: bool,
+    d: desk_state::Desk,
+    who: u32,
+    service: u32,
+) -> Gate
+    ensures { λ r. ⌜ Gated (fronted (tables (now (groups .entry)) (now (tracks .entry)) (now (segments .entry)) (now (text .entry))) small d ++ ofCaller who service (linkOf d who .connected)) r ⌝ }
+{
+    let g = client_gate(groups, tracks, segments, text, small, d, who);
+    if !g.passes {
+        return g;
+    }
+    if desk_slots::SERVICES <= service {
+        return gate_shut(ground::NO_SERVICE);
+    }
+    let l = desk_state::link_at(d, who);
+    if !l.connected {
         return gate_shut(ground::NOT_CONNECTED);
     }
     g
@@ -151,13 +195,14 @@ pub fn characteristic_gate(
     small: bool,
     d: desk_state::Desk,
     who: u32,
+    service: u32,
     characteristic: u32,
     number: u32,
     allowed: bool,
 ) -> Gate
-    ensures { λ r. ⌜ Gated (fronted (tables (now (groups .entry)) (now (tracks .entry)) (now (segments .entry)) (now (text .entry))) small d ++ (ofClient who (caller d who .link .connected) ++ ofCharacteristic (caller d who .link .encrypted) characteristic number allowed)) r ⌝ }
+    ensures { λ r. ⌜ Gated (fronted (tables (now (groups .entry)) (now (tracks .entry)) (now (segments .entry)) (now (text .entry))) small d ++ (ofCaller who service (linkOf d who .connected) ++ ofCharacteristic (linkOf d who .encrypted) characteristic number allowed)) r ⌝ }
 {
-    let g = client_gate(groups, tracks, segments, text, small, d, who);
+    let g = caller_gate(groups, tracks, segments, text, small, d, who, service);
     if !g.passes {
         return g;
     }
@@ -167,8 +212,8 @@ pub fn characteristic_gate(
     if !allowed {
         return gate_shut(number);
     }
-    let c = desk_state::client_at(d, who);
-    if !c.link.encrypted {
+    let l = desk_state::link_at(d, who);
+    if !l.encrypted {
         return gate_shut(ground::NOT_ENCRYPTED);
     }
     g

@@ -9,4 +9,5 @@ pub mod NextLaws
 pub mod Scan
 pub mod Turned
 pub mod TableLaws
+pub mod PlaceLaws
 pub mod Examples

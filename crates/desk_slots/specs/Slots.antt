@@ -2,7 +2,7 @@
 -- Assumes nothing.
 use mathlib.Core.Bool.{Bool, not}
 use mathlib.Core.List.{List, [], _∷_}
-use Prim.Native.Nat.{ℕ, suc, _-_, _^_}
+use Prim.Native.Nat.{ℕ, suc, _+_, _-_, _*_, _/_, _%_, _^_}
 use lib.Bits.{bitAnd, bitOr, bitXor}
 use lib.Dec.{eqb, ltb}
 use lib.ListN.{getD}
@@ -13,9 +13,23 @@ use Rattle.desk_slots.specs.Table.{characteristics, numbersOf}
 abbrev pub slotCount : ℕ
 slotCount = 10
 
--- the places of a client's round: "the first owed slot after its last served, round the ten"; a place for each slot
+-- "the generic service and one named player" (document 02, W-208): 0 and 1
+abbrev pub serviceCount : ℕ
+serviceCount = 2
+
+-- the places of a client's round: "a client's slots running through the generic service and then the other"
 abbrev pub placeCount : ℕ
-placeCount = slotCount
+placeCount = serviceCount * slotCount
+
+-- the place of a service's slot; the service and the slot of a place
+abbrev pub placeOf : ℕ → ℕ → ℕ
+placeOf service slot = service * slotCount + slot
+
+unfoldable pub serviceOf : ℕ → ℕ
+serviceOf place = place / slotCount
+
+unfoldable pub slotAt : ℕ → ℕ
+slotAt place = place % slotCount
 
 -- "the layer of four clients (0 to 3)"
 abbrev pub clientCount : ℕ
@@ -67,6 +81,11 @@ inter w v = bitAnd w v
 -- what is in w and not in v
 unfoldable pub minus : ℕ → ℕ → ℕ
 minus w v = bitXor w (bitAnd w v)
+
+-- the sets of slots that the services have, service 0's first, as one set of places
+unfoldable pub placesOf : List ℕ → ℕ
+placesOf [] = 0
+placesOf (w ∷ sets) = bitOr w (placesOf sets * 2 ^ slotCount)
 
 -- client c is owed something, by the clients' sets
 unfoldable pub owing : List ℕ → ℕ → Bool

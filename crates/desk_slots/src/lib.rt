@@ -1,5 +1,6 @@
 // The characteristics, the slots of a client, sets of them as words of bits, and the round.
 ghost use mathlib.Core.Path.{_≡_};
+ghost use mathlib.Core.List.{_∷_, []};
 ghost use Prim.Native.Nat.{_≤_, _<_, _^_};
 ghost use Rattle.ground.specs.Cases.{pick, has};
 ghost use mathlib.Core.Bool.{_&&_};
@@ -7,12 +8,14 @@ ghost use lib.Dec.{ltb};
 ghost use Rattle.desk_slots.specs.Characteristics.{thirteen, readables, writables, writerKnows, isIn};
 ghost use Rattle.desk_slots.specs.Table.{sizeOf};
 ghost use Rattle.desk_slots.specs.Round.{next};
-ghost use Rattle.desk_slots.specs.Slots.{slotCount, placeCount, clientCount, slotOf, characteristicOf, onlySlots, insert, remove, union, inter, minus, owing};
+ghost use Rattle.desk_slots.specs.Slots.{slotCount, serviceCount, placeCount, clientCount, slotOf, characteristicOf, serviceOf, slotAt, placesOf, onlySlots, insert, remove, union, inter, minus, owing};
 
 // The same numbers stand in specs/Slots.antt.
 pub const SLOTS: u32 = 10;
 
-pub const PLACES: u32 = 10;
+pub const SERVICES: u32 = 2;
+
+pub const PLACES: u32 = SERVICES * SLOTS;
 
 pub const CLIENTS: u32 = 4;
 
@@ -161,6 +164,28 @@ pub fn difference(w: u32, v: u32) -> u32
     ensures { λ r. ⌜ r ≡ minus w v ⌝ }
 {
     w & !v
+}
+
+// The service of a place, and its slot there.
+pub fn service_of(place: u32) -> u32
+    requires { ⌜ place < placeCount ⌝ }
+    ensures { λ r. ⌜ (r < serviceCount) × (r ≡ serviceOf place) ⌝ }
+{
+    place / SLOTS
+}
+
+pub fn slot_at(place: u32) -> u32
+    ensures { λ r. ⌜ (r < slotCount) × (r ≡ slotAt place) ⌝ }
+{
+    place % SLOTS
+}
+
+// The sets of slots of both services as one set of places.
+pub fn places_of(generic: u32, named: u32) -> u32
+    requires { ⌜ (generic < 2 ^ slotCount) × (named < 2 ^ slotCount) ⌝ }
+    ensures { λ r. ⌜ (r < 2 ^ placeCount) × (r ≡ placesOf (generic ∷ named ∷ [])) ⌝ }
+{
+    generic | (named << SLOTS)
 }
 
 // The first place of the set w after the place `after`, round the places: the trailing zeros of the word turned so that it begins behind `after`.

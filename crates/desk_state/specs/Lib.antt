@@ -1,2 +1,2 @@
--- The state of the whole: the player, the four clients, and whose turn it was.
+-- The state of the whole: the services, the links of the four clients, and whose turn it was.
 pub mod Desk

@@ -1,6 +1,7 @@
 -- The rows of each call stand in the order of document 01's table. Assumes nothing.
 use mathlib.Core.Path.{_≡_, refl}
 use mathlib.Core.Bool.{Bool, true}
+use mathlib.Core.List.{List}
 use Prim.Native.Nat.{ℕ}
 use Rattle.ground.specs.Refusals.{table, inOrder}
 use Rattle.catalogue_tables.specs.Tables.{Tables}
@@ -14,5 +15,5 @@ module _ (k : Tables) where
   pub take-order : (small : Bool) (d : Desk) → inOrder table (fronted k small d) ≡ true
   take-order small d = refl
 
-  pub own-order : (room : ℕ) (p : Player) (c : Client) → inOrder table (ownRows k p c room) ≡ true
-  own-order room p c = refl
+  pub own-order : (room : ℕ) (players : List Player) (c : Client) → inOrder table (ownRows k players c room) ≡ true
+  own-order room players c = refl

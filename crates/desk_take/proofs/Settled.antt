@@ -31,17 +31,17 @@ module _ (κs : Lfts 5) (groups tracks segments text out : RefT (List ℕ)) (out
       (e, p .1 ∙ ap (λ (o : Outcome). tableAfter (saidOf (o .answer)) octets (out .now)) e ∙ sym (q .1))
 
 -- a take of one's own record, lent or by value: the answer, the record and the output
-pub own-settled : (k : Tables) (p : Player) (c : Client) (out : List ℕ) (a₁ a₂ : Answer) (c₁ c₂ : Client) (out₁ out₂ : List ℕ)
-    → OwnTake k p c out a₁ c₁ out₁ → OwnTake k p c out a₂ c₂ out₂ → (a₁ ≡ a₂) × (c₁ ≡ c₂) × (out₁ ≡ out₂)
-own-settled k p c out a₁ a₂ c₁ c₂ out₁ out₂ h g =
+pub own-settled : (k : Tables) (players : List Player) (c : Client) (out : List ℕ) (a₁ a₂ : Answer) (c₁ c₂ : Client) (out₁ out₂ : List ℕ)
+    → OwnTake k players c out a₁ c₁ out₁ → OwnTake k players c out a₂ c₂ out₂ → (a₁ ≡ a₂) × (c₁ ≡ c₂) × (out₁ ≡ out₂)
+own-settled k players c out a₁ a₂ c₁ c₂ out₁ out₂ h g =
     let e = h .0 ∙ sym (g .0) in
     let a = answer-settles a₁ a₂ (ap (λ (l : Left Client). l .said) e) in
-    (a, ap (λ (l : Left Client). l .state) e, h .1 ∙ ap (λ (x : Answer). tableAfter (saidOf x) (ownOctets k p c) out) a ∙ sym (g .1))
+    (a, ap (λ (l : Left Client). l .state) e, h .1 ∙ ap (λ (x : Answer). tableAfter (saidOf x) (ownOctets k players c) out) a ∙ sym (g .1))
 
-module _ (κs : Lfts 5) (groups tracks segments text out : RefT (List ℕ)) (out₁ out₂ : List ℕ) (p : Player) (c : Client) (h₁ h₂ : Own) where
-  pub take-own-settled : take-own.Post κs (c, (groups, (tracks, (segments, (text, (p, (out, tt))))))) h₁ (c, (groups, (tracks, (segments, (text, (p, (at-last out out₁, tt)))))))
-      → take-own.Post κs (c, (groups, (tracks, (segments, (text, (p, (out, tt))))))) h₂ (c, (groups, (tracks, (segments, (text, (p, (at-last out out₂, tt)))))))
+module _ (κs : Lfts 5) (groups tracks segments text out : RefT (List ℕ)) (out₁ out₂ : List ℕ) (players : List Player) (c : Client) (h₁ h₂ : Own) where
+  pub take-own-settled : take-own.Post κs (c, (groups, (tracks, (segments, (text, (players, (out, tt))))))) h₁ (c, (groups, (tracks, (segments, (text, (players, (at-last out out₁, tt)))))))
+      → take-own.Post κs (c, (groups, (tracks, (segments, (text, (players, (out, tt))))))) h₂ (c, (groups, (tracks, (segments, (text, (players, (at-last out out₂, tt)))))))
       → (h₁ ≡ h₂) × (out₁ ≡ out₂)
   take-own-settled f g =
-      let e = own-settled (tables (groups .now) (tracks .now) (segments .now) (text .now)) p c (out .now) (h₁ .answer) (h₂ .answer) (h₁ .client) (h₂ .client) out₁ out₂ f g in
+      let e = own-settled (tables (groups .now) (tracks .now) (segments .now) (text .now)) players c (out .now) (h₁ .answer) (h₂ .answer) (h₁ .client) (h₂ .client) out₁ out₂ f g in
       (λ k. record { answer = e .0 k; client = e .1 k }, e .2)

@@ -1,22 +1,21 @@
 // What is owed is handed out, to one client at a time.
 ghost use mathlib.Core.Path.{_≡_};
 ghost use mathlib.Core.Bool.{true};
-ghost use Prim.Native.Nat.{_<_, _≤_};
+ghost use Prim.Native.Nat.{_<_, _≤_, _^_};
 ghost use lib.ListN.{length};
 ghost use mathlib.Core.List.{_∷_, []};
 ghost use Rattle.ground.specs.Lists.{filled, tableAfter};
 ghost use Rattle.catalogue_tables.specs.Tables.{tables};
 ghost use Rattle.catalogue_check.specs.Catalogue.{Right};
-ghost use Rattle.player_check.specs.Standing.{playerRule};
-ghost use Rattle.desk_slots.specs.Slots.{clientCount, owing};
-ghost use Rattle.desk_slots.specs.Round.{next};
+ghost use Rattle.desk_slots.specs.Slots.{clientCount, placeCount};
 ghost use Rattle.desk_client.specs.Client.{clientRule};
 ghost use Rattle.desk_replies.specs.Replies.{saidOf, leftBy};
-ghost use Rattle.desk_take.specs.Serving.{handedOctets, handedValues, afterServing, OwnTake};
-ghost use Rattle.desk_take.specs.Take.{owedSets, withServed, takeCall, takeOctets};
+ghost use Rattle.desk_take.specs.Serving.{placesOwed, handedOctets, handedValues, afterServing, playersRule, OwnTake};
+ghost use Rattle.desk_take.specs.Take.{AllRight, owedSets, playersOf, withServed, takeCall, takeOctets};
 
-// What a client was served, in how many octets, and its record afterwards.
+// What a client was served, of which service, in how many octets, and its record afterwards.
 struct Serving {
+    service: u32,
     characteristic: u32,
     len: usize,
     client: desk_client::Client,
@@ -28,58 +27,91 @@ pub struct Own {
     pub client: desk_client::Client,
 }
 
-// A client is served its next slot: the present value over the front of out, or of 18 the oldest result.
+// The places at which a client is owed something.
+fn places_owed(c: desk_client::Client) -> u32
+    requires { ⌜ clientRule c ≡ true ⌝ }
+    ensures { λ r. ⌜ (r < 2 ^ placeCount) × (r ≡ placesOwed c) ⌝ }
+{
+    let accounts = c.accounts;
+    let generic = accounts[0];
+    let named = accounts[1];
+    desk_slots::places_of(generic.owed, named.owed)
+}
+
+// A client is served its next place: the present value over the front of out, or of 18 the oldest result.
 fn hand_out(
     groups: &[u32],
     tracks: &[u32],
     segments: &[u32],
     text: &[u8],
-    p: player_state::Player,
+    players: [player_state::Player; 2],
     c: desk_client::Client,
     out: &mut [u8],
 ) -> Serving
     requires { ⌜ Right (tables (now groups) (now tracks) (now segments) (now text)) ⌝ }
-    requires { ⌜ playerRule (now groups) (now tracks) p ≡ true ⌝ }
-    requires { ⌜ (clientRule c ≡ true) × (0 < c .account .owed) × (128 ≤ length (now out)) ⌝ }
-    ensures { λ r. ⌜ (r .characteristic ∷ r .len ∷ [] ≡ handedValues (tables (now (groups .entry)) (now (tracks .entry)) (now (segments .entry)) (now (text .entry))) p c) × (r .client ≡ afterServing c) ⌝ }
-    ensures { λ _. ⌜ now (out .exit) ≡ filled (handedOctets (tables (now (groups .entry)) (now (tracks .entry)) (now (segments .entry)) (now (text .entry))) p c) (now (out .entry)) ⌝ }
+    requires { ⌜ playersRule (now groups) (now tracks) players ≡ true ⌝ }
+    requires { ⌜ (clientRule c ≡ true) × (0 < placesOwed c) × (128 ≤ length (now out)) ⌝ }
+    ensures { λ r. ⌜ (r .service ∷ r .characteristic ∷ r .len ∷ [] ≡ handedValues (tables (now (groups .entry)) (now (tracks .entry)) (now (segments .entry)) (now (text .entry))) players c) × (r .client ≡ afterServing c) ⌝ }
+    ensures { λ _. ⌜ now (out .exit) ≡ filled (handedOctets (tables (now (groups .entry)) (now (tracks .entry)) (now (segments .entry)) (now (text .entry))) players c) (now (out .entry)) ⌝ }
 {
-    let a = c.account;
-    let s = desk_slots::next_place(a.owed, c.link.mark);
+    let owed = places_owed(c);
+    let place = desk_slots::next_place(owed, c.link.mark);
+    let service = desk_slots::service_of(place);
+    let s = desk_slots::slot_at(place);
     let characteristic = desk_slots::characteristic_of(s);
-    let next = desk_client::serve(c, s);
+    let next = desk_client::serve(c, place);
+    let at = service as usize;
     if desk_client::is_control(s) {
+        let accounts = c.accounts;
+        let a = accounts[at];
         let results = a.results;
         let e = results[0];
         let octets = [e.opcode, e.code];
         let n = player_values::put(out, &octets);
         return Serving {
+            service: service,
             characteristic: characteristic,
             len: n,
             client: next,
         };
     }
+    let p = players[at];
     let h = player_values::hold(tracks, text, p, characteristic);
     let most = ground::wide_word(c.link.mtu - 3);
     let n = player_values::hand(out, h, 0, most);
     Serving {
+        service: service,
         characteristic: characteristic,
         len: n,
         client: next,
     }
 }
 
-// A client takes what its own record owes it.
+fn players_right(groups: &[u32], tracks: &[u32], players: [player_state::Player; 2]) -> bool
+    ensures { λ r. ⌜ r ≡ playersRule (now (groups .entry)) (now (tracks .entry)) players ⌝ }
+{
+    let mut good = true;
+    let mut v: usize = 0;
+    while v < 2 {
+        let p = players[v];
+        let right = player_check::player_right(groups, tracks, p);
+        good = good & right;
+        v += 1;
+    }
+    good
+}
+
+// A client takes what its own record owes it, by either service.
 pub fn take_own(
     c: desk_client::Client,
     groups: &[u32],
     tracks: &[u32],
     segments: &[u32],
     text: &[u8],
-    p: player_state::Player,
+    players: [player_state::Player; 2],
     out: &mut [u8],
 ) -> Own
-    ensures { λ r. ⌜ OwnTake (tables (now (groups .entry)) (now (tracks .entry)) (now (segments .entry)) (now (text .entry))) p c (now (out .entry)) (r .answer) (r .client) (now (out .exit)) ⌝ }
+    ensures { λ r. ⌜ OwnTake (tables (now (groups .entry)) (now (tracks .entry)) (now (segments .entry)) (now (text .entry))) players c (now (out .entry)) (r .answer) (r .client) (now (out .exit)) ⌝ }
 {
     let g = desk_replies::lent_gate(
         groups,
@@ -95,25 +127,26 @@ pub fn take_own(
             client: c,
         };
     }
-    let player = player_check::player_right(groups, tracks, p);
+    let stand = players_right(groups, tracks, players);
     let record = desk_client::client_right(c);
-    if !(player & record) {
+    if !(stand & record) {
         let refusal = ground::refuse(ground::BAD_STATE);
         return Own {
             answer: desk_replies::Answer::Refused(refusal),
             client: c,
         };
     }
-    if c.account.owed == 0 {
+    let owed = places_owed(c);
+    if owed == 0 {
         return Own {
             answer: desk_replies::Answer::Done,
             client: c,
         };
     }
-    let h = hand_out(groups, tracks, segments, text, p, c, out);
+    let h = hand_out(groups, tracks, segments, text, players, c, out);
     let next = h.client;
     Own {
-        answer: desk_replies::Answer::Handed(h.characteristic, h.len),
+        answer: desk_replies::Answer::Handed(h.service, h.characteristic, h.len),
         client: next,
     }
 }
@@ -125,38 +158,50 @@ pub fn take_in(
     tracks: &[u32],
     segments: &[u32],
     text: &[u8],
-    p: player_state::Player,
+    players: [player_state::Player; 2],
     out: &mut [u8],
 ) -> desk_replies::Answer
-    ensures { λ r. ⌜ OwnTake (tables (now (groups .entry)) (now (tracks .entry)) (now (segments .entry)) (now (text .entry))) p (now (c .entry)) (now (out .entry)) r (now (c .exit)) (now (out .exit)) ⌝ }
+    ensures { λ r. ⌜ OwnTake (tables (now (groups .entry)) (now (tracks .entry)) (now (segments .entry)) (now (text .entry))) players (now (c .entry)) (now (out .entry)) r (now (c .exit)) (now (out .exit)) ⌝ }
 {
-    let h = take_own(*c, groups, tracks, segments, text, p, out);
+    let h = take_own(*c, groups, tracks, segments, text, players, out);
     *c = h.client;
     h.answer
 }
 
-fn owed_sets(clients: [desk_client::Client; 4]) -> [u32; 4]
-    ensures { λ r. ⌜ r ≡ owedSets clients ⌝ }
+// The places at which each client is owed something.
+fn owed_sets(d: desk_state::Desk) -> [u32; 4]
+    requires { ⌜ AllRight d ⌝ }
+    ensures { λ r. ⌜ r ≡ owedSets d ⌝ }
 {
-    let a = clients[0];
-    let b = clients[1];
-    let c = clients[2];
-    let d = clients[3];
-    [
-        a.account.owed,
-        b.account.owed,
-        c.account.owed,
-        d.account.owed,
-    ]
+    let services = d.services;
+    let first = services[0];
+    let second = services[1];
+    let generic = first.accounts;
+    let named = second.accounts;
+    let a0 = generic[0];
+    let a1 = generic[1];
+    let a2 = generic[2];
+    let a3 = generic[3];
+    let b0 = named[0];
+    let b1 = named[1];
+    let b2 = named[2];
+    let b3 = named[3];
+    let w0 = desk_slots::places_of(a0.owed, b0.owed);
+    let w1 = desk_slots::places_of(a1.owed, b1.owed);
+    let w2 = desk_slots::places_of(a2.owed, b2.owed);
+    let w3 = desk_slots::places_of(a3.owed, b3.owed);
+    [w0, w1, w2, w3]
 }
 
-// The next client after the one served last that is owed something; CLIENTS where none is.
-fn whose_turn(clients: [desk_client::Client; 4], turn: u32) -> u32
-    requires { ⌜ turn < clientCount ⌝ }
-    ensures { λ r. ⌜ r ≡ next clientCount (owing (owedSets clients)) turn ⌝ }
+fn players_of(d: desk_state::Desk) -> [player_state::Player; 2]
+    ensures { λ r. ⌜ r ≡ playersOf d ⌝ }
 {
-    let sets = owed_sets(clients);
-    desk_slots::next_client(sets, turn)
+    let services = d.services;
+    let generic = services[0];
+    let named = services[1];
+    let p = generic.player;
+    let q = named.player;
+    [p, q]
 }
 
 // The state with another record of a client, who was served last.
@@ -192,19 +237,19 @@ pub fn take(
     if !g.passes {
         return desk_replies::shut(g, d);
     }
-    let clients = d.clients;
+    let sets = owed_sets(d);
     let turn = d.turn;
-    let who = whose_turn(clients, turn);
+    let who = desk_slots::next_client(sets, turn);
     if desk_slots::CLIENTS <= who {
         return desk_replies::left(desk_replies::Answer::Done, d);
     }
-    let p = d.player;
+    let players = players_of(d);
     let c = desk_state::client_at(d, who);
-    let h = hand_out(groups, tracks, segments, text, p, c, out);
+    let h = hand_out(groups, tracks, segments, text, players, c, out);
     let next = h.client;
     let e = with_served(d, who, next);
     desk_replies::left(
-        desk_replies::Answer::Served(who, h.characteristic, h.len),
+        desk_replies::Answer::Served(who, h.service, h.characteristic, h.len),
         e,
     )
 }

@@ -30,6 +30,8 @@ pub const BAD_STATE: u32 = 201;
 
 pub const NO_CLIENT: u32 = 202;
 
+pub const NO_SERVICE: u32 = 219;
+
 pub const NOT_CONNECTED: u32 = 203;
 
 pub const ALREADY_CONNECTED: u32 = 204;

@@ -39,14 +39,14 @@ module _ (groups tracks segments text state track octet : RefT (List ℕ)) where
   told t o = (at-last track t, (at-last octet o, tt))
 
   module _ (κs : Lfts 7) where
-    pub activate-settled : (group : ℕ) → Settles (λ n new t o. activate.Post κs (lent (state, (group, words))) n (lent (at-last state new, (group, told t o))))
-    activate-settled group n₁ n₂ new₁ new₂ t₁ t₂ o₁ o₂ = ends-settled
+    pub activate-settled : (service group : ℕ) → Settles (λ n new t o. activate.Post κs (lent (state, (service, (group, words)))) n (lent (at-last state new, (service, (group, told t o)))))
+    activate-settled service group n₁ n₂ new₁ new₂ t₁ t₂ o₁ o₂ = ends-settled
 
-    pub deactivate-settled : Settles (λ n new t o. deactivate.Post κs (lent (state, words)) n (lent (at-last state new, told t o)))
-    deactivate-settled n₁ n₂ new₁ new₂ t₁ t₂ o₁ o₂ = ends-settled
+    pub deactivate-settled : (service : ℕ) → Settles (λ n new t o. deactivate.Post κs (lent (state, (service, words))) n (lent (at-last state new, (service, told t o))))
+    deactivate-settled service n₁ n₂ new₁ new₂ t₁ t₂ o₁ o₂ = ends-settled
 
-    pub advance-settled : (step : ℕ) → Settles (λ n new t o. advance.Post κs (lent (state, (step, words))) n (lent (at-last state new, (step, told t o))))
-    advance-settled step n₁ n₂ new₁ new₂ t₁ t₂ o₁ o₂ = ends-settled
+    pub advance-settled : (service step : ℕ) → Settles (λ n new t o. advance.Post κs (lent (state, (service, (step, words)))) n (lent (at-last state new, (service, (step, told t o)))))
+    advance-settled service step n₁ n₂ new₁ new₂ t₁ t₂ o₁ o₂ = ends-settled
 
     pub connect-settled : (client mtu encrypted : ℕ)
         → Settles (λ n new t o. connect.Post κs (lent (state, (client, (mtu, (encrypted, words))))) n (lent (at-last state new, (client, (mtu, (encrypted, told t o))))))
@@ -55,31 +55,35 @@ module _ (groups tracks segments text state track octet : RefT (List ℕ)) where
     pub disconnect-settled : (client : ℕ) → Settles (λ n new t o. disconnect.Post κs (lent (state, (client, words))) n (lent (at-last state new, (client, told t o))))
     disconnect-settled client n₁ n₂ new₁ new₂ t₁ t₂ o₁ o₂ = ends-settled
 
-    pub subscribe-settled : (client x : ℕ) → Settles (λ n new t o. subscribe.Post κs (lent (state, (client, (x, words)))) n (lent (at-last state new, (client, (x, told t o)))))
-    subscribe-settled client x n₁ n₂ new₁ new₂ t₁ t₂ o₁ o₂ = ends-settled
+    pub subscribe-settled : (client service x : ℕ)
+        → Settles (λ n new t o. subscribe.Post κs (lent (state, (client, (service, (x, words))))) n (lent (at-last state new, (client, (service, (x, told t o))))))
+    subscribe-settled client service x n₁ n₂ new₁ new₂ t₁ t₂ o₁ o₂ = ends-settled
 
-    pub unsubscribe-settled : (client x : ℕ) → Settles (λ n new t o. unsubscribe.Post κs (lent (state, (client, (x, words)))) n (lent (at-last state new, (client, (x, told t o)))))
-    unsubscribe-settled client x n₁ n₂ new₁ new₂ t₁ t₂ o₁ o₂ = ends-settled
+    pub unsubscribe-settled : (client service x : ℕ)
+        → Settles (λ n new t o. unsubscribe.Post κs (lent (state, (client, (service, (x, words))))) n (lent (at-last state new, (client, (service, (x, told t o))))))
+    unsubscribe-settled client service x n₁ n₂ new₁ new₂ t₁ t₂ o₁ o₂ = ends-settled
+
+  module _ (κs : Lfts 9) where
+    pub start-settled : (name0 name1 : RefT (List ℕ)) (mask0 ccid0 mask1 ccid1 : ℕ)
+        → Settles (λ n new t o. start.Post κs (lent (name0, (mask0, (ccid0, (name1, (mask1, (ccid1, (state, words)))))))) n (lent (name0, (mask0, (ccid0, (name1, (mask1, (ccid1, (at-last state new, told t o)))))))))
+    start-settled name0 name1 mask0 ccid0 mask1 ccid1 n₁ n₂ new₁ new₂ t₁ t₂ o₁ o₂ = ends-settled
 
   module _ (κs : Lfts 8) where
-    pub start-settled : (name : RefT (List ℕ)) (mask ccid : ℕ)
-        → Settles (λ n new t o. start.Post κs (lent (name, (mask, (ccid, (state, words))))) n (lent (name, (mask, (ccid, (at-last state new, told t o))))))
-    start-settled name mask ccid n₁ n₂ new₁ new₂ t₁ t₂ o₁ o₂ = ends-settled
+    pub set-name-settled : (service : ℕ) (name : RefT (List ℕ))
+        → Settles (λ n new t o. set-name.Post κs (lent (state, (service, (name, words)))) n (lent (at-last state new, (service, (name, told t o)))))
+    set-name-settled service name n₁ n₂ new₁ new₂ t₁ t₂ o₁ o₂ = ends-settled
 
-    pub set-name-settled : (name : RefT (List ℕ)) → Settles (λ n new t o. set-name.Post κs (lent (state, (name, words))) n (lent (at-last state new, (name, told t o))))
-    set-name-settled name n₁ n₂ new₁ new₂ t₁ t₂ o₁ o₂ = ends-settled
-
-    pub write-settled : (client x : ℕ) (value : RefT (List ℕ))
-        → Settles (λ n new t o. write.Post κs (lent (state, (client, (x, (value, words))))) n (lent (at-last state new, (client, (x, (value, told t o))))))
-    write-settled client x value n₁ n₂ new₁ new₂ t₁ t₂ o₁ o₂ = ends-settled
+    pub write-settled : (client service x : ℕ) (value : RefT (List ℕ))
+        → Settles (λ n new t o. write.Post κs (lent (state, (client, (service, (x, (value, words)))))) n (lent (at-last state new, (client, (service, (x, (value, told t o)))))))
+    write-settled client service x value n₁ n₂ new₁ new₂ t₁ t₂ o₁ o₂ = ends-settled
 
   -- the lent output and the words for what is said too
   module _ (κs : Lfts 9) (out said : RefT (List ℕ)) (out₁ out₂ said₁ said₂ : List ℕ) where
-    pub read-settled : (client x offset : ℕ) (n₁ n₂ : ℕ) (new₁ new₂ t₁ t₂ o₁ o₂ : List ℕ)
-        → read.Post κs (lent (state, (client, (x, (offset, (out, (said, words))))))) n₁ (lent (at-last state new₁, (client, (x, (offset, (at-last out out₁, (at-last said said₁, told t₁ o₁)))))))
-        → read.Post κs (lent (state, (client, (x, (offset, (out, (said, words))))))) n₂ (lent (at-last state new₂, (client, (x, (offset, (at-last out out₂, (at-last said said₂, told t₂ o₂)))))))
+    pub read-settled : (client service x offset : ℕ) (n₁ n₂ : ℕ) (new₁ new₂ t₁ t₂ o₁ o₂ : List ℕ)
+        → read.Post κs (lent (state, (client, (service, (x, (offset, (out, (said, words)))))))) n₁ (lent (at-last state new₁, (client, (service, (x, (offset, (at-last out out₁, (at-last said said₁, told t₁ o₁))))))))
+        → read.Post κs (lent (state, (client, (service, (x, (offset, (out, (said, words)))))))) n₂ (lent (at-last state new₂, (client, (service, (x, (offset, (at-last out out₂, (at-last said said₂, told t₂ o₂))))))))
         → (((n₁ ≡ n₂) × (new₁ ≡ new₂)) × (t₁ ≡ t₂) × (o₁ ≡ o₂)) × (out₁ ≡ out₂) × (said₁ ≡ said₂)
-    read-settled client x offset n₁ n₂ new₁ new₂ t₁ t₂ o₁ o₂ p q = (ends-settled (p .0) (q .0), p .1 .0 ∙ sym (q .1 .0), p .1 .1 ∙ sym (q .1 .1))
+    read-settled client service x offset n₁ n₂ new₁ new₂ t₁ t₂ o₁ o₂ p q = (ends-settled (p .0) (q .0), p .1 .0 ∙ sym (q .1 .0), p .1 .1 ∙ sym (q .1 .1))
 
     pub take-settled : (n₁ n₂ : ℕ) (new₁ new₂ t₁ t₂ o₁ o₂ : List ℕ)
         → take.Post κs (lent (state, (out, (said, words)))) n₁ (lent (at-last state new₁, (at-last out out₁, (at-last said said₁, told t₁ o₁))))

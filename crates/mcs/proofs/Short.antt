@@ -4,10 +4,10 @@ use mathlib.Core.Bool.{Bool, true, false, _&&_, not}
 use mathlib.Core.List.{List, [], _∷_, _++_}
 use Prim.Native.Nat.{ℕ, zero, suc, _+_, _-_, _/_, _%_, _≤_, _<_}
 use native.Mathlib.Omega.{arith}
-use borrow.Author.Tests.{not-false, leb-true, leb-false}
+use borrow.Author.Tests.{eqb-true, not-false, leb-true, leb-false}
 use lib.Dec.{eqb, leb, ltb, lit≤}
-use lib.ListN.{length, take, drop, getD, length-take, length-drop}
-use Rattle.ground.specs.Cases.{pick}
+use lib.ListN.{length, take, drop, getD, length-take}
+use Rattle.ground.specs.Cases.{pick, has}
 use Rattle.ground.specs.Refusals.{Said, granted, refusedWith, Row, row, answered, saidThrough, Left, leaves, keeping}
 use Rattle.ground.specs.Limits.{mostGroups, mostTracks, mostSegments, mostText, groupWords, trackWords, leastOutput}
 use Rattle.ground.proofs.Cases.{and-left, and-right}
@@ -20,28 +20,29 @@ use Rattle.catalogue_check.specs.Catalogue.{catalogueCarries}
 use Rattle.catalogue_check.proofs.Laws.{is-right, carries-small as title-small}
 use Rattle.player_check.specs.Standing.{nameCarries}
 use Rattle.player_check.proofs.Laws.{carries-small as name-small}
-use Rattle.player_state.specs.Player.{startedPlayer}
-use Rattle.desk_state.specs.Desk.{startedDesk}
+use Rattle.desk_state.specs.Desk.{clientAt, startedDesk}
+use Rattle.desk_state.proofs.Laws.{link-stands}
+use Rattle.desk_client.specs.declared.Link.{Link}
 use Rattle.desk_client.specs.declared.Account.{Account}
-use Rattle.desk_console.specs.Console.{startRows, startCall, nameRows, nameCall, activateRows, activateCall, deactivateCall, advanceCall}
-use Rattle.desk_links.specs.Links.{connectRows, connectCall, disconnectCall, slotRows, slotCall}
+use Rattle.desk_console.specs.Console.{Beginning, freshly, nameless, startRows, startCall, nameRows, nameCall, activateRows, activateCall, serviceRows, deactivateCall, advanceCall}
+use Rattle.desk_links.specs.Links.{connectRows, connectCall, disconnectRows, disconnectCall, slotRows, slotCall}
 use Rattle.card_write.specs.Write.{writeRows, writeSaid}
 use Rattle.card_write.proofs.Answers.{most-blocks}
 use Rattle.catalogue_cue.specs.Sheet.{cueSaid}
 use Rattle.catalogue_cue.proofs.Small.{cue-small}
-use Rattle.desk_slots.specs.Slots.{clientCount, slotTable, characteristicOf}
-use Rattle.player_values.specs.Values.{sourceOf, valueOf}
-use Rattle.player_values.proofs.Fits.{value-fits}
+use Rattle.desk_slots.specs.Slots.{placeCount, clientCount, slotTable, characteristicOf, serviceOf, slotAt}
+use Rattle.desk_slots.proofs.NextLaws.{next-le}
 use Rattle.ground.proofs.Rows.{NoneApplies, parted}
 use Rattle.desk_client.specs.declared.Client.{Client}
-use Rattle.desk_client.specs.Client.{controlSlot, blankEntry}
+use Rattle.desk_client.specs.Client.{leastMtu, mtuRight, linkRule}
+use Rattle.desk_client.proofs.Rule.{connected-linked, mark-within}
 use Rattle.desk_state.specs.declared.Desk.{Desk}
-use Rattle.desk_replies.specs.Replies.{fronted, ofClient, asked, caller}
-use Rattle.desk_replies.proofs.Gates.{right, player}
-use Rattle.desk_exchange.specs.Write.{writeRows as valueRows, writeCall}
+use Rattle.desk_replies.specs.Replies.{fronted, asked, linkOf}
+use Rattle.desk_replies.proofs.Gates.{stands}
+use Rattle.desk_exchange.specs.Write.{writerRows, writeCall}
 use Rattle.desk_exchange.specs.Read.{valueNow, readerRows, readOctets, readCall}
-use Rattle.desk_take.specs.Serving.{nextSlot, resultOctets, handedOctets, handedValues, afterServing}
-use Rattle.desk_take.specs.Take.{nextClient, withServed, takeCall}
+use Rattle.desk_take.specs.Serving.{placesOwed, nextPlace, handedOctets, handedValues, afterServing}
+use Rattle.desk_take.specs.Take.{nextClient, playersOf, withServed, takeCall}
 use Rattle.mcs.specs.Calls.{AllWords, lowWord, carries, carriesTwo, toldOf, toldAfter, saidWords, wordsAfter, carriedAfter, trackAfter, offsetAfter}
 
 at-word : (xs : List ℕ) (i : ℕ) → AllWords xs → getD xs i 0 < 4294967296
@@ -161,10 +162,22 @@ write-words k room =
     (λ n. (omega (arith, most-blocks k (is-right k (not-false _ (n .0)))), tt))
 
 -- start says nothing besides
-pub start-words : (k : Tables) (name : List ℕ) (mask ccid : ℕ) → AllWords (startCall k name mask ccid .said .values)
+pub start-words : (k : Tables) (generic named : Beginning) → AllWords (startCall k generic named .said .values)
 unfolding startCall SmallRows
-start-words k name mask ccid =
-    behind-rows (λ (l : Left Desk). l .said) (keeping (startedDesk (startedPlayer [] mask ccid))) (λ said. refl) (startRows k name) (title-words k, (tt, (name-words name, tt))) _ (λ n. tt)
+start-words k generic named =
+    behind-rows (λ (l : Left Desk). l .said) (keeping (startedDesk (freshly (nameless generic)) (freshly (nameless named)))) (λ said. refl) (startRows k generic named)
+    (title-words k, (tt, (name-words (generic .name), (name-words (named .name), tt)))) _ (λ n. tt)
+
+-- the ATT_MTU of a link that stands is small
+mtu-small : (l : Link) → linkRule l ≡ true → l .mtu < 4294967296
+unfolding linkRule
+mtu-small l e = at (l .connected) refl
+  where
+    at : (t : Bool) → l .connected ≡ t → l .mtu < 4294967296
+    at true q = omega (arith, connected-linked l e q .mtu-to)
+    at false q =
+        let r = subst (λ (t : Bool). pick t (mtuRight (l .mtu) && ltb (l .mark) placeCount) (not (l .encrypted) && eqb (l .mtu) leastMtu && eqb (l .mark) (placeCount - 1)) ≡ true) q e in
+        omega (arith, eqb-true (l .mtu) leastMtu (and-right (not (l .encrypted)) (eqb (l .mtu) leastMtu) (and-left (not (l .encrypted) && eqb (l .mtu) leastMtu) (eqb (l .mark) (placeCount - 1)) r)))
 
 module _ (k : Tables) (d : Desk) where
   -- nor do the calls that answer no more than that they are accepted
@@ -173,78 +186,81 @@ module _ (k : Tables) (d : Desk) where
   asked-words rows n work e =
       behind-rows (λ (l : Left Desk). l .said) (keeping d) (λ said. refl) (fronted k false d ++ rows) (title-words k, (tt, (tt, n))) work (λ m. subst AllWords (sym e) tt)
 
-  pub set-name-words : (name : List ℕ) → AllWords (nameCall k d name .said .values)
+  pub set-name-words : (service : ℕ) (name : List ℕ) → AllWords (nameCall k d service name .said .values)
   unfolding nameCall SmallRows
-  set-name-words name = asked-words (nameRows name) (name-words name, tt) _ refl
+  set-name-words service name = asked-words (nameRows service name) (tt, (name-words name, tt)) _ refl
 
-  pub activate-words : (g : ℕ) → AllWords (activateCall k d g .said .values)
+  pub activate-words : (service g : ℕ) → AllWords (activateCall k d service g .said .values)
   unfolding activateCall SmallRows
-  activate-words g = asked-words (activateRows k g) (tt, tt) _ refl
+  activate-words service g = asked-words (activateRows k service g) (tt, (tt, tt)) _ refl
 
-  pub deactivate-words : AllWords (deactivateCall k d .said .values)
+  pub deactivate-words : (service : ℕ) → AllWords (deactivateCall k d service .said .values)
   unfolding deactivateCall SmallRows
-  deactivate-words = asked-words [] tt _ refl
+  deactivate-words service = asked-words (serviceRows service) (tt, tt) _ refl
 
-  pub advance-words : (step : ℕ) → AllWords (advanceCall k d step .said .values)
+  pub advance-words : (service step : ℕ) → AllWords (advanceCall k d service step .said .values)
   unfolding advanceCall SmallRows
-  advance-words step = asked-words [] tt _ refl
+  advance-words service step = asked-words (serviceRows service) (tt, tt) _ refl
 
   pub connect-words : (who mtu : ℕ) (encrypted : Bool) → AllWords (connectCall k d who mtu encrypted .said .values)
   unfolding connectCall SmallRows
-  connect-words who mtu encrypted = asked-words (connectRows who (caller d who .link .connected) mtu) (tt, (tt, (tt, tt))) _ refl
+  connect-words who mtu encrypted = asked-words (connectRows who (linkOf d who .connected) mtu) (tt, (tt, (tt, tt))) _ refl
 
   pub disconnect-words : (who : ℕ) → AllWords (disconnectCall k d who .said .values)
   unfolding disconnectCall SmallRows
-  disconnect-words who = asked-words (ofClient who (caller d who .link .connected)) (tt, (tt, tt)) _ refl
+  disconnect-words who = asked-words (disconnectRows who (linkOf d who .connected)) (tt, (tt, tt)) _ refl
 
-  pub slot-words : (who characteristic : ℕ) (f : ℕ → Account → Account) → AllWords (slotCall k d who characteristic f .said .values)
+  pub slot-words : (who service characteristic : ℕ) (f : ℕ → Account → Account) → AllWords (slotCall k d who service characteristic f .said .values)
   unfolding slotCall SmallRows
-  slot-words who characteristic f =
-      asked-words (slotRows who (caller d who .link .connected) (caller d who .link .encrypted) characteristic) (tt, (tt, (tt, (tt, (tt, tt))))) _ refl
+  slot-words who service characteristic f =
+      asked-words (slotRows who service (linkOf d who .connected) (linkOf d who .encrypted) characteristic) (tt, (tt, (tt, (tt, (tt, (tt, tt)))))) _ refl
 
-  pub written-words : (who characteristic : ℕ) (value : List ℕ) → AllWords (writeCall k d who characteristic value .said .values)
+  pub written-words : (who service characteristic : ℕ) (value : List ℕ) → AllWords (writeCall k d who service characteristic value .said .values)
   unfolding writeCall SmallRows
-  written-words who characteristic value =
-      asked-words (valueRows who (caller d who .link .connected) (caller d who .link .encrypted) (caller d who .account .waiting) characteristic value)
-      (tt, (tt, (tt, (tt, (tt, (tt, (tt, (tt, tt)))))))) _ refl
+  written-words who service characteristic value =
+      asked-words (writerRows d who service characteristic value) (tt, (tt, (tt, (tt, (tt, (tt, (tt, (tt, (tt, tt))))))))) _ refl
 
-  -- a read's length is at most its value's, which is at most 128
-  pub read-words : (who characteristic offset room : ℕ) → AllWords (readCall k d who characteristic offset room .said .values)
+  -- a read's length is at most ATT_MTU - 1, a take's at most ATT_MTU - 3; clients, services and characteristics are few
+  part-small : (most : ℕ) (value : List ℕ) → most < 4294967296 → length (take most value) < 4294967296
+  part-small most value h = simp length-take (omega arith)
+
+  pub read-words : (who service characteristic offset room : ℕ) → AllWords (readCall k d who service characteristic offset room .said .values)
   unfolding readCall readOctets SmallRows
-  read-words who characteristic offset room =
-      let rows = readerRows d who characteristic offset (length (valueNow k d characteristic)) in
+  read-words who service characteristic offset room =
+      let rows = readerRows d who service characteristic offset (length (valueNow k d service characteristic)) in
       let small = ltb room leastOutput in
-      behind-rows (λ (l : Left Desk). l .said) (keeping d) (λ said. refl) (fronted k small d ++ rows) (title-words k, (tt, (tt, (tt, (tt, (tt, (tt, (tt, (tt, (tt, tt)))))))))) _ (λ n.
-      let short : length (valueNow k d characteristic) ≤ 128 = value-fits k (right k small d rows n) (d .player) (player k small d rows n) characteristic in
-      (part-short (caller d who .link .mtu - 1) offset (valueNow k d characteristic) short, tt))
-    where
-      part-short : (most from : ℕ) (value : List ℕ) → length value ≤ 128 → length (take most (drop from value)) < 4294967296
-      part-short most from value h = simp (length-take, length-drop) (omega arith)
+      behind-rows (λ (l : Left Desk). l .said) (keeping d) (λ said. refl) (fronted k small d ++ rows) (title-words k, (tt, (tt, (tt, (tt, (tt, (tt, (tt, (tt, (tt, (tt, tt))))))))))) _ (λ n.
+      let right = link-stands (k .groups) (k .tracks) d (stands k small d rows n) who (leb-false clientCount who (n .1 .1 .1 .0)) in
+      (part-small (linkOf d who .mtu - 1) (drop offset (valueNow k d service characteristic)) (omega (arith, mtu-small (linkOf d who) right)), tt))
 
   few : (s : ℕ) → characteristicOf s < 4294967296
   unfolding characteristicOf
   few s = at-word slotTable s (lit≤ tt, (lit≤ tt, (lit≤ tt, (lit≤ tt, (lit≤ tt, (lit≤ tt, (lit≤ tt, (lit≤ tt, (lit≤ tt, (lit≤ tt, tt))))))))))
 
-  handed-short : (c : Client) → ((x : ℕ) → length (valueOf (sourceOf k) (d .player) x) ≤ 128) → length (handedOctets k (d .player) c) < 4294967296
-  unfolding handedOctets
-  handed-short c h = simp length-take (omega (arith, either (eqb (nextSlot c) controlSlot) (valueOf (sourceOf k) (d .player) (characteristicOf (nextSlot c))) (h (characteristicOf (nextSlot c)))))
-    where
-      either : (t : Bool) (value : List ℕ) → length value ≤ 128 → length (pick t (resultOctets (getD (c .account .results) 0 blankEntry)) value) ≤ 128
-      either true value e = lit≤ tt
-      either false value e = e
+  service-small : (place : ℕ) → place ≤ placeCount → serviceOf place < 4294967296
+  unfolding serviceOf
+  service-small place h = omega arith
 
-  -- so is a take's; clients and characteristics are few
   pub take-words : (room : ℕ) → AllWords (takeCall k d room .said .values)
-  unfolding takeCall SmallRows
+  unfolding takeCall SmallRows clientAt handedOctets
   take-words room =
       let small = ltb room leastOutput in
       behind-rows (λ (l : Left Desk). l .said) (keeping d) (λ said. refl) (fronted k small d ++ []) (title-words k, (tt, (tt, tt))) _ (λ n.
-      served (leb clientCount (nextClient d)) refl (value-fits k (right k small d [] n) (d .player) (player k small d [] n)))
+      served (leb clientCount (nextClient d)) refl (link-stands (k .groups) (k .tracks) d (stands k small d [] n) (nextClient d)))
     where
       own : Client
-      own = caller d (nextClient d)
+      own = clientAt d (nextClient d)
 
-      served : (t : Bool) → leb clientCount (nextClient d) ≡ t → ((x : ℕ) → length (valueOf (sourceOf k) (d .player) x) ≤ 128)
-          → AllWords (pick t (leaves (granted []) d) (leaves (granted (nextClient d ∷ handedValues k (d .player) own)) (withServed (nextClient d) (afterServing own) d)) .said .values)
+      served : (t : Bool) → leb clientCount (nextClient d) ≡ t → (nextClient d < clientCount → linkRule (linkOf d (nextClient d)) ≡ true)
+          → AllWords (pick t (leaves (granted []) d) (leaves (granted (nextClient d ∷ handedValues k (playersOf d) own)) (withServed (nextClient d) (afterServing own) d)) .said .values)
       served true e h = tt
-      served false e h = let there = leb-false clientCount (nextClient d) e in (omega (arith, there), (few (nextSlot own), (handed-short own h, tt)))
+      served false e h =
+          let there = leb-false clientCount (nextClient d) e in
+          let right = h there in
+          let l = linkOf d (nextClient d) in (
+            omega (arith, there),
+            (
+              service-small (nextPlace own) (next-le placeCount (has (placesOwed own)) (l .mark) (mark-within l right)),
+              (few (slotAt (nextPlace own)), (part-small (l .mtu - 3) _ (omega (arith, mtu-small l right)), tt)),
+            ),
+          )

@@ -48,7 +48,7 @@ toldAfter on values old = pick on (take (length old) values) old
 abbrev pub saidWords : Said → List ℕ
 saidWords said = getD (said .values) 0 0 ∷ getD (said .values) 1 0 ∷ getD (said .values) 2 0 ∷ getD (said .values) 3 0 ∷ []
 
--- those of a call; as they were where it is refused. A read's is its number of octets; a take's are client, characteristic and number of octets, 0, 0, 0
+-- those of a call; as they were where it is refused. A read's is its number of octets; a take's are client, service, characteristic and number of octets, 0, 0, 0, 0
 -- where nothing is owed; a card load's are the four counts, a card write's is the number of blocks
 abbrev pub wordsAfter : Said → List ℕ → List ℕ
 wordsAfter said old = toldAfter (said .isGranted) (saidWords said) old
@@ -67,7 +67,7 @@ offsetAfter said old = toldAfter (carries said) (pick (carriesTwo said) (getD (s
 
 -- the octets of the next state, or as they were
 abbrev pub stateAfter : Left Desk → List ℕ → List ℕ
-stateAfter l old = pick (l .said .isGranted) (deskOctets (l .state) ++ drop 338 old) old
+stateAfter l old = pick (l .said .isGranted) (deskOctets (l .state) ++ drop 633 old) old
 
 -- the number, the octets afterwards, and the state that they are
 pub record Leaves (l : Left Desk) (old : List ℕ) (number : ℕ) (new : List ℕ) : Type 0 where

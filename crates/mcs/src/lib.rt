@@ -1,4 +1,4 @@
-// What C calls (include/mcs.h). The state is 338 octets that the caller keeps (`mcs_state`); each call reads it out of them, makes its call, and writes it back
+// What C calls (include/mcs.h). The state is 633 octets that the caller keeps (`mcs_state`); each call reads it out of them, makes its call, and writes it back
 // where that is accepted. A call returns 0, or the number of the refusal: then nothing that was lent is altered, but for the words that are lent for what a
 // refusal carries.
 ghost use mathlib.Core.Path.{_≡_};
@@ -98,15 +98,22 @@ fn told_of(a: Answer) -> Told
     match a {
         Answer::Done => granted(0, 0, 0, 0),
         Answer::Octets(n) => granted(n, 0, 0, 0),
-        Answer::Served(who, characteristic, n) => {
+        Answer::Served(who, service, characteristic, n) => {
             granted(
                 ground::wide_word(who),
+                ground::wide_word(service),
+                ground::wide_word(characteristic),
+                n,
+            )
+        }
+        Answer::Handed(service, characteristic, n) => {
+            granted(
+                ground::wide_word(service),
                 ground::wide_word(characteristic),
                 n,
                 0,
             )
         }
-        Answer::Handed(characteristic, n) => granted(ground::wide_word(characteristic), n, 0, 0),
         Answer::Refused(r) => refused(r),
     }
 }
@@ -172,7 +179,7 @@ fn tell_place(t: Told, track: &mut [u32], octet: &mut [u32])
 
 // What every call on the state does at its end.
 fn finish(o: Outcome, state: &mut [u8], track: &mut [u32], octet: &mut [u32]) -> u32
-    requires { ⌜ 338 ≤ len (now state) ⌝ }
+    requires { ⌜ 633 ≤ len (now state) ⌝ }
     requires { ⌜ len (now track) ≡ 1 ⌝ }
     requires { ⌜ len (now octet) ≡ 1 ⌝ }
     requires { ⌜ AllWords (leftBy o .said .values) ⌝ }
@@ -269,16 +276,30 @@ pub extern "C" fn mcs_start(
     tracks: &[u32],
     segments: &[u32],
     text: &[u8],
-    name: &[u8],
-    mask: u32,
-    ccid: u8,
-    state: &mut [u8; 338],
+    name0: &[u8],
+    mask0: u32,
+    ccid0: u8,
+    name1: &[u8],
+    mask1: u32,
+    ccid1: u8,
+    state: &mut [u8; 633],
     track: &mut [u32; 1],
     octet: &mut [u32; 1],
 ) -> u32
-    ensures { λ r. ⌜ Ends (startCall (tables (now (groups .entry)) (now (tracks .entry)) (now (segments .entry)) (now (text .entry))) (now (name .entry)) mask ccid) (now (state .entry)) (now (track .entry)) (now (octet .entry)) r (now (state .exit)) (now (track .exit)) (now (octet .exit)) ⌝ }
+    ensures { λ r. ⌜ Ends (startCall (tables (now (groups .entry)) (now (tracks .entry)) (now (segments .entry)) (now (text .entry))) (record { name = now (name0 .entry); mask = mask0; ccid = ccid0 }) (record { name = now (name1 .entry); mask = mask1; ccid = ccid1 })) (now (state .entry)) (now (track .entry)) (now (octet .entry)) r (now (state .exit)) (now (track .exit)) (now (octet .exit)) ⌝ }
 {
-    let o = desk_console::start(groups, tracks, segments, text, name, mask, ccid);
+    let o = desk_console::start(
+        groups,
+        tracks,
+        segments,
+        text,
+        name0,
+        mask0,
+        ccid0,
+        name1,
+        mask1,
+        ccid1,
+    );
     finish(o, state, track, octet)
 }
 
@@ -289,15 +310,16 @@ pub extern "C" fn mcs_set_name(
     tracks: &[u32],
     segments: &[u32],
     text: &[u8],
-    state: &mut [u8; 338],
+    state: &mut [u8; 633],
+    service: u32,
     name: &[u8],
     track: &mut [u32; 1],
     octet: &mut [u32; 1],
 ) -> u32
-    ensures { λ r. ⌜ Ends (nameCall (tables (now (groups .entry)) (now (tracks .entry)) (now (segments .entry)) (now (text .entry))) (deskOf (now (state .entry))) (now (name .entry))) (now (state .entry)) (now (track .entry)) (now (octet .entry)) r (now (state .exit)) (now (track .exit)) (now (octet .exit)) ⌝ }
+    ensures { λ r. ⌜ Ends (nameCall (tables (now (groups .entry)) (now (tracks .entry)) (now (segments .entry)) (now (text .entry))) (deskOf (now (state .entry))) service (now (name .entry))) (now (state .entry)) (now (track .entry)) (now (octet .entry)) r (now (state .exit)) (now (track .exit)) (now (octet .exit)) ⌝ }
 {
     let d = mcs_state::decode(state);
-    let o = desk_console::set_name(groups, tracks, segments, text, d, name);
+    let o = desk_console::set_name(groups, tracks, segments, text, d, service, name);
     finish(o, state, track, octet)
 }
 
@@ -308,16 +330,17 @@ pub extern "C" fn mcs_activate(
     tracks: &[u32],
     segments: &[u32],
     text: &[u8],
-    state: &mut [u8; 338],
+    state: &mut [u8; 633],
+    service: u32,
     group: u32,
     track: &mut [u32; 1],
     octet: &mut [u32; 1],
 ) -> u32
-    ensures { λ r. ⌜ Ends (activateCall (tables (now (groups .entry)) (now (tracks .entry)) (now (segments .entry)) (now (text .entry))) (deskOf (now (state .entry))) group) (now (state .entry)) (now (track .entry)) (now (octet .entry)) r (now (state .exit)) (now (track .exit)) (now (octet .exit)) ⌝ }
+    ensures { λ r. ⌜ Ends (activateCall (tables (now (groups .entry)) (now (tracks .entry)) (now (segments .entry)) (now (text .entry))) (deskOf (now (state .entry))) service group) (now (state .entry)) (now (track .entry)) (now (octet .entry)) r (now (state .exit)) (now (track .exit)) (now (octet .exit)) ⌝ }
 {
     let d = mcs_state::decode(state);
     let g = catalogue_tables::GroupNo(group);
-    let o = desk_console::activate(groups, tracks, segments, text, d, g);
+    let o = desk_console::activate(groups, tracks, segments, text, d, service, g);
     finish(o, state, track, octet)
 }
 
@@ -328,14 +351,15 @@ pub extern "C" fn mcs_deactivate(
     tracks: &[u32],
     segments: &[u32],
     text: &[u8],
-    state: &mut [u8; 338],
+    state: &mut [u8; 633],
+    service: u32,
     track: &mut [u32; 1],
     octet: &mut [u32; 1],
 ) -> u32
-    ensures { λ r. ⌜ Ends (deactivateCall (tables (now (groups .entry)) (now (tracks .entry)) (now (segments .entry)) (now (text .entry))) (deskOf (now (state .entry)))) (now (state .entry)) (now (track .entry)) (now (octet .entry)) r (now (state .exit)) (now (track .exit)) (now (octet .exit)) ⌝ }
+    ensures { λ r. ⌜ Ends (deactivateCall (tables (now (groups .entry)) (now (tracks .entry)) (now (segments .entry)) (now (text .entry))) (deskOf (now (state .entry))) service) (now (state .entry)) (now (track .entry)) (now (octet .entry)) r (now (state .exit)) (now (track .exit)) (now (octet .exit)) ⌝ }
 {
     let d = mcs_state::decode(state);
-    let o = desk_console::deactivate(groups, tracks, segments, text, d);
+    let o = desk_console::deactivate(groups, tracks, segments, text, d, service);
     finish(o, state, track, octet)
 }
 
@@ -346,15 +370,16 @@ pub extern "C" fn mcs_advance(
     tracks: &[u32],
     segments: &[u32],
     text: &[u8],
-    state: &mut [u8; 338],
+    state: &mut [u8; 633],
+    service: u32,
     step: u32,
     track: &mut [u32; 1],
     octet: &mut [u32; 1],
 ) -> u32
-    ensures { λ r. ⌜ Ends (advanceCall (tables (now (groups .entry)) (now (tracks .entry)) (now (segments .entry)) (now (text .entry))) (deskOf (now (state .entry))) step) (now (state .entry)) (now (track .entry)) (now (octet .entry)) r (now (state .exit)) (now (track .exit)) (now (octet .exit)) ⌝ }
+    ensures { λ r. ⌜ Ends (advanceCall (tables (now (groups .entry)) (now (tracks .entry)) (now (segments .entry)) (now (text .entry))) (deskOf (now (state .entry))) service step) (now (state .entry)) (now (track .entry)) (now (octet .entry)) r (now (state .exit)) (now (track .exit)) (now (octet .exit)) ⌝ }
 {
     let d = mcs_state::decode(state);
-    let o = desk_console::advance(groups, tracks, segments, text, d, step);
+    let o = desk_console::advance(groups, tracks, segments, text, d, service, step);
     finish(o, state, track, octet)
 }
 
@@ -365,7 +390,7 @@ pub extern "C" fn mcs_connect(
     tracks: &[u32],
     segments: &[u32],
     text: &[u8],
-    state: &mut [u8; 338],
+    state: &mut [u8; 633],
     client: u32,
     mtu: u32,
     encrypted: u8,
@@ -395,7 +420,7 @@ pub extern "C" fn mcs_disconnect(
     tracks: &[u32],
     segments: &[u32],
     text: &[u8],
-    state: &mut [u8; 338],
+    state: &mut [u8; 633],
     client: u32,
     track: &mut [u32; 1],
     octet: &mut [u32; 1],
@@ -414,16 +439,26 @@ pub extern "C" fn mcs_subscribe(
     tracks: &[u32],
     segments: &[u32],
     text: &[u8],
-    state: &mut [u8; 338],
+    state: &mut [u8; 633],
     client: u32,
+    service: u32,
     characteristic: u32,
     track: &mut [u32; 1],
     octet: &mut [u32; 1],
 ) -> u32
-    ensures { λ r. ⌜ Ends (subscribeCall (tables (now (groups .entry)) (now (tracks .entry)) (now (segments .entry)) (now (text .entry))) (deskOf (now (state .entry))) client characteristic) (now (state .entry)) (now (track .entry)) (now (octet .entry)) r (now (state .exit)) (now (track .exit)) (now (octet .exit)) ⌝ }
+    ensures { λ r. ⌜ Ends (subscribeCall (tables (now (groups .entry)) (now (tracks .entry)) (now (segments .entry)) (now (text .entry))) (deskOf (now (state .entry))) client service characteristic) (now (state .entry)) (now (track .entry)) (now (octet .entry)) r (now (state .exit)) (now (track .exit)) (now (octet .exit)) ⌝ }
 {
     let d = mcs_state::decode(state);
-    let o = desk_links::subscribe(groups, tracks, segments, text, d, client, characteristic);
+    let o = desk_links::subscribe(
+        groups,
+        tracks,
+        segments,
+        text,
+        d,
+        client,
+        service,
+        characteristic,
+    );
     finish(o, state, track, octet)
 }
 
@@ -434,16 +469,26 @@ pub extern "C" fn mcs_unsubscribe(
     tracks: &[u32],
     segments: &[u32],
     text: &[u8],
-    state: &mut [u8; 338],
+    state: &mut [u8; 633],
     client: u32,
+    service: u32,
     characteristic: u32,
     track: &mut [u32; 1],
     octet: &mut [u32; 1],
 ) -> u32
-    ensures { λ r. ⌜ Ends (unsubscribeCall (tables (now (groups .entry)) (now (tracks .entry)) (now (segments .entry)) (now (text .entry))) (deskOf (now (state .entry))) client characteristic) (now (state .entry)) (now (track .entry)) (now (octet .entry)) r (now (state .exit)) (now (track .exit)) (now (octet .exit)) ⌝ }
+    ensures { λ r. ⌜ Ends (unsubscribeCall (tables (now (groups .entry)) (now (tracks .entry)) (now (segments .entry)) (now (text .entry))) (deskOf (now (state .entry))) client service characteristic) (now (state .entry)) (now (track .entry)) (now (octet .entry)) r (now (state .exit)) (now (track .exit)) (now (octet .exit)) ⌝ }
 {
     let d = mcs_state::decode(state);
-    let o = desk_links::unsubscribe(groups, tracks, segments, text, d, client, characteristic);
+    let o = desk_links::unsubscribe(
+        groups,
+        tracks,
+        segments,
+        text,
+        d,
+        client,
+        service,
+        characteristic,
+    );
     finish(o, state, track, octet)
 }
 
@@ -454,8 +499,9 @@ pub extern "C" fn mcs_read(
     tracks: &[u32],
     segments: &[u32],
     text: &[u8],
-    state: &mut [u8; 338],
+    state: &mut [u8; 633],
     client: u32,
+    service: u32,
     characteristic: u32,
     offset: u32,
     out: &mut [u8],
@@ -463,9 +509,9 @@ pub extern "C" fn mcs_read(
     track: &mut [u32; 1],
     octet: &mut [u32; 1],
 ) -> u32
-    ensures { λ r. ⌜ Ends (readCall (tables (now (groups .entry)) (now (tracks .entry)) (now (segments .entry)) (now (text .entry))) (deskOf (now (state .entry))) client characteristic offset (len (now (out .entry)))) (now (state .entry)) (now (track .entry)) (now (octet .entry)) r (now (state .exit)) (now (track .exit)) (now (octet .exit)) ⌝ }
-    ensures { λ r. ⌜ now (out .exit) ≡ tableAfter (readCall (tables (now (groups .entry)) (now (tracks .entry)) (now (segments .entry)) (now (text .entry))) (deskOf (now (state .entry))) client characteristic offset (len (now (out .entry))) .said) (readOctets (tables (now (groups .entry)) (now (tracks .entry)) (now (segments .entry)) (now (text .entry))) (deskOf (now (state .entry))) client characteristic offset) (now (out .entry)) ⌝ }
-    ensures { λ r. ⌜ now (length .exit) ≡ wordsAfter (readCall (tables (now (groups .entry)) (now (tracks .entry)) (now (segments .entry)) (now (text .entry))) (deskOf (now (state .entry))) client characteristic offset (len (now (out .entry))) .said) (now (length .entry)) ⌝ }
+    ensures { λ r. ⌜ Ends (readCall (tables (now (groups .entry)) (now (tracks .entry)) (now (segments .entry)) (now (text .entry))) (deskOf (now (state .entry))) client service characteristic offset (len (now (out .entry)))) (now (state .entry)) (now (track .entry)) (now (octet .entry)) r (now (state .exit)) (now (track .exit)) (now (octet .exit)) ⌝ }
+    ensures { λ r. ⌜ now (out .exit) ≡ tableAfter (readCall (tables (now (groups .entry)) (now (tracks .entry)) (now (segments .entry)) (now (text .entry))) (deskOf (now (state .entry))) client service characteristic offset (len (now (out .entry))) .said) (readOctets (tables (now (groups .entry)) (now (tracks .entry)) (now (segments .entry)) (now (text .entry))) (deskOf (now (state .entry))) client service characteristic offset) (now (out .entry)) ⌝ }
+    ensures { λ r. ⌜ now (length .exit) ≡ wordsAfter (readCall (tables (now (groups .entry)) (now (tracks .entry)) (now (segments .entry)) (now (text .entry))) (deskOf (now (state .entry))) client service characteristic offset (len (now (out .entry))) .said) (now (length .entry)) ⌝ }
 {
     let d = mcs_state::decode(state);
     let o = desk_exchange::read(
@@ -475,6 +521,7 @@ pub extern "C" fn mcs_read(
         text,
         d,
         client,
+        service,
         characteristic,
         offset,
         out,
@@ -493,9 +540,9 @@ pub extern "C" fn mcs_take(
     tracks: &[u32],
     segments: &[u32],
     text: &[u8],
-    state: &mut [u8; 338],
+    state: &mut [u8; 633],
     out: &mut [u8],
-    served: &mut [u32; 3],
+    served: &mut [u32; 4],
     track: &mut [u32; 1],
     octet: &mut [u32; 1],
 ) -> u32
@@ -519,14 +566,15 @@ pub extern "C" fn mcs_write(
     tracks: &[u32],
     segments: &[u32],
     text: &[u8],
-    state: &mut [u8; 338],
+    state: &mut [u8; 633],
     client: u32,
+    service: u32,
     characteristic: u32,
     value: &[u8],
     track: &mut [u32; 1],
     octet: &mut [u32; 1],
 ) -> u32
-    ensures { λ r. ⌜ Ends (writeCall (tables (now (groups .entry)) (now (tracks .entry)) (now (segments .entry)) (now (text .entry))) (deskOf (now (state .entry))) client characteristic (now (value .entry))) (now (state .entry)) (now (track .entry)) (now (octet .entry)) r (now (state .exit)) (now (track .exit)) (now (octet .exit)) ⌝ }
+    ensures { λ r. ⌜ Ends (writeCall (tables (now (groups .entry)) (now (tracks .entry)) (now (segments .entry)) (now (text .entry))) (deskOf (now (state .entry))) client service characteristic (now (value .entry))) (now (state .entry)) (now (track .entry)) (now (octet .entry)) r (now (state .exit)) (now (track .exit)) (now (octet .exit)) ⌝ }
 {
     let d = mcs_state::decode(state);
     let o = desk_exchange::write(
@@ -536,6 +584,7 @@ pub extern "C" fn mcs_write(
         text,
         d,
         client,
+        service,
         characteristic,
         value,
     );

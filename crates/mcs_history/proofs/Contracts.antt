@@ -41,14 +41,14 @@ module _ (groups tracks segments text state track octet : RefT (List ℕ)) (n : 
   MadeBy call = Made k call (state .now) new none
 
   module _ (κs : Lfts 7) where
-    pub activate-made : (group : ℕ) → activate-call.Post κs (lent (state, (group, words))) n (lent (at-last state new, (group, told))) → MadeBy (activate group)
-    activate-made group p = other (activate group) refl (p .leaves)
+    pub activate-made : (v group : ℕ) → activate-call.Post κs (lent (state, (v, (group, words)))) n (lent (at-last state new, (v, (group, told)))) → MadeBy (activate v group)
+    activate-made v group p = other (activate v group) refl (p .leaves)
 
-    pub deactivate-made : deactivate-call.Post κs (lent (state, words)) n (lent (at-last state new, told)) → MadeBy deactivate
-    deactivate-made p = other deactivate refl (p .leaves)
+    pub deactivate-made : (v : ℕ) → deactivate-call.Post κs (lent (state, (v, words))) n (lent (at-last state new, (v, told))) → MadeBy (deactivate v)
+    deactivate-made v p = other (deactivate v) refl (p .leaves)
 
-    pub advance-made : (step : ℕ) → advance-call.Post κs (lent (state, (step, words))) n (lent (at-last state new, (step, told))) → MadeBy (advance step)
-    advance-made step p = other (advance step) refl (p .leaves)
+    pub advance-made : (v step : ℕ) → advance-call.Post κs (lent (state, (v, (step, words)))) n (lent (at-last state new, (v, (step, told)))) → MadeBy (advance v step)
+    advance-made v step p = other (advance v step) refl (p .leaves)
 
     pub connect-made : (client mtu encrypted : ℕ) → connect-call.Post κs (lent (state, (client, (mtu, (encrypted, words))))) n (lent (at-last state new, (client, (mtu, (encrypted, told)))))
         → MadeBy (connect client mtu (flag encrypted))
@@ -57,39 +57,44 @@ module _ (groups tracks segments text state track octet : RefT (List ℕ)) (n : 
     pub disconnect-made : (client : ℕ) → disconnect-call.Post κs (lent (state, (client, words))) n (lent (at-last state new, (client, told))) → MadeBy (disconnect client)
     disconnect-made client p = other (disconnect client) refl (p .leaves)
 
-    pub subscribe-made : (client x : ℕ) → subscribe-call.Post κs (lent (state, (client, (x, words)))) n (lent (at-last state new, (client, (x, told)))) → MadeBy (subscribe client x)
-    subscribe-made client x p = other (subscribe client x) refl (p .leaves)
+    pub subscribe-made : (client v x : ℕ) → subscribe-call.Post κs (lent (state, (client, (v, (x, words))))) n (lent (at-last state new, (client, (v, (x, told)))))
+        → MadeBy (subscribe client v x)
+    subscribe-made client v x p = other (subscribe client v x) refl (p .leaves)
 
-    pub unsubscribe-made : (client x : ℕ) → unsubscribe-call.Post κs (lent (state, (client, (x, words)))) n (lent (at-last state new, (client, (x, told)))) → MadeBy (unsubscribe client x)
-    unsubscribe-made client x p = other (unsubscribe client x) refl (p .leaves)
+    pub unsubscribe-made : (client v x : ℕ) → unsubscribe-call.Post κs (lent (state, (client, (v, (x, words))))) n (lent (at-last state new, (client, (v, (x, told)))))
+        → MadeBy (unsubscribe client v x)
+    unsubscribe-made client v x p = other (unsubscribe client v x) refl (p .leaves)
+
+  module _ (κs : Lfts 9) where
+    -- a start that answers 0 begins a history
+    pub start-begins : (name0 name1 : RefT (List ℕ)) (mask0 ccid0 mask1 ccid1 : ℕ)
+        → start-call.Post κs (lent (name0, (mask0, (ccid0, (name1, (mask1, (ccid1, (state, words)))))))) 0 (lent (name0, (mask0, (ccid0, (name1, (mask1, (ccid1, (at-last state new, told))))))))
+        → Run k (record { name = name0 .now; mask = mask0; ccid = ccid0 }) (record { name = name1 .now; mask = mask1; ccid = ccid1 }) [] new
+    start-begins name0 name1 mask0 ccid0 mask1 ccid1 p = started (p .leaves)
 
   module _ (κs : Lfts 8) where
-    -- a start that answers 0 begins a history
-    pub start-begins : (name : RefT (List ℕ)) (mask ccid : ℕ) → start-call.Post κs (lent (name, (mask, (ccid, (state, words))))) 0 (lent (name, (mask, (ccid, (at-last state new, told)))))
-        → Run k (name .now) mask ccid [] new
-    start-begins name mask ccid p = started (p .leaves)
+    pub set-name-made : (v : ℕ) (name : RefT (List ℕ)) → set-name-call.Post κs (lent (state, (v, (name, words)))) n (lent (at-last state new, (v, (name, told)))) → MadeBy (setName v (name .now))
+    set-name-made v name p = other (setName v (name .now)) refl (p .leaves)
 
-    pub set-name-made : (name : RefT (List ℕ)) → set-name-call.Post κs (lent (state, (name, words))) n (lent (at-last state new, (name, told))) → MadeBy (setName (name .now))
-    set-name-made name p = other (setName (name .now)) refl (p .leaves)
-
-    pub write-made : (client x : ℕ) (value : RefT (List ℕ)) → write-call.Post κs (lent (state, (client, (x, (value, words))))) n (lent (at-last state new, (client, (x, (value, told)))))
-        → MadeBy (write client x (value .now))
-    write-made client x value p = other (write client x (value .now)) refl (p .leaves)
+    pub write-made : (client v x : ℕ) (value : RefT (List ℕ))
+        → write-call.Post κs (lent (state, (client, (v, (x, (value, words)))))) n (lent (at-last state new, (client, (v, (x, (value, told))))))
+        → MadeBy (write client v x (value .now))
+    write-made client v x value p = other (write client v x (value .now)) refl (p .leaves)
 
   module _ (κs : Lfts 9) (out said : RefT (List ℕ)) (out′ said′ : List ℕ) where
-    pub read-made : (client x offset : ℕ)
-        → read-call.Post κs (lent (state, (client, (x, (offset, (out, (said, words))))))) n (lent (at-last state new, (client, (x, (offset, (at-last out out′, (at-last said said′, told)))))))
-        → MadeBy (read client x offset (length (out .now)))
-    read-made client x offset p = other (read client x offset (length (out .now))) refl (p .0 .leaves)
+    pub read-made : (client v x offset : ℕ)
+        → read-call.Post κs (lent (state, (client, (v, (x, (offset, (out, (said, words)))))))) n (lent (at-last state new, (client, (v, (x, (offset, (at-last out out′, (at-last said said′, told))))))))
+        → MadeBy (read client v x offset (length (out .now)))
+    read-made client v x offset p = other (read client v x offset (length (out .now))) refl (p .0 .leaves)
 
-    pub read-shown : (client x offset : ℕ)
-        → read-call.Post κs (lent (state, (client, (x, (offset, (out, (said, words))))))) n (lent (at-last state new, (client, (x, (offset, (at-last out out′, (at-last said said′, told)))))))
-        → Shown k (deskOf (state .now)) client x offset (out .now) (said .now) out′ said′
-    read-shown client x offset p = record { output = p .1 .0; word = p .1 .1 }
+    pub read-shown : (client v x offset : ℕ)
+        → read-call.Post κs (lent (state, (client, (v, (x, (offset, (out, (said, words)))))))) n (lent (at-last state new, (client, (v, (x, (offset, (at-last out out′, (at-last said said′, told))))))))
+        → Shown k (deskOf (state .now)) client v x offset (out .now) (said .now) out′ said′
+    read-shown client v x offset p = record { output = p .1 .0; word = p .1 .1 }
 
-    -- the three words that a take is lent
-    pub take-made : (a b c : ℕ) → said .now ≡ a ∷ b ∷ c ∷ []
+    -- the four words that a take is lent
+    pub take-made : (a b c e : ℕ) → said .now ≡ a ∷ b ∷ c ∷ e ∷ []
         → take-call.Post κs (lent (state, (out, (said, words)))) n (lent (at-last state new, (at-last out out′, (at-last said said′, told))))
         → Made k (take (length (out .now))) (state .now) new (heard n said′ out′)
-    take-made a b c three p =
-        taken (subst (λ (w : List ℕ). Taken k (state .now) (out .now) w n new out′ said′) three (record { leaves = p .0 .leaves; output = p .1 .0; words = p .1 .1 }))
+    take-made a b c e four p =
+        taken (subst (λ (w : List ℕ). Taken k (state .now) (out .now) w n new out′ said′) four (record { leaves = p .0 .leaves; output = p .1 .0; words = p .1 .1 }))

@@ -18,28 +18,30 @@ use Rattle.ground.proofs.Cases.{past, clash, true-or}
 use Rattle.ground.proofs.Rows.{said-of}
 use Rattle.catalogue_tables.specs.Tables.{Tables}
 use Rattle.catalogue_check.specs.Catalogue.{catalogueRule, catalogueCarries}
-use Rattle.player_check.specs.Standing.{textRule}
-use Rattle.desk_slots.specs.Slots.{placeCount, clientCount, slotOf, characteristicOf}
+use Rattle.desk_slots.specs.Slots.{slotCount, clientCount, slotOf, characteristicOf, placeOf, serviceOf, slotAt}
+use Rattle.desk_slots.proofs.PlaceLaws.{slot-there}
+use Rattle.desk_slots.proofs.TableLaws.{slot-back}
 use Rattle.desk_client.specs.declared.Client.{Client}
 use Rattle.desk_state.specs.declared.Desk.{Desk}
-use Rattle.desk_replies.specs.Replies.{stateRight, fronted, caller}
-use Rattle.desk_take.specs.Serving.{nextSlot, handedOctets, handedValues, afterServing}
-use Rattle.desk_take.specs.Take.{nextClient, withServed, takenBy, takeCall, takeOctets}
+use Rattle.desk_state.specs.Desk.{clientAt}
+use Rattle.desk_replies.specs.Replies.{stateRight, fronted}
+use Rattle.desk_console.specs.Console.{Beginning}
+use Rattle.desk_take.specs.Serving.{nextPlace, handedOctets, handedValues, afterServing}
+use Rattle.desk_take.specs.Take.{nextClient, playersOf, withServed, takenBy, takeCall, takeOctets}
 use Rattle.desk_history.specs.Calls.{Call, take}
 use Rattle.desk_history.specs.Rounds.{Handout}
 use Rattle.desk_history.specs.History.{deskAt, spoken, handedOut}
-use Rattle.desk_history.proofs.Agree.{slot-there}
 use Rattle.mcs.specs.Calls.{wordsAfter}
 use Rattle.mcs_history.specs.Library.{heard}
 
 -- no slot has the characteristic 0
-none-is-0 : slotOf 0 < placeCount → ⊥
+none-is-0 : slotOf 0 < slotCount → ⊥
 unfolding slotOf
 none-is-0 h = omega (arith, h)
 
-module _ (k : Tables) (right : catalogueRule k ≡ true) (name : List ℕ) (named : textRule name ≡ true) (mask ccid : ℕ) (h : List Call) (out : List ℕ) (a b c : ℕ) where
+module _ (k : Tables) (right : catalogueRule k ≡ true) (generic named : Beginning) (h : List Call) (out : List ℕ) (a b c e : ℕ) where
   abbrev d : Desk
-  d = deskAt k name mask ccid h
+  d = deskAt k generic named h
 
   abbrev O : List ℕ
   O = takeOctets k d
@@ -51,11 +53,11 @@ module _ (k : Tables) (right : catalogueRule k ≡ true) (name : List ℕ) (name
   R = fronted k small d ++ []
 
   abbrev own : Client
-  own = caller d (nextClient d)
+  own = clientAt d (nextClient d)
 
   -- what C hears, and what the desk hands out, by what is said
   abbrev hears : Said → Option Handout
-  hears said = heard (said .number) (wordsAfter said (a ∷ b ∷ c ∷ [])) (tableAfter said O out)
+  hears said = heard (said .number) (wordsAfter said (a ∷ b ∷ c ∷ e ∷ [])) (tableAfter said O out)
 
   abbrev hands : Said → Option Handout
   hands said = spoken (said .values) O
@@ -67,37 +69,43 @@ module _ (k : Tables) (right : catalogueRule k ≡ true) (name : List ℕ) (name
   refused-heard v false false false q = refl
 
   abbrev ch : ℕ
-  ch = characteristicOf (nextSlot own)
+  ch = characteristicOf (slotAt (nextPlace own))
 
   abbrev served : Said
-  served = granted (nextClient d ∷ handedValues k (d .player) own)
+  served = granted (nextClient d ∷ handedValues k (playersOf d) own)
 
   -- a take that serves somebody
-  served-heard : O ≡ handedOctets k (d .player) own → handedOut k (take (length out)) d ≡ some (record { client = nextClient d; slot = slotOf ch; octets = O }) → hears served ≡ hands served
-  served-heard e q =
-      (λ i. pick (there i) none (some (record { client = nextClient d; slot = slotOf ch; octets = firsts (length (sym e i)) (O ++ drop (length O) out) })))
-      ∙ ap (λ (o : List ℕ). some (record { client = nextClient d; slot = slotOf ch; octets = o })) (take-append-seam O (drop (length O) out))
+  served-heard : O ≡ handedOctets k (playersOf d) own → hears served ≡ hands served
+  served-heard q =
+      (λ i. pick (there i) none (some (record { client = nextClient d; place = place; octets = firsts (length (sym q i)) (O ++ drop (length O) out) })))
+      ∙ ap (λ (o : List ℕ). some (record { client = nextClient d; place = place; octets = o })) (take-append-seam O (drop (length O) out))
     where
+      place : ℕ
+      place = placeOf (serviceOf (nextPlace own)) (slotOf ch)
+
+      within : slotOf ch < slotCount
+      within = subst (λ (n : ℕ). n < slotCount) (sym (slot-back (slotAt (nextPlace own)) (slot-there (nextPlace own)))) (slot-there (nextPlace own))
+
       there : eqb ch 0 ≡ false
       there =
           ⊎-elim
-          (λ (z : eqb ch 0 ≡ true). absurd (none-is-0 (subst (λ (n : ℕ). slotOf n < placeCount) (eqb-true ch 0 z) (slot-there k right name named mask ccid (take (length out)) h _ q))))
+          (λ (z : eqb ch 0 ≡ true). absurd (none-is-0 (subst (λ (n : ℕ). slotOf n < slotCount) (eqb-true ch 0 z) within)))
           (λ z. z) (true-or (eqb ch 0))
 
   pub heard-is : hears (takeCall k d (length out) .said) ≡ handedOut k (take (length out)) d
   unfolding takeCall takeOctets
-  heard-is = (λ i. hears (e i)) ∙ go (accepted R) refl ∙ sym (λ i. hands (e i))
+  heard-is = (λ i. hears (by i)) ∙ go (accepted R) refl ∙ sym (λ i. hands (by i))
     where
-      e : takeCall k d (length out) .said ≡ pick (accepted R) (takenBy k d (nextClient d) .said) (saidBy R)
-      e = said-of d R (takenBy k d (nextClient d))
+      by : takeCall k d (length out) .said ≡ pick (accepted R) (takenBy k d (nextClient d) .said) (saidBy R)
+      by = said-of d R (takenBy k d (nextClient d))
 
       serve : (u : Bool) → leb clientCount (nextClient d) ≡ u
           → (takeCall k d (length out) .said ≡ pick u (leaves (granted []) d) (leaves served (withServed (nextClient d) (afterServing own) d)) .said)
           → hears (pick u (leaves (granted []) d) (leaves served (withServed (nextClient d) (afterServing own) d)) .said)
           ≡ hands (pick u (leaves (granted []) d) (leaves served (withServed (nextClient d) (afterServing own) d)) .said)
       serve true v q = refl
-      serve false v q = served-heard (sym (past [] v refl)) (λ i. spoken (q i .values) O)
+      serve false v q = served-heard (sym (past [] v refl))
 
       go : (t : Bool) → accepted R ≡ t → hears (pick t (takenBy k d (nextClient d) .said) (saidBy R)) ≡ hands (pick t (takenBy k d (nextClient d) .said) (saidBy R))
-      go true q = serve (leb clientCount (nextClient d)) refl (e ∙ (λ i. pick (q i) (takenBy k d (nextClient d) .said) (saidBy R)))
+      go true q = serve (leb clientCount (nextClient d)) refl (by ∙ (λ i. pick (q i) (takenBy k d (nextClient d) .said) (saidBy R)))
       go false q = refused-heard (catalogueCarries k) (not (catalogueRule k)) small (not (stateRight k d)) (ap not right)

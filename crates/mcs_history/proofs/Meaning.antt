@@ -15,20 +15,20 @@ use Rattle.ground.proofs.Cases.{here}
 use Rattle.catalogue_tables.specs.Tables.{Tables}
 use Rattle.catalogue_check.specs.Catalogue.{catalogueRule, catalogueCarries}
 use Rattle.player_check.specs.Standing.{textRule, nameCarries}
-use Rattle.player_state.specs.Player.{startedPlayer, renamed, deactivated}
+use Rattle.player_state.specs.Player.{renamed, deactivated}
 use Rattle.player_moves.specs.Clock.{advanced, activated}
 use Rattle.desk_state.specs.declared.Desk.{Desk}
-use Rattle.desk_state.specs.Desk.{startedDesk, withAccountOf}
+use Rattle.desk_state.specs.Desk.{serviceAt, clientAt, startedDesk, withAccount, withService}
 use Rattle.desk_slots.specs.Slots.{clientCount, slotOf}
-use Rattle.desk_client.specs.Client.{startClient, connectedClient}
+use Rattle.desk_client.specs.Client.{blankClient, startLink, connectedLink}
 use Rattle.desk_client.specs.Duties.{joined, dropped}
-use Rattle.desk_replies.specs.Replies.{fronted, ofClient, asked, caller}
-use Rattle.desk_console.specs.Console.{startCall, becoming, nameRows, nameCall, activateRows, activateCall, deactivateCall, quietAdvance, advanceCall}
-use Rattle.desk_links.specs.Links.{changing, connectRows, connectCall, disconnectCall, slotRows, slotCall}
+use Rattle.desk_replies.specs.Replies.{fronted, asked, linkOf, accountOf}
+use Rattle.desk_console.specs.Console.{Beginning, freshly, nameless, startCall, playerOf, becoming, nameRows, nameCall, activateRows, activateCall, serviceRows, deactivateCall, quietAdvance, advanceCall}
+use Rattle.desk_links.specs.Links.{changing, connectRows, connectCall, disconnectRows, disconnectCall, slotRows, slotCall}
 use Rattle.desk_exchange.specs.Read.{valueNow, readerRows, readOctets, afterRead, readCall}
-use Rattle.desk_exchange.specs.Write.{writeRows, written, writeCall}
+use Rattle.desk_exchange.specs.Write.{writerRows, written, writeCall}
 use Rattle.desk_take.specs.Serving.{handedValues, afterServing}
-use Rattle.desk_take.specs.Take.{nextClient, withServed, takenBy, takeCall}
+use Rattle.desk_take.specs.Take.{nextClient, playersOf, withServed, takenBy, takeCall}
 use Rattle.desk_history.specs.Calls.{Call, setName, activate, deactivate, advance, connect, disconnect, subscribe, unsubscribe, read, write, take, left}
 use Rattle.desk_history.specs.Rounds.{Handout}
 use Rattle.desk_history.specs.History.{deskAt}
@@ -60,60 +60,67 @@ module _ (k : Tables) (small : Bool) (d : Desk) (rows : List Row) where
 
 keeps : (k : Tables) (call : Call) (d : Desk) → pick (left k call d .said .isGranted) (left k call d .state) d ≡ left k call d .state
 unfolding nameCall activateCall deactivateCall advanceCall connectCall disconnectCall slotCall readCall writeCall takeCall
-keeps k (setName name) d = asked-keeps k false d (nameRows name) (becoming k d false (renamed name (d .player))) refl
-keeps k (activate g) d = asked-keeps k false d (activateRows k g) (becoming k d false (activated (k .groups) (k .tracks) g (d .player))) refl
-keeps k deactivate d = asked-keeps k false d [] (becoming k d false (deactivated (d .player))) refl
-keeps k (advance step) d =
-    asked-keeps k false d [] (becoming k d (quietAdvance (k .tracks) step (d .player)) (advanced (k .groups) (k .tracks) step (d .player))) refl
+keeps k (setName v name) d = asked-keeps k false d (nameRows v name) (becoming k d v false (renamed name (playerOf d v))) refl
+keeps k (activate v g) d = asked-keeps k false d (activateRows k v g) (becoming k d v false (activated (k .groups) (k .tracks) g (playerOf d v))) refl
+keeps k (deactivate v) d = asked-keeps k false d (serviceRows v) (becoming k d v false (deactivated (playerOf d v))) refl
+keeps k (advance v step) d =
+    asked-keeps k false d (serviceRows v) (becoming k d v (quietAdvance (k .tracks) step (playerOf d v)) (advanced (k .groups) (k .tracks) step (playerOf d v))) refl
 keeps k (connect who mtu encrypted) d =
-    asked-keeps k false d (connectRows who (caller d who .link .connected) mtu) (changing d who (connectedClient mtu encrypted)) refl
-keeps k (disconnect who) d = asked-keeps k false d (ofClient who (caller d who .link .connected)) (changing d who startClient) refl
-keeps k (subscribe who c) d =
-    asked-keeps k false d (slotRows who (caller d who .link .connected) (caller d who .link .encrypted) c)
-    (leaves (granted []) (withAccountOf who (joined (slotOf c) (caller d who .account)) d)) refl
-keeps k (unsubscribe who c) d =
-    asked-keeps k false d (slotRows who (caller d who .link .connected) (caller d who .link .encrypted) c)
-    (leaves (granted []) (withAccountOf who (dropped (slotOf c) (caller d who .account)) d)) refl
-keeps k (read who c offset room) d =
-    asked-keeps k (ltb room leastOutput) d (readerRows d who c offset (length (valueNow k d c)))
-    (leaves (granted (length (readOctets k d who c offset) ∷ [])) (withAccountOf who (afterRead c offset (caller d who .account)) d)) refl
-keeps k (write who c value) d =
-    asked-keeps k false d (writeRows who (caller d who .link .connected) (caller d who .link .encrypted) (caller d who .account .waiting) c value)
-    (leaves (granted []) (written k d who c value)) refl
+    asked-keeps k false d (connectRows who (linkOf d who .connected) mtu) (changing d who (blankClient (connectedLink mtu encrypted))) refl
+keeps k (disconnect who) d = asked-keeps k false d (disconnectRows who (linkOf d who .connected)) (changing d who (blankClient startLink)) refl
+keeps k (subscribe who v c) d =
+    asked-keeps k false d (slotRows who v (linkOf d who .connected) (linkOf d who .encrypted) c)
+    (leaves (granted []) (withService v (withAccount who (joined (slotOf c) (accountOf d who v)) (serviceAt d v)) d)) refl
+keeps k (unsubscribe who v c) d =
+    asked-keeps k false d (slotRows who v (linkOf d who .connected) (linkOf d who .encrypted) c)
+    (leaves (granted []) (withService v (withAccount who (dropped (slotOf c) (accountOf d who v)) (serviceAt d v)) d)) refl
+keeps k (read who v c offset room) d =
+    asked-keeps k (ltb room leastOutput) d (readerRows d who v c offset (length (valueNow k d v c)))
+    (leaves (granted (length (readOctets k d who v c offset) ∷ [])) (withService v (withAccount who (afterRead c offset (accountOf d who v)) (serviceAt d v)) d)) refl
+keeps k (write who v c value) d =
+    asked-keeps k false d (writerRows d who v c value) (leaves (granted []) (withService v (written k (serviceAt d v) who c value) d)) refl
 keeps k (take room) d =
     asked-keeps k (ltb room leastOutput) d [] (takenBy k d (nextClient d))
     (either-granted (leb clientCount (nextClient d)) (leaves (granted []) d)
-    (leaves (granted (nextClient d ∷ handedValues k (d .player) (caller d (nextClient d)))) (withServed (nextClient d) (afterServing (caller d (nextClient d))) d)) refl refl)
+    (leaves (granted (nextClient d ∷ handedValues k (playersOf d) (clientAt d (nextClient d)))) (withServed (nextClient d) (afterServing (clientAt d (nextClient d))) d)) refl refl)
 
 -- start is accepted where it answers 0
-accepted-start : (v w : List ℕ) (a b : Bool) (x y : Desk) → answered (keeping x) (rowWith 200 v a ∷ row 205 false ∷ rowWith 207 w b ∷ []) (leaves (granted []) y) .said .number ≡ 0 → (a ≡ false) × (b ≡ false)
-accepted-start v w true b x y e = absurd (let z : ⊥ = omega (arith, e) in z)
-accepted-start v w false true x y e = absurd (let z : ⊥ = omega (arith, e) in z)
-accepted-start v w false false x y e = (refl, refl)
+accepted-start : (v w z : List ℕ) (a b c : Bool) (x y : Desk)
+    → answered (keeping x) (rowWith 200 v a ∷ row 205 false ∷ rowWith 207 w b ∷ rowWith 207 z c ∷ []) (leaves (granted []) y) .said .number ≡ 0 → (a ≡ false) × (b ≡ false) × (c ≡ false)
+accepted-start v w z true b c x y e = absurd (let q : ⊥ = omega (arith, e) in q)
+accepted-start v w z false true c x y e = absurd (let q : ⊥ = omega (arith, e) in q)
+accepted-start v w z false false true x y e = absurd (let q : ⊥ = omega (arith, e) in q)
+accepted-start v w z false false false x y e = (refl, refl, refl)
 
-module _ (k : Tables) (name : List ℕ) (mask ccid : ℕ) where
-  start-right : startCall k name mask ccid .said .number ≡ 0 → (catalogueRule k ≡ true) × (textRule name ≡ true)
+module _ (k : Tables) (generic named : Beginning) where
+  -- every name and the catalogue are right
+  abbrev AllRight : Type 0
+  AllRight = (catalogueRule k ≡ true) × (textRule (generic .name) ≡ true) × (textRule (named .name) ≡ true)
+
+  start-right : startCall k generic named .said .number ≡ 0 → AllRight
   unfolding startCall
   start-right e =
-      let p = accepted-start (catalogueCarries k) (nameCarries name) (not (catalogueRule k)) (not (textRule name)) (startedDesk (startedPlayer [] mask ccid)) (startedDesk (startedPlayer name mask ccid)) e in
-      (not-false _ (p .0), not-false _ (p .1))
+      let p = accepted-start (catalogueCarries k) (nameCarries (generic .name)) (nameCarries (named .name)) (not (catalogueRule k)) (not (textRule (generic .name))) (not (textRule (named .name))) (startedDesk (freshly (nameless generic)) (freshly (nameless named))) (startedDesk (freshly generic) (freshly named)) e in
+      (not-false _ (p .0), not-false _ (p .1), not-false _ (p .2))
 
-  start-granted : (catalogueRule k ≡ true) × (textRule name ≡ true) → startCall k name mask ccid .said .isGranted ≡ true
+  start-granted : AllRight → startCall k generic named .said .isGranted ≡ true
   unfolding startCall
   start-granted p =
-      λ i. answered (keeping (startedDesk (startedPlayer [] mask ccid))) (rowWith 200 (catalogueCarries k) (not (p .0 i)) ∷ row 205 false ∷ rowWith 207 (nameCarries name) (not (p .1 i)) ∷ []) (leaves (granted []) (startedDesk (startedPlayer name mask ccid))) .said .isGranted
+      λ i. answered (keeping (startedDesk (freshly (nameless generic)) (freshly (nameless named))))
+      (rowWith 200 (catalogueCarries k) (not (p .0 i)) ∷ row 205 false ∷ rowWith 207 (nameCarries (generic .name)) (not (p .1 i)) ∷ rowWith 207 (nameCarries (named .name)) (not (p .2 i)) ∷ [])
+      (leaves (granted []) (startedDesk (freshly generic) (freshly named))) .said .isGranted
 
-  -- every history began with a catalogue and a name that are right
-  pub began-right : {h : List Call} {state : List ℕ} → Run k name mask ccid h state → (catalogueRule k ≡ true) × (textRule name ≡ true)
+  -- every history began with a catalogue and names that are right
+  pub began-right : {h : List Call} {state : List ℕ} → Run k generic named h state → AllRight
   began-right (started l) = start-right (sym (l .told))
   began-right (then run m) = began-right run
 
   -- what a call leaves means what the desk's definition leaves
-  made-means : {call : Call} {state state′ : List ℕ} {o : Option Handout} → Made k call state state′ o → deskOf state′ ≡ left k call (deskOf state) .state
+  pub made-means : {call : Call} {state state′ : List ℕ} {o : Option Handout} → Made k call state state′ o → deskOf state′ ≡ left k call (deskOf state) .state
   made-means (other {state} call t l) = l .state ∙ keeps k call (deskOf state)
   made-means (taken {state} {out = out} t) = t .leaves .state ∙ keeps k (take (length out)) (deskOf state)
 
   -- the octets mean the desk of the history
-  pub means : {h : List Call} {state : List ℕ} → Run k name mask ccid h state → deskOf state ≡ deskAt k name mask ccid h
+  pub means : {h : List Call} {state : List ℕ} → Run k generic named h state → deskOf state ≡ deskAt k generic named h
   means (started l) = l .state ∙ sym (here _ (start-granted (start-right (sym (l .told)))) refl)
   means (then {call = call} run m) = made-means m ∙ (λ i. left k call (means run i) .state)

@@ -1,4 +1,5 @@
 -- The laws that belong to no one function.
 pub mod Laid
+pub mod Each
 pub mod Round
 pub mod Plain

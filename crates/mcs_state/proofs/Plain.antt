@@ -4,19 +4,20 @@ use mathlib.Core.Bool.{Bool, true, false, _&&_}
 use mathlib.Core.List.{List, [], _∷_, _++_}
 use Prim.Native.Nat.{ℕ, zero, suc, _+_, _*_, _/_, _%_, _≤_, _<_}
 use native.Mathlib.Omega.{arith}
-use borrow.Author.Tests.{leb-true}
+use borrow.Author.Tests.{leb-true, eqb-true}
+use lib.Dec.{eqb}
 use lib.ListN.{length, getD, take, drop, length-take, length-drop, take-append-drop}
-use lib.Seq.{take-add}
+use lib.Seq.{take-add, take-all, getD-take}
 use Rattle.ground.specs.Cases.{pick}
-use Rattle.ground.specs.Lists.{part}
 use Rattle.ground.specs.Words.{wordAt}
 use Rattle.ground.proofs.Cases.{and-left, and-right}
 use Rattle.ground.proofs.Sweep.{spelled}
-use Rattle.desk_client.specs.Client.{clientRule}
+use Rattle.desk_client.specs.Client.{linkRule}
 use Rattle.desk_client.proofs.Rule.{mtu-least}
-use Rattle.desk_state.specs.Desk.{clientAt, deskRule}
-use Rattle.desk_state.proofs.Laws.{client-stands}
-use Rattle.mcs_state.specs.Codec.{bitOf, isBit, flag, wordThen, wideThen, wideAt, mtuOf, clientOf, clientOctets, playerOf, headOctets, deskOf, deskOctets}
+use Rattle.desk_state.specs.Desk.{linkAt, deskRule}
+use Rattle.desk_state.proofs.Laws.{link-stands, turn-there}
+use Rattle.mcs_state.specs.Codec.{bitOf, isBit, flag, layout, noTurn, wordThen, wideThen, wideAt, eachFrom, eachOctets, turnFrom, turnOctets, mtuFrom, linkFrom, linkOctets, accountFrom, accountOctets, playerFrom, playerOctets, serviceFrom, serviceOctets, deskOf, deskOctets}
+use Rattle.mcs_state.proofs.Each.{over, onward, each-plain}
 
 -- each is an octet
 abbrev pub Octets : List ℕ → Type 0
@@ -98,37 +99,29 @@ module _ (s : List ℕ) (octets : Octets s) where
   abbrev four : ℕ → List ℕ → List ℕ
   four at r = getD s at 0 ∷ getD s (at + 1) 0 ∷ getD s (at + 2) 0 ∷ getD s (at + 3) 0 ∷ r
 
-  -- a record, and the player's part with the turn
-  pub client-plain : length s ≡ 46 → isBit (getD s 0 0) ≡ true → isBit (getD s 1 0) ≡ true → clientOctets (clientOf s) ≡ s
-  unfolding clientOctets clientOf mtuOf
-  client-plain l p q =
-      (λ i. bit-back (getD s 0 0) p i ∷ bit-back (getD s 1 0) q i ∷ words i) ∙ spelled 0 s 0 46 l
-    where
-      mtu : pick (isBit (getD s 0 0) && isBit (getD s 1 0)) (wordAt s 2) 0 ≡ wordAt s 2
-      mtu = λ i. pick (p i && q i) (wordAt s 2) 0
+  -- a part of each kind; of a link where its yes-or-no octets are 0 or 1, of the turn where the layout is this one
+  turn-plain : length s ≡ 5 → getD s 0 0 ≡ layout → turnOctets (turnFrom s) ≡ s
+  unfolding turnOctets turnFrom
+  turn-plain l e =
+      (λ i. sym e i ∷ wordThen (pick (eqb (e i) layout) (wordAt s 1) noTurn) []) ∙ ap (λ (t : List ℕ). getD s 0 0 ∷ t) (word-then 1 []) ∙ spelled 0 s 0 5 l
 
-      results : List ℕ
-      results = getD s 30 0 ∷ getD s 31 0 ∷ getD s 32 0 ∷ getD s 33 0 ∷ getD s 34 0 ∷ getD s 35 0 ∷ getD s 36 0 ∷ getD s 37 0
-          ∷ getD s 38 0 ∷ getD s 39 0 ∷ getD s 40 0 ∷ getD s 41 0 ∷ getD s 42 0 ∷ getD s 43 0 ∷ getD s 44 0 ∷ getD s 45 0 ∷ []
+  link-plain : length s ≡ 10 → isBit (getD s 0 0) ≡ true → isBit (getD s 1 0) ≡ true → linkOctets (linkFrom s) ≡ s
+  unfolding linkOctets linkFrom mtuFrom
+  link-plain l p q =
+      (λ i. bit-back (getD s 0 0) p i ∷ bit-back (getD s 1 0) q i ∷ wordThen (pick (p i && q i) (wordAt s 2) 0) (wordThen (wordAt s 6) []))
+      ∙ ap (λ (t : List ℕ). getD s 0 0 ∷ getD s 1 0 ∷ t) (word-then 2 _ ∙ ap (four 2) (word-then 6 []))
+      ∙ spelled 0 s 0 10 l
 
-      words : wordThen (pick (isBit (getD s 0 0) && isBit (getD s 1 0)) (wordAt s 2) 0)
-          (wordThen (wordAt s 6) (wordThen (wordAt s 10) (wordThen (wordAt s 14) (wordThen (wordAt s 18) (wideThen (wideAt s 22) results)))))
-          ≡ four 2 (four 6 (four 10 (four 14 (four 18 (four 22 (four 26 results))))))
-      words =
-          (λ i. wordThen (mtu i) (wordThen (wordAt s 6) (wordThen (wordAt s 10) (wordThen (wordAt s 14) (wordThen (wordAt s 18) (wideThen (wideAt s 22) results))))))
-          ∙ word-then 2 _ ∙ ap (four 2)
-          (word-then 6 _ ∙ ap (four 6)
-          (word-then 10 _ ∙ ap (four 10)
-          (word-then 14 _ ∙ ap (four 14)
-          (word-then 18 _ ∙ ap (four 18)
-          (wide-then 22 results)))))
+  account-plain : length s ≡ 36 → accountOctets (accountFrom s) ≡ s
+  unfolding accountOctets accountFrom
+  account-plain l = word-then 0 _ ∙ ap (four 0) (word-then 4 _ ∙ ap (four 4) (word-then 8 _ ∙ ap (four 8) (wide-then 12 _))) ∙ spelled 0 s 0 36 l
 
-  pub head-plain : (name : List ℕ) → length s ≡ 26 → headOctets (playerOf name s) (wordAt s 22) ≡ s
-  unfolding headOctets playerOf
-  head-plain name l =
+  player-plain : (name : List ℕ) → length s ≡ 22 → playerOctets (playerFrom name s) ≡ s
+  unfolding playerOctets playerFrom
+  player-plain name l =
       ap (λ (t : List ℕ). getD s 0 0 ∷ getD s 1 0 ∷ getD s 2 0 ∷ getD s 3 0 ∷ getD s 4 0 ∷ getD s 5 0 ∷ t)
-      (word-then 6 _ ∙ ap (four 6) (word-then 10 _ ∙ ap (four 10) (word-then 14 _ ∙ ap (four 14) (word-then 18 _ ∙ ap (four 18) (word-then 22 [])))))
-      ∙ spelled 0 s 0 26 l
+      (word-then 6 _ ∙ ap (four 6) (word-then 10 _ ∙ ap (four 10) (word-then 14 _ ∙ ap (four 14) (word-then 18 []))))
+      ∙ spelled 0 s 0 22 l
 
 octets-drop : (a : ℕ) (s : List ℕ) → Octets s → Octets (drop a s)
 octets-drop zero s h = h
@@ -144,50 +137,79 @@ octets-take (suc n) (x ∷ s) h = at (octets-take n s (λ j. h (suc j)))
     at k zero = h 0
     at k (suc i) = k i
 
--- a record that keeps 201 has yes-or-no octets that are 0 or 1
-bits : (s : List ℕ) → clientRule (clientOf s) ≡ true → (isBit (getD s 0 0) && isBit (getD s 1 0)) ≡ true
-unfolding clientOf mtuOf
-bits s rule = go (isBit (getD s 0 0) && isBit (getD s 1 0)) (mtu-least (clientOf s) rule)
-  where
-    go : (t : Bool) → 23 ≤ pick t (wordAt s 2) 0 → t ≡ true
-    go true h = refl
-    go false h = absurd (let z : ⊥ = omega arith in z)
-
--- "201 .. a client record is wrong": an accepted state's octets are the encoding of the state that they are
-module _ (groups tracks s : List ℕ) (long : 338 ≤ length s) (octets : Octets s) (stands : deskRule groups tracks (deskOf s) ≡ true) where
-  piece : (a n : ℕ) → a + n ≤ 338 → length (take n (drop a s)) ≡ n
+-- a part of octets
+module _ (s : List ℕ) (octets : Octets s) where
+  piece : (a n : ℕ) → a + n ≤ length s → length (take n (drop a s)) ≡ n
   piece a n h = simp (length-take, length-drop) (omega arith)
 
   cut : (a n : ℕ) → Octets (take n (drop a s))
   cut a n = octets-take n (drop a s) (octets-drop a s octets)
 
-  record-plain : (a : ℕ) → a + 46 ≤ 338 → clientRule (clientOf (take 46 (drop a s))) ≡ true → clientOctets (clientOf (take 46 (drop a s))) ≡ take 46 (drop a s)
-  record-plain a h rule =
-      let r = take 46 (drop a s) in
+  account-at : (a : ℕ) → a + 36 ≤ length s → accountOctets (accountFrom (take 36 (drop a s))) ≡ take 36 (drop a s)
+  account-at a h = account-plain (take 36 (drop a s)) (cut a 36) (piece a 36 h)
+
+  service-plain : length s ≡ 294 → serviceOctets (serviceFrom s) ≡ s
+  unfolding serviceOctets serviceFrom playerFrom
+  service-plain l =
+      let accounts : eachOctets accountOctets (eachFrom accountFrom 36 s 150 4) ≡ take 144 (drop 150 s) =
+      each-plain accountFrom accountOctets 36 s 150 4
+      (onward (account-at 150 (omega arith)) (onward (account-at 186 (omega arith)) (onward (account-at 222 (omega arith)) (onward (account-at 258 (omega arith)) over)))) in
+      (λ i. take 128 s ++ player-plain (take 22 (drop 128 s)) (cut 128 22) (take 128 s) (piece 128 22 (omega arith)) i ++ accounts i)
+      ∙ (λ i. sym (take-add 128 22 s) i ++ take 144 (drop 150 s))
+      ∙ sym (take-add 150 144 s)
+      ∙ take-all 294 s (omega arith)
+
+-- a link that keeps 201 has yes-or-no octets that are 0 or 1
+bits : (s : List ℕ) → linkRule (linkFrom s) ≡ true → (isBit (getD s 0 0) && isBit (getD s 1 0)) ≡ true
+unfolding linkFrom mtuFrom
+bits s rule = go (isBit (getD s 0 0) && isBit (getD s 1 0)) (mtu-least (linkFrom s) rule)
+  where
+    go : (t : Bool) → 23 ≤ pick t (wordAt s 2) 0 → t ≡ true
+    go true h = refl
+    go false h = absurd (let z : ⊥ = omega arith in z)
+
+-- a turn that keeps 201 stands behind the octet of this layout
+laid-out : (s : List ℕ) → turnFrom s < 4 → getD s 0 0 ≡ layout
+unfolding turnFrom
+laid-out s h = eqb-true (getD s 0 0) layout (go (eqb (getD s 0 0) layout) h)
+  where
+    go : (t : Bool) → pick t (wordAt s 1) noTurn < 4 → t ≡ true
+    go true h = refl
+    go false h = absurd (let z : ⊥ = omega arith in z)
+
+-- "a state of another layout is refused and not misread"
+pub layout-named : (groups tracks s : List ℕ) → deskRule groups tracks (deskOf s) ≡ true → getD s 0 0 ≡ layout
+unfolding deskOf
+layout-named groups tracks s stands = sym (getD-take 5 s 0 0 (omega arith)) ∙ laid-out (take 5 s) (turn-there groups tracks (deskOf s) stands)
+
+-- "201 .. a client record is wrong": an accepted state's octets are the encoding of the state that they are
+module _ (groups tracks s : List ℕ) (long : 633 ≤ length s) (octets : Octets s) (stands : deskRule groups tracks (deskOf s) ≡ true) where
+  link-at : (a : ℕ) → a + 10 ≤ 633 → linkRule (linkFrom (take 10 (drop a s))) ≡ true → linkOctets (linkFrom (take 10 (drop a s))) ≡ take 10 (drop a s)
+  link-at a h rule =
+      let r = take 10 (drop a s) in
       let both = bits r rule in
-      client-plain r (cut a 46) (piece a 46 h) (and-left (isBit (getD r 0 0)) (isBit (getD r 1 0)) both) (and-right (isBit (getD r 0 0)) (isBit (getD r 1 0)) both)
+      link-plain r (cut s octets a 10) (piece s octets a 10 (omega arith)) (and-left (isBit (getD r 0 0)) (isBit (getD r 1 0)) both) (and-right (isBit (getD r 0 0)) (isBit (getD r 1 0)) both)
 
-  rule-of : (i : ℕ) → i < 4 → clientRule (clientAt (deskOf s .clients) i) ≡ true
-  rule-of i h = client-stands groups tracks (deskOf s) stands i h
+  service-at : (a : ℕ) → a + 294 ≤ 633 → serviceOctets (serviceFrom (take 294 (drop a s))) ≡ take 294 (drop a s)
+  service-at a h = service-plain (take 294 (drop a s)) (cut s octets a 294) (piece s octets a 294 (omega arith))
 
-  pub plain : deskOctets (deskOf s) ++ drop 338 s ≡ s
-  unfolding deskOctets deskOf playerOf
+  rule-of : (who : ℕ) → who < 4 → linkRule (linkAt (deskOf s .links) who) ≡ true
+  rule-of who h = link-stands groups tracks (deskOf s) stands who h
+
+  pub plain : deskOctets (deskOf s) ++ drop 633 s ≡ s
+  unfolding deskOctets deskOf
   plain =
-      (λ i.
-      take 128 s
-      ++ head-plain (take 26 (drop 128 s)) (cut 128 26) (take 128 s) (piece 128 26 (omega arith)) i
-      ++ record-plain 154 (omega arith) (rule-of 0 (omega arith)) i
-      ++ record-plain 200 (omega arith) (rule-of 1 (omega arith)) i
-      ++ record-plain 246 (omega arith) (rule-of 2 (omega arith)) i
-      ++ record-plain 292 (omega arith) (rule-of 3 (omega arith)) i
-      ++ drop 338 s)
-      ∙ ap (λ (t : List ℕ). t ++ drop 338 s) whole
-      ∙ take-append-drop 338 s
-    where
-      whole : take 128 s ++ take 26 (drop 128 s) ++ take 46 (drop 154 s) ++ take 46 (drop 200 s) ++ take 46 (drop 246 s) ++ take 46 (drop 292 s) ≡ take 338 s
-      whole =
-          (λ i. sym (take-add 128 26 s) i ++ take 46 (drop 154 s) ++ take 46 (drop 200 s) ++ take 46 (drop 246 s) ++ take 46 (drop 292 s))
-          ∙ (λ i. sym (take-add 154 46 s) i ++ take 46 (drop 200 s) ++ take 46 (drop 246 s) ++ take 46 (drop 292 s))
-          ∙ (λ i. sym (take-add 200 46 s) i ++ take 46 (drop 246 s) ++ take 46 (drop 292 s))
-          ∙ (λ i. sym (take-add 246 46 s) i ++ take 46 (drop 292 s))
-          ∙ sym (take-add 292 46 s)
+      let turn : turnOctets (turnFrom (take 5 s)) ≡ take 5 s =
+      turn-plain (take 5 s) (cut s octets 0 5) (piece s octets 0 5 (omega arith)) (laid-out (take 5 s) (turn-there groups tracks (deskOf s) stands)) in
+      let links : eachOctets linkOctets (eachFrom linkFrom 10 s 5 4) ≡ take 40 (drop 5 s) =
+      each-plain linkFrom linkOctets 10 s 5 4
+      (onward (link-at 5 (omega arith) (rule-of 0 (omega arith)))
+      (onward (link-at 15 (omega arith) (rule-of 1 (omega arith)))
+      (onward (link-at 25 (omega arith) (rule-of 2 (omega arith)))
+      (onward (link-at 35 (omega arith) (rule-of 3 (omega arith))) over)))) in
+      let services : eachOctets serviceOctets (eachFrom serviceFrom 294 s 45 2) ≡ take 588 (drop 45 s) =
+      each-plain serviceFrom serviceOctets 294 s 45 2 (onward (service-at 45 (omega arith)) (onward (service-at 339 (omega arith)) over)) in
+      (λ i. turn i ++ links i ++ services i ++ drop 633 s)
+      ∙ (λ i. sym (take-add 5 40 s) i ++ take 588 (drop 45 s) ++ drop 633 s)
+      ∙ (λ i. sym (take-add 45 588 s) i ++ drop 633 s)
+      ∙ take-append-drop 633 s

@@ -1,20 +1,23 @@
 -- Where the parts of a state lie among its octets. "Numbers are little endian."
 -- Assumes nothing.
+use mathlib.Core.Path.{_≡_}
 use mathlib.Core.Bool.{Bool, not, _&&_}
 use mathlib.Core.List.{List, [], _∷_, _++_}
 use Prim.Native.Nat.{ℕ, zero, suc, _+_, _*_, _/_, _%_}
 use mir.Val.{boolByte}
 use lib.Dec.{eqb, leb}
-use lib.ListN.{getD}
+use lib.ListN.{length, getD}
 use Rattle.ground.specs.Cases.{pick}
 use Rattle.ground.specs.Lists.{part}
 use Rattle.ground.specs.Words.{wordAt}
 use Rattle.player_state.specs.declared.Player.{Player}
+use Rattle.desk_slots.specs.Slots.{serviceCount, clientCount}
 use Rattle.desk_client.specs.declared.Entry.{Entry}
-use Rattle.desk_client.specs.declared.Client.{Client}
+use Rattle.desk_client.specs.declared.Link.{Link}
+use Rattle.desk_client.specs.declared.Account.{Account}
 use Rattle.desk_client.specs.Client.{blankEntry}
+use Rattle.desk_state.specs.declared.Service.{Service}
 use Rattle.desk_state.specs.declared.Desk.{Desk}
-use Rattle.desk_state.specs.Desk.{clientAt}
 
 -- a yes-or-no octet is 1 or 0
 abbrev pub bitOf : Bool → ℕ
@@ -36,6 +39,46 @@ wideThen x r = x % 256 ∷ x / 256 % 256 ∷ x / 65536 % 256 ∷ x / 16777216 % 
 abbrev pub wideAt : List ℕ → ℕ → ℕ
 wideAt s at = wordAt s at + wordAt s (at + 4) * 4294967296
 
+-- n parts of one kind, each so many octets, the first at the place at; their octets, one behind the other
+abbrev pub eachFrom : {A : Type 0} → (List ℕ → A) → ℕ → List ℕ → ℕ → ℕ → List A
+eachFrom read size s at zero = []
+eachFrom read size s at (suc n) = read (part s at (at + size)) ∷ eachFrom read size s (at + size) n
+
+abbrev pub eachOctets : {A : Type 0} → (A → List ℕ) → List A → List ℕ
+eachOctets write [] = []
+eachOctets write (x ∷ xs) = write x ++ eachOctets write xs
+
+-- what is written of a part is so many octets, and the part is read out of them again
+pub record Kept {A : Type 0} (read : List ℕ → A) (write : A → List ℕ) (size : ℕ) (x : A) : Type 0 where
+  pub long : length (write x) ≡ size
+  pub back : read (write x) ≡ x
+
+-- The octet that names the layout, 0x80 + 2. A state of layout 1 began with its player's name, and no UTF-8 text begins with an octet from 0x80 to 0xBF.
+abbrev pub layout : ℕ
+layout = 130
+
+-- the turn of a state of another layout: there is no such client, so that 201 refuses the state and it is not misread
+abbrev pub noTurn : ℕ
+noTurn = clientCount
+
+-- 0 the layout, 1 the turn
+unfoldable pub turnFrom : List ℕ → ℕ
+turnFrom s = pick (eqb (getD s 0 0) layout) (wordAt s 1) noTurn
+
+unfoldable pub turnOctets : ℕ → List ℕ
+turnOctets turn = layout ∷ wordThen turn []
+
+-- the ATT_MTU of a link; where a yes-or-no octet of it is neither 0 nor 1 it is 0, which no link may have, so that 201 refuses the state
+unfoldable pub mtuFrom : List ℕ → ℕ
+mtuFrom s = pick (isBit (getD s 0 0) && isBit (getD s 1 0)) (wordAt s 2) 0
+
+-- a link, of 10 octets: 0 connected, 1 encrypted, 2 ATT_MTU, 6 round mark
+unfoldable pub linkFrom : List ℕ → Link
+linkFrom s = record { connected = flag (getD s 0 0); encrypted = flag (getD s 1 0); mtu = mtuFrom s; mark = wordAt s 6 }
+
+unfoldable pub linkOctets : Link → List ℕ
+linkOctets l = bitOf (l .connected) ∷ bitOf (l .encrypted) ∷ wordThen (l .mtu) (wordThen (l .mark) [])
+
 -- n results, the first at the place at; the octets of the results i, i + 1, .., n of them
 abbrev pub entriesAt : List ℕ → ℕ → ℕ → List Entry
 entriesAt s at zero = []
@@ -45,68 +88,51 @@ abbrev pub entryOctets : List Entry → ℕ → ℕ → List ℕ
 entryOctets rs i zero = []
 entryOctets rs i (suc n) = getD rs i blankEntry .opcode ∷ getD rs i blankEntry .code ∷ entryOctets rs (suc i) n
 
--- the ATT_MTU of a record; where a yes-or-no octet of it is neither 0 nor 1 it is 0, which no record may have, so that 201 refuses the state
-unfoldable pub mtuOf : List ℕ → ℕ
-mtuOf s = pick (isBit (getD s 0 0) && isBit (getD s 1 0)) (wordAt s 2) 0
+-- an account, of 36 octets: 0 subscribed, 4 owed, 8 changed marks, 12 number of results, 20 results
+unfoldable pub accountFrom : List ℕ → Account
+accountFrom s =
+    record { subscribed = wordAt s 0; owed = wordAt s 4; fresh = wordAt s 8; waiting = wideAt s 12; results = entriesAt s 20 8 }
 
--- a client record: flags at 0 and 1, ATT_MTU at 2, subscribed at 6, owed at 10, changed marks at 14, round mark at 18, number of results at 22, results
--- at 30
-unfoldable pub clientOf : List ℕ → Client
-clientOf s =
+unfoldable pub accountOctets : Account → List ℕ
+accountOctets a =
+    wordThen (a .subscribed) (wordThen (a .owed) (wordThen (a .fresh) (wideThen (a .waiting) (entryOctets (a .results) 0 8))))
+
+-- a player, of its name's octets and the 22 behind them: 0 the name's length, 1 Content Control ID, 2 state, 3 order, 4 playback speed, 5 seeking speed,
+-- 6 the mask, 10 group, 14 track, 18 position; and those 22
+unfoldable pub playerFrom : List ℕ → List ℕ → Player
+playerFrom name s =
     record {
-      link = record { connected = flag (getD s 0 0); encrypted = flag (getD s 1 0); mtu = mtuOf s; mark = wordAt s 18 };
-      account =
-          record {
-            subscribed = wordAt s 6;
-            owed = wordAt s 10;
-            fresh = wordAt s 14;
-            waiting = wideAt s 22;
-            results = entriesAt s 30 8;
-          };
+      name = record { octets = name; len = getD s 0 0 };
+      offer = record { mask = wordAt s 6; ccid = getD s 1 0 };
+      mode = record { media = getD s 2 0; order = getD s 3 0; speed = getD s 4 0; seeking = getD s 5 0 };
+      place = record { group = record { 0 = wordAt s 10 }; track = record { 0 = wordAt s 14 }; position = record { 0 = wordAt s 18 } };
     }
 
-unfoldable pub clientOctets : Client → List ℕ
-clientOctets c =
-    bitOf (c .link .connected)
-    ∷ bitOf (c .link .encrypted)
-    ∷ wordThen (c .link .mtu) (wordThen (c .account .subscribed) (wordThen (c .account .owed) (wordThen (c .account .fresh) (wordThen (c .link .mark)
-    (wideThen (c .account .waiting) (entryOctets (c .account .results) 0 8))))))
-
--- the player: its name's octets; the name's length at 0, Content Control ID, state, order, playback speed, seeking speed at 1 to 5, the mask at 6, group,
--- track and position at 10, 14, 18; the turn at 22
-unfoldable pub playerOf : List ℕ → List ℕ → Player
-playerOf name h =
-    record {
-      name = record { octets = name; len = getD h 0 0 };
-      offer = record { mask = wordAt h 6; ccid = getD h 1 0 };
-      mode = record { media = getD h 2 0; order = getD h 3 0; speed = getD h 4 0; seeking = getD h 5 0 };
-      place = record { group = record { 0 = wordAt h 10 }; track = record { 0 = wordAt h 14 }; position = record { 0 = wordAt h 18 } };
-    }
-
-unfoldable pub headOctets : Player → ℕ → List ℕ
-headOctets p turn =
+unfoldable pub playerOctets : Player → List ℕ
+playerOctets p =
     p .name .len
     ∷ p .offer .ccid
     ∷ p .mode .media
     ∷ p .mode .order
     ∷ p .mode .speed
     ∷ p .mode .seeking
-    ∷ wordThen (p .offer .mask) (wordThen (p .place .group .0) (wordThen (p .place .track .0) (wordThen (p .place .position .0) (wordThen turn []))))
+    ∷ wordThen (p .offer .mask) (wordThen (p .place .group .0) (wordThen (p .place .track .0) (wordThen (p .place .position .0) [])))
 
--- the state of 338 octets or more
+-- a service, of 294 octets: 0 the name's octets, 128 the rest of the player, 150 the accounts of the clients
+unfoldable pub serviceFrom : List ℕ → Service
+serviceFrom s = record { player = playerFrom (part s 0 128) (part s 128 150); accounts = eachFrom accountFrom 36 s 150 clientCount }
+
+unfoldable pub serviceOctets : Service → List ℕ
+serviceOctets v = v .player .name .octets ++ playerOctets (v .player) ++ eachOctets accountOctets (v .accounts)
+
+-- the state, of 633 octets or more: 0 the layout and the turn, 5 the links, 45 the services
 unfoldable pub deskOf : List ℕ → Desk
 deskOf s =
     record {
-      player = playerOf (part s 0 128) (part s 128 154);
-      clients = clientOf (part s 154 200) ∷ clientOf (part s 200 246) ∷ clientOf (part s 246 292) ∷ clientOf (part s 292 338) ∷ [];
-      turn = wordAt (part s 128 154) 22;
+      services = eachFrom serviceFrom 294 s 45 serviceCount;
+      links = eachFrom linkFrom 10 s 5 clientCount;
+      turn = turnFrom (part s 0 5);
     }
 
 unfoldable pub deskOctets : Desk → List ℕ
-deskOctets d =
-    d .player .name .octets
-    ++ headOctets (d .player) (d .turn)
-    ++ clientOctets (clientAt (d .clients) 0)
-    ++ clientOctets (clientAt (d .clients) 1)
-    ++ clientOctets (clientAt (d .clients) 2)
-    ++ clientOctets (clientAt (d .clients) 3)
+deskOctets d = turnOctets (d .turn) ++ eachOctets linkOctets (d .links) ++ eachOctets serviceOctets (d .services)

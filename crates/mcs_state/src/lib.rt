@@ -1,21 +1,46 @@
-// The state as octets at fixed places, lowest octet first: the name at 0, the player's numbers and the turn at 128, the clients at 154, 200, 246 and 292,
-// 46 octets each; 338 in all. A yes-or-no octet that is neither 0 nor 1 makes a state that 201 refuses.
+// The state as octets at fixed places, lowest octet first: the octet that names the layout at 0, the turn at 1, the links at 5, 10 octets each, and the
+// services at 45, 294 octets each; 633 in all. A state of another layout, and one with a yes-or-no octet that is neither 0 nor 1, is read as a state that
+// 201 refuses.
 ghost use mathlib.Core.Path.{_≡_};
 ghost use mathlib.Core.List.{_++_};
-ghost use Prim.Native.Nat.{_+_, _≤_};
+ghost use Prim.Native.Nat.{_+_, _*_, _≤_, _<_};
 ghost use lib.ListN.{length, drop};
 ghost use lib.Seq.{paste};
-ghost use Rattle.mcs_state.specs.Codec.{wideAt, mtuOf, clientOf, clientOctets, playerOf, headOctets, deskOf, deskOctets};
+ghost use Rattle.ground.specs.Lists.{part};
+ghost use Rattle.mcs_state.specs.Codec.{wideAt, Kept, turnFrom, turnOctets, mtuFrom, linkFrom, linkOctets, accountFrom, accountOctets, playerFrom, playerOctets, serviceFrom, serviceOctets, deskOf, deskOctets};
 use desk_client::Account;
-use desk_client::Client;
 use desk_client::Entry;
 use desk_client::Link;
 use desk_state::Desk;
+use desk_state::Service;
 use player_state::Mode;
 use player_state::Name;
 use player_state::Offer;
 use player_state::Place;
 use player_state::Player;
+
+// The octet that names the layout.
+const LAYOUT: u8 = 0x82;
+
+// The turn of a state of another layout: there is no client 4, and 201 refuses it.
+const NO_TURN: u32 = desk_slots::CLIENTS;
+
+// Where the links begin, and the octets of each.
+const LINKS: usize = 5;
+
+const LINK: usize = 10;
+
+// In a service, where the rest of the player begins behind its name, and where the accounts begin; and the octets of each account.
+const PLAYER: usize = 128;
+
+const ACCOUNTS: usize = PLAYER + 22;
+
+const ACCOUNT: usize = 36;
+
+// Where the services begin, and the octets of each.
+const SERVICES: usize = LINKS + 4 * LINK;
+
+const SERVICE: usize = ACCOUNTS + 4 * ACCOUNT;
 
 // The number of eight octets.
 fn wide_at(s: &[u8], at: usize) -> usize
@@ -27,10 +52,33 @@ fn wide_at(s: &[u8], at: usize) -> usize
     (low as usize) + (high as usize) * 4294967296
 }
 
-// The ATT_MTU of a client record; 0, which 201 refuses, where a yes-or-no octet is neither 0 nor 1.
-fn mtu_of(s: &[u8]) -> u32
-    requires { ⌜ 46 ≤ length (now s) ⌝ }
-    ensures { λ r. ⌜ r ≡ mtuOf (now (s .entry)) ⌝ }
+// The turn; none that a state may have where the layout is another.
+fn turn_from(s: &[u8]) -> u32
+    requires { ⌜ 5 ≤ length (now s) ⌝ }
+    ensures { λ r. ⌜ r ≡ turnFrom (now (s .entry)) ⌝ }
+{
+    if s[0] == LAYOUT {
+        return ground::word_at(s, 1);
+    }
+    NO_TURN
+}
+
+fn turn_octets(turn: u32) -> [u8; 5]
+    ensures { λ r. ⌜ r ≡ turnOctets turn ⌝ }
+{
+    [
+        LAYOUT,
+        (turn % 256) as u8,
+        (turn / 256 % 256) as u8,
+        (turn / 65536 % 256) as u8,
+        (turn / 16777216) as u8,
+    ]
+}
+
+// The ATT_MTU of a link; 0, which 201 refuses, where a yes-or-no octet is neither 0 nor 1.
+fn mtu_from(s: &[u8]) -> u32
+    requires { ⌜ 10 ≤ length (now s) ⌝ }
+    ensures { λ r. ⌜ r ≡ mtuFrom (now (s .entry)) ⌝ }
 {
     let plain = (s[0] <= 1) & (s[1] <= 1);
     if plain {
@@ -39,81 +87,99 @@ fn mtu_of(s: &[u8]) -> u32
     0
 }
 
-// A client record, from its 46 octets.
-pub fn client_of(s: &[u8]) -> Client
-    requires { ⌜ 46 ≤ length (now s) ⌝ }
-    ensures { λ r. ⌜ r ≡ clientOf (now (s .entry)) ⌝ }
+// The link of a client, out of a state's octets.
+fn link_from(s: &[u8], who: usize) -> Link
+    requires { ⌜ (who < 4) × (633 ≤ length (now s)) ⌝ }
+    ensures { λ r. ⌜ r ≡ linkFrom (part (now (s .entry)) (5 + who * 10) (5 + who * 10 + 10)) ⌝ }
 {
-    let e0 = Entry {
-        opcode: s[30],
-        code: s[31],
-    };
-    let e1 = Entry {
-        opcode: s[32],
-        code: s[33],
-    };
-    let e2 = Entry {
-        opcode: s[34],
-        code: s[35],
-    };
-    let e3 = Entry {
-        opcode: s[36],
-        code: s[37],
-    };
-    let e4 = Entry {
-        opcode: s[38],
-        code: s[39],
-    };
-    let e5 = Entry {
-        opcode: s[40],
-        code: s[41],
-    };
-    let e6 = Entry {
-        opcode: s[42],
-        code: s[43],
-    };
-    let e7 = Entry {
-        opcode: s[44],
-        code: s[45],
-    };
-    let link = Link {
-        connected: s[0] != 0,
-        encrypted: s[1] != 0,
-        mtu: mtu_of(s),
-        mark: ground::word_at(s, 18),
-    };
-    let account = Account {
-        subscribed: ground::word_at(s, 6),
-        owed: ground::word_at(s, 10),
-        fresh: ground::word_at(s, 14),
-        waiting: wide_at(s, 22),
-        results: [e0, e1, e2, e3, e4, e5, e6, e7],
-    };
-    Client {
-        link: link,
-        account: account,
+    let at = LINKS + who * LINK;
+    let end = at + LINK;
+    let o = &s[at..end];
+    Link {
+        connected: o[0] != 0,
+        encrypted: o[1] != 0,
+        mtu: mtu_from(o),
+        mark: ground::word_at(o, 6),
     }
 }
 
-pub fn client_octets(c: Client) -> [u8; 46]
-    ensures { λ r. ⌜ r ≡ clientOctets c ⌝ }
+fn link_octets(l: Link) -> [u8; 10]
+    ensures { λ r. ⌜ r ≡ linkOctets l ⌝ }
 {
-    let link = c.link;
-    let account = c.account;
-    let mtu = link.mtu;
-    let subscribed = account.subscribed;
-    let owed = account.owed;
-    let fresh = account.fresh;
-    let mark = link.mark;
-    let waiting = account.waiting;
-    let rs = account.results;
+    let mtu = l.mtu;
+    let mark = l.mark;
     [
-        link.connected as u8,
-        link.encrypted as u8,
+        l.connected as u8,
+        l.encrypted as u8,
         (mtu % 256) as u8,
         (mtu / 256 % 256) as u8,
         (mtu / 65536 % 256) as u8,
         (mtu / 16777216) as u8,
+        (mark % 256) as u8,
+        (mark / 256 % 256) as u8,
+        (mark / 65536 % 256) as u8,
+        (mark / 16777216) as u8,
+    ]
+}
+
+// The account of a client, out of a service's octets.
+fn account_from(s: &[u8], who: usize) -> Account
+    requires { ⌜ (who < 4) × (294 ≤ length (now s)) ⌝ }
+    ensures { λ r. ⌜ r ≡ accountFrom (part (now (s .entry)) (150 + who * 36) (150 + who * 36 + 36)) ⌝ }
+{
+    let at = ACCOUNTS + who * ACCOUNT;
+    let end = at + ACCOUNT;
+    let o = &s[at..end];
+    let e0 = Entry {
+        opcode: o[20],
+        code: o[21],
+    };
+    let e1 = Entry {
+        opcode: o[22],
+        code: o[23],
+    };
+    let e2 = Entry {
+        opcode: o[24],
+        code: o[25],
+    };
+    let e3 = Entry {
+        opcode: o[26],
+        code: o[27],
+    };
+    let e4 = Entry {
+        opcode: o[28],
+        code: o[29],
+    };
+    let e5 = Entry {
+        opcode: o[30],
+        code: o[31],
+    };
+    let e6 = Entry {
+        opcode: o[32],
+        code: o[33],
+    };
+    let e7 = Entry {
+        opcode: o[34],
+        code: o[35],
+    };
+    Account {
+        subscribed: ground::word_at(o, 0),
+        owed: ground::word_at(o, 4),
+        fresh: ground::word_at(o, 8),
+        waiting: wide_at(o, 12),
+        results: [e0, e1, e2, e3, e4, e5, e6, e7],
+    }
+}
+
+fn account_octets(a: Account) -> [u8; 36]
+    ensures { λ r. ⌜ r ≡ accountOctets a ⌝ }
+{
+    let subscribed = a.subscribed;
+    let owed = a.owed;
+    let fresh = a.fresh;
+    let waiting = a.waiting;
+    let rs = a.results;
+    [
         (subscribed % 256) as u8,
         (subscribed / 256 % 256) as u8,
         (subscribed / 65536 % 256) as u8,
@@ -126,10 +192,6 @@ pub fn client_octets(c: Client) -> [u8; 46]
         (fresh / 256 % 256) as u8,
         (fresh / 65536 % 256) as u8,
         (fresh / 16777216) as u8,
-        (mark % 256) as u8,
-        (mark / 256 % 256) as u8,
-        (mark / 65536 % 256) as u8,
-        (mark / 16777216) as u8,
         (waiting % 256) as u8,
         (waiting / 256 % 256) as u8,
         (waiting / 65536 % 256) as u8,
@@ -157,29 +219,29 @@ pub fn client_octets(c: Client) -> [u8; 46]
     ]
 }
 
-// The player, from the octets of its name and the 26 octets behind them.
-pub fn player_of(name: &[u8], h: &[u8]) -> Player
-    requires { ⌜ (length (now name) ≡ 128) × (26 ≤ length (now h)) ⌝ }
-    ensures { λ r. ⌜ r ≡ playerOf (now (name .entry)) (now (h .entry)) ⌝ }
+// The player, out of the octets of its name and the 22 octets behind them.
+fn player_from(name: &[u8], s: &[u8]) -> Player
+    requires { ⌜ (length (now name) ≡ 128) × (22 ≤ length (now s)) ⌝ }
+    ensures { λ r. ⌜ r ≡ playerFrom (now (name .entry)) (now (s .entry)) ⌝ }
 {
     let octets = player_state::fill([0u8; 128], name);
     let called = Name {
         octets: octets,
-        len: h[0],
+        len: s[0],
     };
     let offer = Offer {
-        mask: ground::word_at(h, 6),
-        ccid: h[1],
+        mask: ground::word_at(s, 6),
+        ccid: s[1],
     };
     let mode = Mode {
-        media: h[2],
-        order: h[3],
-        speed: h[4],
-        seeking: h[5],
+        media: s[2],
+        order: s[3],
+        speed: s[4],
+        seeking: s[5],
     };
-    let group = catalogue_tables::GroupNo(ground::word_at(h, 10));
-    let track = catalogue_tables::TrackNo(ground::word_at(h, 14));
-    let position = catalogue_tables::Position(ground::word_at(h, 18));
+    let group = catalogue_tables::GroupNo(ground::word_at(s, 10));
+    let track = catalogue_tables::TrackNo(ground::word_at(s, 14));
+    let position = catalogue_tables::Position(ground::word_at(s, 18));
     let place = Place {
         group: group,
         track: track,
@@ -193,9 +255,9 @@ pub fn player_of(name: &[u8], h: &[u8]) -> Player
     }
 }
 
-// The octets from 128 to 154: the player's numbers, and the turn.
-pub fn head_octets(p: Player, turn: u32) -> [u8; 26]
-    ensures { λ r. ⌜ r ≡ headOctets p turn ⌝ }
+// The 22 octets behind the name's.
+fn player_octets(p: Player) -> [u8; 22]
+    ensures { λ r. ⌜ r ≡ playerOctets p ⌝ }
 {
     let mask = p.offer.mask;
     let group = p.place.group.0;
@@ -224,11 +286,47 @@ pub fn head_octets(p: Player, turn: u32) -> [u8; 26]
         (position / 256 % 256) as u8,
         (position / 65536 % 256) as u8,
         (position / 16777216) as u8,
-        (turn % 256) as u8,
-        (turn / 256 % 256) as u8,
-        (turn / 65536 % 256) as u8,
-        (turn / 16777216) as u8,
     ]
+}
+
+// A service, out of a state's octets.
+fn service_from(s: &[u8], service: usize) -> Service
+    requires { ⌜ (service < 2) × (633 ≤ length (now s)) ⌝ }
+    ensures { λ r. ⌜ r ≡ serviceFrom (part (now (s .entry)) (45 + service * 294) (45 + service * 294 + 294)) ⌝ }
+{
+    let at = SERVICES + service * SERVICE;
+    let end = at + SERVICE;
+    let o = &s[at..end];
+    let player = player_from(&o[0..PLAYER], &o[PLAYER..ACCOUNTS]);
+    let a = account_from(o, 0);
+    let b = account_from(o, 1);
+    let c = account_from(o, 2);
+    let d = account_from(o, 3);
+    let accounts = [a, b, c, d];
+    Service {
+        player: player,
+        accounts: accounts,
+    }
+}
+
+// The state of 633 octets or more.
+pub fn decode(s: &[u8]) -> Desk
+    requires { ⌜ 633 ≤ length (now s) ⌝ }
+    ensures { λ r. ⌜ r ≡ deskOf (now (s .entry)) ⌝ }
+{
+    let turn = turn_from(&s[0..LINKS]);
+    let a = link_from(s, 0);
+    let b = link_from(s, 1);
+    let c = link_from(s, 2);
+    let d = link_from(s, 3);
+    let generic = service_from(s, 0);
+    let named = service_from(s, 1);
+    let services = [generic, named];
+    Desk {
+        services: services,
+        links: [a, b, c, d],
+        turn: turn,
+    }
 }
 
 // src over s, from the place at on.
@@ -243,74 +341,100 @@ fn put(s: &mut [u8], at: usize, src: &[u8])
     }
 }
 
-// The state of 338 octets or more.
-pub fn decode(s: &[u8]) -> Desk
-    requires { ⌜ 338 ≤ length (now s) ⌝ }
-    ensures { λ r. ⌜ r ≡ deskOf (now (s .entry)) ⌝ }
-{
-    let h = &s[128..154];
-    let turn = ground::word_at(h, 22);
-    let player = player_of(&s[0..128], h);
-    let a = client_of(&s[154..200]);
-    let b = client_of(&s[200..246]);
-    let c = client_of(&s[246..292]);
-    let d = client_of(&s[292..338]);
-    Desk {
-        player: player,
-        clients: [a, b, c, d],
-        turn: turn,
-    }
-}
-
 // What owning an array tells, for the proof of a caller: no code comes of these.
-fn eight(rs: [Entry; 8])
+fn eight_results(rs: [Entry; 8])
     ensures { λ _. ⌜ length rs ≡ 8 ⌝ }
 {}
 
-fn four(cs: [Client; 4])
-    ensures { λ _. ⌜ length cs ≡ 4 ⌝ }
+fn four_accounts(accounts: [Account; 4])
+    ensures { λ _. ⌜ length accounts ≡ 4 ⌝ }
 {}
 
-fn put_name(s: &mut [u8], name: [u8; 128])
-    requires { ⌜ 128 ≤ length (now s) ⌝ }
-    ensures { λ _. ⌜ (now (s .exit) ≡ paste (now (s .entry)) 0 name 128) × (length name ≡ 128) ⌝ }
+fn four_links(links: [Link; 4])
+    ensures { λ _. ⌜ length links ≡ 4 ⌝ }
+{}
+
+fn two_services(services: [Service; 2])
+    ensures { λ _. ⌜ length services ≡ 2 ⌝ }
+{}
+
+fn put_turn(s: &mut [u8], turn: u32)
+    requires { ⌜ 633 ≤ length (now s) ⌝ }
+    ensures { λ _. ⌜ now (s .exit) ≡ paste (now (s .entry)) 0 (turnOctets turn) 5 ⌝ }
 {
-    put(s, 0, &name);
+    let octets = turn_octets(turn);
+    put(s, 0, &octets);
 }
 
-fn put_head(s: &mut [u8], p: Player, turn: u32)
-    requires { ⌜ 154 ≤ length (now s) ⌝ }
-    ensures { λ _. ⌜ now (s .exit) ≡ paste (now (s .entry)) 128 (headOctets p turn) 26 ⌝ }
+fn put_link(s: &mut [u8], who: usize, l: Link)
+    requires { ⌜ (who < 4) × (633 ≤ length (now s)) ⌝ }
+    ensures { λ _. ⌜ now (s .exit) ≡ paste (now (s .entry)) (5 + who * 10) (linkOctets l) 10 ⌝ }
 {
-    let octets = head_octets(p, turn);
-    put(s, 128, &octets);
+    let octets = link_octets(l);
+    put(s, LINKS + who * LINK, &octets);
 }
 
-fn put_client(s: &mut [u8], at: usize, c: Client)
-    requires { ⌜ at + 46 ≤ length (now s) ⌝ }
-    ensures { λ _. ⌜ now (s .exit) ≡ paste (now (s .entry)) at (clientOctets c) 46 ⌝ }
-    ensures { λ _. ⌜ length (c .account .results) ≡ 8 ⌝ }
+// A player's name, and what is behind it, at a service's place.
+fn put_name(s: &mut [u8], at: usize, name: [u8; 128])
+    requires { ⌜ at + 294 ≤ length (now s) ⌝ }
+    ensures { λ _. ⌜ (now (s .exit) ≡ paste (now (s .entry)) at name 128) × (length name ≡ 128) ⌝ }
 {
-    let rs = c.account.results;
-    eight(rs);
-    let octets = client_octets(c);
-    put(s, at, &octets);
+    put(s, at, &name);
+}
+
+fn put_player(s: &mut [u8], at: usize, p: Player)
+    requires { ⌜ at + 294 ≤ length (now s) ⌝ }
+    ensures { λ _. ⌜ now (s .exit) ≡ paste (now (s .entry)) (at + 128) (playerOctets p) 22 ⌝ }
+{
+    let octets = player_octets(p);
+    put(s, at + PLAYER, &octets);
+}
+
+// A client's account with the service at a place.
+fn put_account(s: &mut [u8], at: usize, who: usize, a: Account)
+    requires { ⌜ (who < 4) × (at + 294 ≤ length (now s)) ⌝ }
+    ensures { λ _. ⌜ now (s .exit) ≡ paste (now (s .entry)) (at + (150 + who * 36)) (accountOctets a) 36 ⌝ }
+    ensures { λ _. ⌜ Kept accountFrom accountOctets 36 a ⌝ }
+{
+    let rs = a.results;
+    eight_results(rs);
+    let octets = account_octets(a);
+    put(s, at + (ACCOUNTS + who * ACCOUNT), &octets);
+}
+
+fn put_service(s: &mut [u8], service: usize, v: Service)
+    requires { ⌜ (service < 2) × (633 ≤ length (now s)) ⌝ }
+    ensures { λ _. ⌜ now (s .exit) ≡ paste (now (s .entry)) (45 + service * 294) (serviceOctets v) 294 ⌝ }
+    ensures { λ _. ⌜ Kept serviceFrom serviceOctets 294 v ⌝ }
+{
+    let at = SERVICES + service * SERVICE;
+    let p = v.player;
+    let name = p.name.octets;
+    let accounts = v.accounts;
+    four_accounts(accounts);
+    put_name(s, at, name);
+    put_player(s, at, p);
+    put_account(s, at, 0, accounts[0]);
+    put_account(s, at, 1, accounts[1]);
+    put_account(s, at, 2, accounts[2]);
+    put_account(s, at, 3, accounts[3]);
 }
 
 // The octets of a state over the front of s; read again they give the state back.
 pub fn encode(d: Desk, s: &mut [u8])
-    requires { ⌜ 338 ≤ length (now s) ⌝ }
-    ensures { λ _. ⌜ now (s .exit) ≡ deskOctets d ++ drop 338 (now (s .entry)) ⌝ }
+    requires { ⌜ 633 ≤ length (now s) ⌝ }
+    ensures { λ _. ⌜ now (s .exit) ≡ deskOctets d ++ drop 633 (now (s .entry)) ⌝ }
     ensures { λ _. ⌜ deskOf (now (s .exit)) ≡ d ⌝ }
 {
-    let p = d.player;
-    let name = p.name.octets;
-    let cs = d.clients;
-    four(cs);
-    put_name(s, name);
-    put_head(s, p, d.turn);
-    put_client(s, 154, cs[0]);
-    put_client(s, 200, cs[1]);
-    put_client(s, 246, cs[2]);
-    put_client(s, 292, cs[3]);
+    let links = d.links;
+    let services = d.services;
+    four_links(links);
+    two_services(services);
+    put_turn(s, d.turn);
+    put_link(s, 0, links[0]);
+    put_link(s, 1, links[1]);
+    put_link(s, 2, links[2]);
+    put_link(s, 3, links[3]);
+    put_service(s, 0, services[0]);
+    put_service(s, 1, services[1]);
 }

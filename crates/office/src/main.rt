@@ -1,10 +1,12 @@
 // Plays a script of the twelve calls on the whole from standard input, over the sample catalogue of document 01, and writes a line for each call: its
-// answer; the media state, order and both speeds; the group, track and position; and each of the four clients, as ATT_MTU: subscribed; owed; waiting
-// results, or - while it is unconnected. A ! ends the line where lent octets behind the answer did not stay.
-// A frame of the script: an octet for the catalogue (0 the sample, 1 the sample with long titles, 2 and 3 wrong ones, 4 the sample with segments close to
-// each other, 5 the sample with recordings that are still running, 6 the sample with two titles that are not UTF-8, 7 the same with wrong groups), one for the call (0 a note, 1 to 12 in document 01's order from start to take, 13
-// damage to the state), one for the client and one for the characteristic, a little endian word that the call takes, an octet for the room of the lent
-// output, one for the length of the text, the text.
+// answer; and for each of the two services the media state, order and both speeds; the group, track and position; and each of the four clients, as
+// ATT_MTU: subscribed; owed; waiting results, or - while it is unconnected. A ! ends the line where lent octets behind the answer did not stay.
+// A frame of the script: an octet for the catalogue (0 the sample, 1 the sample with long titles, 2 and 3 wrong ones, 4 the sample with segments close
+// to each other, 5 the sample with recordings that are still running, 6 the sample with two titles that are not UTF-8, 7 the same with wrong groups), one
+// for the call (0 a note, 1 to 12 in document 01's order from start to take, 13 damage to the state), one for the client, one for the service and one for
+// the characteristic, a little endian word that the call takes, an octet for the room of the lent output, two, little endian, for the length of the text,
+// the text. The text of a start: an octet with the length of service 0's name, that name, a little endian word with service 1's mask, an octet with its
+// Content Control ID, and service 1's name; what is missing counts as 0, and names as what is there.
 ghost use Prim.Native.Nat.{_-_, _<_, _≤_};
 ghost use lib.ListN.{length};
 ghost use Rattle.desk_slots.specs.Slots.{slotCount};
@@ -165,11 +167,12 @@ const MOST_ROOM: usize = 160;
 // What the lent octets hold before a call.
 const LENT: u8 = 0xA5;
 
-// What a frame asks, but for its text. The octet is the characteristic; of a start the Content Control ID, of a connect whether it is encrypted, of
-// damage the part of the state.
+// What a frame asks, but for its text. The octet is the characteristic; of a start service 0's Content Control ID, of a connect whether it is encrypted,
+// of damage the part of the state.
 struct Ask {
     kind: u8,
     who: u32,
+    service: u32,
     octet: u8,
     number: u32,
     room: usize,
@@ -296,28 +299,34 @@ fn write_set(w: u32) {
     }
 }
 
-fn write_client(c: desk_client::Client) {
+// What is seen of a client in a service.
+fn write_client(l: desk_client::Link, a: desk_client::Account) {
     io::write_all(1, b" |");
-    if !c.link.connected {
+    if !l.connected {
         io::write_all(1, b" -");
         return;
     }
-    write_number(c.link.mtu);
+    write_number(l.mtu);
     io::write_all(1, b":");
-    write_set(c.account.subscribed);
+    write_set(a.subscribed);
     io::write_all(1, b";");
-    write_set(c.account.owed);
+    write_set(a.owed);
     io::write_all(1, b"; ");
-    io::print_decimal(1, c.account.waiting as u64);
+    io::print_decimal(1, a.waiting as u64);
+}
+
+fn write_service(d: desk_state::Desk, s: desk_state::Service) {
+    let p = s.player;
+    write_player(p);
+    write_client(desk_state::link_at(d, 0), desk_state::account_in(s, 0));
+    write_client(desk_state::link_at(d, 1), desk_state::account_in(s, 1));
+    write_client(desk_state::link_at(d, 2), desk_state::account_in(s, 2));
+    write_client(desk_state::link_at(d, 3), desk_state::account_in(s, 3));
 }
 
 fn write_state(d: desk_state::Desk) {
-    let p = d.player;
-    write_player(p);
-    write_client(desk_state::client_at(d, 0));
-    write_client(desk_state::client_at(d, 1));
-    write_client(desk_state::client_at(d, 2));
-    write_client(desk_state::client_at(d, 3));
+    write_service(d, desk_state::service_at(d, 0));
+    write_service(d, desk_state::service_at(d, 1));
 }
 
 // A digit of a code of ATT, as the document writes it.
@@ -368,13 +377,15 @@ fn write_answer(answer: Answer) {
         Answer::Octets(_) => {
             io::write_all(1, b"read");
         }
-        Answer::Served(who, characteristic, _) => {
+        Answer::Served(who, service, characteristic, _) => {
             io::write_all(1, b"take");
             write_number(who);
+            write_number(service);
             write_number(characteristic);
         }
-        Answer::Handed(characteristic, _) => {
+        Answer::Handed(service, characteristic, _) => {
             io::write_all(1, b"own take");
+            write_number(service);
             write_number(characteristic);
         }
         Answer::Refused(r) => {
@@ -423,7 +434,7 @@ fn report_start(o: Outcome, before: desk_state::Desk) -> desk_state::Desk {
 fn handed(answer: Answer) -> usize {
     match answer {
         Answer::Octets(n) => n,
-        Answer::Served(_, _, n) => n,
+        Answer::Served(_, _, _, n) => n,
         _ => 0,
     }
 }
@@ -471,6 +482,7 @@ fn read(
         text,
         d,
         c.who,
+        c.service,
         ground::wide_octet(c.octet),
         c.number,
         &mut out[0..room],
@@ -603,37 +615,52 @@ fn damage_account(a: desk_client::Account, part: u8, number: u32) -> desk_client
     b
 }
 
-fn damage_client(c: desk_client::Client, part: u8, number: u32) -> desk_client::Client {
-    let link = c.link;
-    let account = c.account;
-    let mut d = c;
-    d.link = damage_link(link, part, number);
-    d.account = damage_account(account, part, number);
-    d
+// The parts up to 8 are those of the service's player, from 10 on of the client's account in it.
+fn damage_service(s: desk_state::Service, who: u32, part: u8, number: u32) -> desk_state::Service {
+    if part < 9 {
+        let p = s.player;
+        let mut t = s;
+        t.player = damage_player(p, part, number);
+        return t;
+    }
+    if who < desk_slots::CLIENTS {
+        let a = desk_state::account_in(s, who);
+        let next = damage_account(a, part, number);
+        return desk_state::with_account(s, who, next);
+    }
+    s
 }
 
-// The parts up to 8 are the player's, 9 is the round of the clients, the others are a client's.
-fn damage(d: desk_state::Desk, who: u32, part: u8, number: u32) -> desk_state::Desk {
-    if part < 9 {
-        let p = d.player;
-        let q = damage_player(p, part, number);
-        return desk_state::with_player(d, q);
-    }
+// The parts that are of no service: 9 is the round of the clients, from 10 on those of the client's link.
+fn damage_shared(d: desk_state::Desk, who: u32, part: u8, number: u32) -> desk_state::Desk {
     if part == 9 {
         let mut e = d;
         e.turn = number;
         return e;
     }
     if who < desk_slots::CLIENTS {
-        let c = desk_state::client_at(d, who);
-        let next = damage_client(c, part, number);
-        return desk_state::with_client(d, who, next);
+        let at = who as usize;
+        let l = desk_state::link_at(d, who);
+        let next = damage_link(l, part, number);
+        let mut e = d;
+        e.links[at] = next;
+        return e;
     }
     d
 }
 
+fn damage(d: desk_state::Desk, who: u32, service: u32, part: u8, number: u32) -> desk_state::Desk {
+    let e = damage_shared(d, who, part, number);
+    if service < desk_slots::SERVICES {
+        let s = desk_state::service_at(e, service);
+        let next = damage_service(s, who, part, number);
+        return desk_state::with_service(e, service, next);
+    }
+    e
+}
+
 fn damaged(d: desk_state::Desk, c: Ask) -> desk_state::Desk {
-    let e = damage(d, c.who, c.octet, c.number);
+    let e = damage(d, c.who, c.service, c.octet, c.number);
     io::write_all(1, b"damaged");
     write_state(e);
     io::write_all(1, b"\n");
@@ -645,6 +672,49 @@ fn note(d: desk_state::Desk, words: &[u8]) -> desk_state::Desk {
     io::write_all(1, words);
     io::write_all(1, b"\n");
     d
+}
+
+// An octet of a text as a count, 0 where the text ends before it.
+fn count_at(s: &[u8], at: usize) -> usize
+    ensures { λ r. ⌜ r < 256 ⌝ }
+{
+    ground::wide_word(ground::wide_octet(ground::octet_or_zero(s, at)))
+}
+
+// The little endian word of the first four octets; 0 where there are fewer.
+fn word(s: &[u8]) -> u32 {
+    if s.len() < 4 {
+        return 0;
+    }
+    ground::word_at(s, 0)
+}
+
+// "Start names both players at once": service 0's mask and Content Control ID stand in the frame, its name and all of service 1 in the text.
+fn start(
+    groups: &[u32],
+    tracks: &[u32],
+    segments: &[u32],
+    text: &[u8],
+    d: desk_state::Desk,
+    c: Ask,
+    words: &[u8],
+) -> desk_state::Desk {
+    let n = count_at(words, 0);
+    let name = front(rest(words, 1), n);
+    let other = rest(words, 1 + n);
+    let o = desk_console::start(
+        groups,
+        tracks,
+        segments,
+        text,
+        name,
+        c.number,
+        c.octet,
+        rest(other, 5),
+        word(other),
+        ground::octet_or_zero(other, 4),
+    );
+    report_start(o, d)
 }
 
 // The calls of the desk itself, and notes.
@@ -659,21 +729,19 @@ fn call_desk(
 ) -> desk_state::Desk {
     let kind = c.kind;
     match kind {
-        1 => report_start(
-            desk_console::start(groups, tracks, segments, text, words, c.number, c.octet),
-            d,
-        ),
-        2 => report(desk_console::set_name(groups, tracks, segments, text, d, words)),
+        1 => start(groups, tracks, segments, text, d, c, words),
+        2 => report(desk_console::set_name(groups, tracks, segments, text, d, c.service, words)),
         3 => report(desk_console::activate(
             groups,
             tracks,
             segments,
             text,
             d,
+            c.service,
             catalogue_tables::GroupNo(c.number),
         )),
-        4 => report(desk_console::deactivate(groups, tracks, segments, text, d)),
-        5 => report(desk_console::advance(groups, tracks, segments, text, d, c.number)),
+        4 => report(desk_console::deactivate(groups, tracks, segments, text, d, c.service)),
+        5 => report(desk_console::advance(groups, tracks, segments, text, d, c.service, c.number)),
         _ => note(d, words),
     }
 }
@@ -709,6 +777,7 @@ fn call_client(
             text,
             d,
             c.who,
+            c.service,
             characteristic,
         )),
         9 => report(desk_links::unsubscribe(
@@ -718,6 +787,7 @@ fn call_client(
             text,
             d,
             c.who,
+            c.service,
             characteristic,
         )),
         10 => read(groups, tracks, segments, text, d, c),
@@ -728,6 +798,7 @@ fn call_client(
             text,
             d,
             c.who,
+            c.service,
             characteristic,
             words,
         )),
@@ -784,43 +855,46 @@ fn call_over(catalogue: u8, d: desk_state::Desk, c: Ask, words: &[u8]) -> desk_s
 
 // The length of the first frame's text.
 fn text_length(s: &[u8]) -> usize
-    ensures { λ r. ⌜ r < 256 ⌝ }
+    ensures { λ r. ⌜ r < 65536 ⌝ }
 {
-    ground::wide_word(ground::wide_octet(ground::octet_or_zero(s, 9)))
+    count_at(s, 10) + 256 * count_at(s, 11)
 }
 
 // Makes the call of the first frame.
 fn frame(s: &[u8], d: desk_state::Desk) -> desk_state::Desk {
-    if s.len() < 10 {
+    if s.len() < 12 {
         return d;
     }
     let catalogue = s[0];
     let kind = s[1];
     let who = ground::wide_octet(s[2]);
-    let octet = s[3];
-    let number = ground::word_at(s, 4);
-    let room = ground::wide_word(ground::wide_octet(s[8]));
+    let service = ground::wide_octet(s[3]);
+    let octet = s[4];
+    let number = ground::word_at(s, 5);
+    let room = ground::wide_word(ground::wide_octet(s[9]));
     let c = Ask {
         kind: kind,
         who: who,
+        service: service,
         octet: octet,
         number: number,
         room: room,
     };
-    let words = front(rest(s, 10), text_length(s));
+    let words = front(rest(s, 12), text_length(s));
     call_over(catalogue, d, c, words)
 }
 
 // What follows the first frame.
 fn behind(s: &[u8]) -> &[u8]
-    ensures { λ r. ⌜ length (now r) ≤ length (now (s .entry)) - 10 ⌝ }
+    ensures { λ r. ⌜ length (now r) ≤ length (now (s .entry)) - 12 ⌝ }
 {
-    rest(s, 10 + text_length(s))
+    rest(s, 12 + text_length(s))
 }
 
 fn frames(s: &[u8]) {
     let none: [u8; 0] = [];
-    let mut d = desk_state::fresh_desk(player_state::start(&none, 0, 0));
+    let p = player_state::start(&none, 0, 0);
+    let mut d = desk_state::fresh_desk(p, p);
     let mut left = s;
     while 0 < left.len() {
         d = frame(left, d);
@@ -830,7 +904,7 @@ fn frames(s: &[u8]) {
 }
 
 fn main() {
-    let mut input = [0u8; 131072];
+    let mut input = [0u8; 262144];
     let n = io::read_full(0, &mut input);
     frames(&input[..n]);
 }

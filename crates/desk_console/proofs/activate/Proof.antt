@@ -1,8 +1,8 @@
--- `desk_console::activate`: 200, 201, 208, then the group's first track.
+-- `desk_console::activate`: 200, 201, 219, 208, then the group's first track.
 use mathlib.Core.Path.{sym, ap, _∙_}
 use mathlib.Core.Bool.{false, not}
-use mathlib.Core.List.{List, [], _∷_}
-use borrow.Author.Tests.{not-true, not-false}
+use mathlib.Core.List.{List, [], _∷_, _++_}
+use borrow.Author.Tests.{leb-false, not-true, not-false}
 use Rattle.ground.specs.Refusals.{granted, Row, leaves, keeping}
 use Rattle.ground.proofs.Cases.{past, here}
 use Rattle.ground.proofs.Rows.{NoneApplies, through}
@@ -10,9 +10,11 @@ use Rattle.catalogue_tables.specs.Tables.{Tables, tables}
 use Rattle.player_state.specs.declared.Player.{Player}
 use Rattle.player_check.specs.Standing.{groupRow}
 use Rattle.player_check.proofs.Laws.{group-there}
+use Rattle.player_moves.specs.Clock.{activated}
 use Rattle.player_moves.proofs.Ready.{shaped, run-of}
 use Rattle.desk_notices.specs.Owed.{settled, noWriter}
-use Rattle.desk_replies.specs.Replies.{fronted}
+use Rattle.desk_state.specs.Desk.{serviceAt, withService}
+use Rattle.desk_replies.specs.Replies.{fronted, serviceRow}
 use Rattle.desk_replies.proofs.Gates.{refuses, none, right}
 use Rattle.desk_console.specs.Console.{activateCall}
 use borrow.Author.Needs.{needs}
@@ -24,16 +26,16 @@ abbrev lent : tie.Start → Tables
 lent s = tables (s .args .groups .now) (s .args .tracks .now) (s .args .segments .now) (s .args .text .now)
 
 abbrev front : tie.Start → List Row
-front s = fronted (lent s) false (s .args .d)
+front s = fronted (lent s) false (s .args .d) ++ (serviceRow (s .args .service) ∷ [])
 
 abbrev begun : tie.Else1 → tie.Start
 begun e = e .before .before .before .before .before .before .before
 
 passed : (e : tie.Else1) → NoneApplies (front (begun e))
-passed e = let g = e .before .before in none (front (begun e)) (g .front-gate .result) (g .front-gate .ensures) (not-false _ (e .if1 .left))
+passed e = let g = e .before .before in none (front (begun e)) (g .service-gate .result) (g .service-gate .ensures) (not-false _ (e .if1 .left))
 
-front-gate-requires : tie.Need-front-gate-requires
-front-gate-requires c κs = search needs
+service-gate-requires : tie.Need-service-gate-requires
+service-gate-requires c κs = search needs
 
 shut-requires : tie.Need-shut-requires
 shut-requires c κs = search needs
@@ -43,7 +45,7 @@ unfolding activateCall
 returns c =
     let g = c .before .before .before in
     let s = g .before .before .before .before .before in
-    c .shut .ensures ∙ refuses (front s) (g .front-gate .result) (g .front-gate .ensures) (not-true _ (c .before .if1 .taken)) (keeping (s .args .d)) (groupRow (s .args .groups .now) (s .args .group .0) ∷ []) _
+    c .shut .ensures ∙ refuses (front s) (g .service-gate .result) (g .service-gate .ensures) (not-true _ (c .before .if1 .taken)) (keeping (s .args .d)) (groupRow (s .args .groups .now) (s .args .group .0) ∷ []) _
 
 group-right-requires : tie.Need-group-right-requires
 group-right-requires c κs = search needs
@@ -59,15 +61,18 @@ returns-2 c =
     through (keeping (s .args .d)) (front s) (passed (t .before))
     (here _ (sym (ap not (t .group-right .ensures)) ∙ c .before .if2 .taken) (c .refuse .ensures))
 
+player-at-requires : tie.Need-player-at-requires
+player-at-requires c κs = leb-false _ _ (passed (c .before .before) .1 .1 .1 .0)
+
 activate-requires : tie.Need-activate-requires
 activate-requires c κs =
     let t = c .before .before in
     let s = begun (t .before) in
-    run-of _ _ _ (shaped (lent s) (right (lent s) false (s .args .d) [] (passed (t .before)))) _
+    run-of _ _ _ (shaped (lent s) (right (lent s) false (s .args .d) (serviceRow (s .args .service) ∷ []) (passed (t .before)))) _
     (group-there (s .args .groups .now) (s .args .group .0) (sym (t .group-right .ensures) ∙ not-false _ (c .before .if2 .left)))
 
 becoming-requires : tie.Need-becoming-requires
-becoming-requires c κs = search needs
+becoming-requires c κs = leb-false _ _ (passed (c .before .before .before .before) .1 .1 .1 .0)
 
 returns-3 : tie.Need-returns-3
 unfolding activateCall
@@ -77,18 +82,20 @@ returns-3 c =
     let s = begun (t .before) in
     through (keeping (s .args .d)) (front s) (passed (t .before))
     (past _ (sym (ap not (t .group-right .ensures)) ∙ e .if2 .left)
-    (c .becoming .ensures ∙ ap (λ (q : Player). leaves (granted []) (settled (source (s .args .tracks .now) (s .args .text .now)) (noWriter false) q (s .args .d))) (c .before .activate .ensures)))
+    (c .becoming .ensures ∙ ap (λ (q : Player). leaves (granted []) (withService (s .args .service) (settled (source (s .args .tracks .now) (s .args .text .now)) (noWriter false) q (serviceAt (s .args .d) (s .args .service))) (s .args .d)))
+    (c .before .activate .ensures ∙ ap (activated (s .args .groups .now) (s .args .tracks .now) (s .args .group .0)) (c .before .before .player-at .ensures))))
 
 pub activate-spec : {M : Type 1} → statement M
 activate-spec =
     tie.close
     (tie.spec
-    front-gate-requires
+    service-gate-requires
     shut-requires
     returns
     group-right-requires
     refuse-requires
     returns-2
+    player-at-requires
     activate-requires
     becoming-requires
     returns-3)

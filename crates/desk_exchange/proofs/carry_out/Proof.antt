@@ -33,7 +33,7 @@ returns : tie.Need-returns
 unfolding written
 returns c =
     let s = c .before .before .before .before .before .before .before .before .before .before .before .before in
-    here _ (eq-eqb _ _ (c .before .before .before .before .if1 .taken)) (c .settle .ensures ∙ (λ k. settled (source (s .args .tracks .now) (s .args .text .now)) (c .before .by-writer .ensures k) ((c .before .before .write-position .ensures ∙ ap (λ (n : ℕ). positioned (s .args .tracks .now) n (s .args .d .player)) (c .before .before .before .word-at .ensures)) k) (s .args .d)))
+    here _ (eq-eqb _ _ (c .before .before .before .before .if1 .taken)) (c .settle .ensures ∙ (λ k. settled (source (s .args .tracks .now) (s .args .text .now)) (c .before .by-writer .ensures k) ((c .before .before .write-position .ensures ∙ ap (λ (n : ℕ). positioned (s .args .tracks .now) n (s .args .s .player)) (c .before .before .before .word-at .ensures)) k) (s .args .s)))
 
 with-speed-requires : tie.Need-with-speed-requires
 with-speed-requires c κs = search needs
@@ -53,7 +53,7 @@ returns-2 c =
     let after-octet-or-zero = test1 .before in
     let s = after-octet-or-zero .before .before .before .before .before .before .before in
     let first = after-octet-or-zero .octet-or-zero .ensures in
-    past _ (ne-eqb _ _ (test1 .if1 .left)) (here _ (eq-eqb _ _ (test2 .if2 .taken)) (c .settle2 .ensures ∙ (λ k. settled (source (s .args .tracks .now) (s .args .text .now)) (c .before .by-writer2 .ensures k) ((after-with-speed .with-speed .ensures ∙ ap (λ (x : ℕ). withSpeed x (s .args .d .player)) first) k) (s .args .d))))
+    past _ (ne-eqb _ _ (test1 .if1 .left)) (here _ (eq-eqb _ _ (test2 .if2 .taken)) (c .settle2 .ensures ∙ (λ k. settled (source (s .args .tracks .now) (s .args .text .now)) (c .before .by-writer2 .ensures k) ((after-with-speed .with-speed .ensures ∙ ap (λ (x : ℕ). withSpeed x (s .args .s .player)) first) k) (s .args .s))))
 
 with-order-requires : tie.Need-with-order-requires
 with-order-requires c κs = search needs
@@ -74,7 +74,7 @@ returns-3 c =
     let after-octet-or-zero = test1 .before in
     let s = after-octet-or-zero .before .before .before .before .before .before .before in
     let first = after-octet-or-zero .octet-or-zero .ensures in
-    past _ (ne-eqb _ _ (test1 .if1 .left)) (past _ (ne-eqb _ _ (test2 .if2 .left)) (here _ (eq-eqb _ _ (test3 .if3 .taken)) (c .settle3 .ensures ∙ (λ k. settled (source (s .args .tracks .now) (s .args .text .now)) (c .before .by-writer3 .ensures k) ((after-with-order .with-order .ensures ∙ ap (λ (x : ℕ). withOrder x (s .args .d .player)) first) k) (s .args .d)))))
+    past _ (ne-eqb _ _ (test1 .if1 .left)) (past _ (ne-eqb _ _ (test2 .if2 .left)) (here _ (eq-eqb _ _ (test3 .if3 .taken)) (c .settle3 .ensures ∙ (λ k. settled (source (s .args .tracks .now) (s .args .text .now)) (c .before .by-writer3 .ensures k) ((after-with-order .with-order .ensures ∙ ap (λ (x : ℕ). withOrder x (s .args .s .player)) first) k) (s .args .s)))))
 
 control-requires : tie.Need-control-requires
 control-requires c κs = (let s = c .before .before .before .before .before .before .before .before .before .before in (s .pre .0, (s .pre .1 .0, s .pre .1 .1 .0)))

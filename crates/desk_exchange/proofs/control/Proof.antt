@@ -5,8 +5,8 @@ use Rattle.catalogue_tables.specs.Tables.{Tables, tables}
 use Rattle.player_moves.specs.Control.{controlled}
 use Rattle.player_moves.proofs.Ready.{shaped}
 use Rattle.desk_client.specs.Duties.{resulted}
-use Rattle.desk_state.specs.declared.Desk.{Desk}
-use Rattle.desk_state.specs.Desk.{accountAt, withAccountOf}
+use Rattle.desk_state.specs.declared.Service.{Service}
+use Rattle.desk_state.specs.Desk.{accountIn, withAccount}
 use Rattle.desk_notices.specs.Owed.{settled}
 use Rattle.desk_exchange.specs.Write.{controlWritten}
 use borrow.Author.Needs.{needs}
@@ -34,8 +34,8 @@ by-writer-requires c κs = search needs
 settle-requires : tie.Need-settle-requires
 settle-requires c κs = search needs
 
-account-at-requires : tie.Need-account-at-requires
-account-at-requires c κs =
+account-in-requires : tie.Need-account-in-requires
+account-in-requires c κs =
     let start = c .before .before .before .before .before .before .before .before .before .before .before .before in
     omega (arith, start .pre .1 .1)
 
@@ -50,18 +50,18 @@ with-account-requires c κs =
 returns : tie.Need-returns
 unfolding controlWritten
 returns c =
-    let after-account-at = c .before .before in
-    let after-settle = after-account-at .before in
+    let after-account-in = c .before .before in
+    let after-settle = after-account-in .before in
     let after-by-writer = after-settle .before in
     let after-control = after-by-writer .before .before in
     let after-number-of = after-control .before in
     let after-octet-or-zero = after-number-of .before in
     let s = after-octet-or-zero .before .before .before .before .before .before .before in
     let opcode = after-octet-or-zero .octet-or-zero .ensures in
-    let done = after-control .control .ensures ∙ (λ k. controlled (s .args .groups .now) (s .args .tracks .now) (s .args .segments .now) (opcode k) (after-number-of .number-of .ensures k) (s .args .d .player)) in
-    let told = after-settle .settle .ensures ∙ (λ k. settled (source (s .args .tracks .now) (s .args .text .now)) (after-by-writer .by-writer .ensures k) (done k .player) (s .args .d)) in
-    let note = c .before .note-result .ensures ∙ (λ k. resulted (opcode k) (done k .result) ((after-account-at .account-at .ensures ∙ ap (λ (e : Desk). accountAt (e .clients) (s .args .who)) told) k)) in
-    c .with-account .ensures ∙ (λ k. withAccountOf (s .args .who) (note k) (told k))
+    let done = after-control .control .ensures ∙ (λ k. controlled (s .args .groups .now) (s .args .tracks .now) (s .args .segments .now) (opcode k) (after-number-of .number-of .ensures k) (s .args .s .player)) in
+    let told = after-settle .settle .ensures ∙ (λ k. settled (source (s .args .tracks .now) (s .args .text .now)) (after-by-writer .by-writer .ensures k) (done k .player) (s .args .s)) in
+    let note = c .before .note-result .ensures ∙ (λ k. resulted (opcode k) (done k .result) ((after-account-in .account-in .ensures ∙ ap (λ (t : Service). accountIn t (s .args .who)) told) k)) in
+    c .with-account .ensures ∙ (λ k. withAccount (s .args .who) (note k) (told k))
 
 pub control-spec : {M : Type 1} → statement M
 control-spec =
@@ -72,7 +72,7 @@ control-spec =
     control-requires
     by-writer-requires
     settle-requires
-    account-at-requires
+    account-in-requires
     note-result-requires
     with-account-requires
     returns)

@@ -1,18 +1,22 @@
 -- `desk_exchange::write`: its rows, then what it does.
 use mathlib.Core.Path.{_≡_, ap, subst, _∙_}
-use mathlib.Core.Bool.{true, false, not}
+use mathlib.Core.Bool.{true, false}
 use mathlib.Core.List.{List, [], _++_}
-use Prim.Native.Nat.{ℕ, _≤_}
+use Prim.Native.Nat.{ℕ, _≤_, _<_}
 use native.Mathlib.Omega.{arith}
 use borrow.Author.Tests.{eqb-true, leb-false, not-true, not-false}
 use lib.ListN.{length}
 use Rattle.ground.specs.Refusals.{granted, leaves, keeping, Row}
 use Rattle.catalogue_tables.specs.Tables.{Tables, tables}
+use Rattle.player_check.specs.Standing.{playerRule}
 use Rattle.ground.proofs.Rows.{NoneApplies, through}
-use Rattle.desk_replies.specs.Replies.{fronted, caller}
+use Rattle.desk_state.specs.declared.Service.{Service}
+use Rattle.desk_state.specs.Desk.{withService}
+use Rattle.desk_replies.specs.Replies.{fronted}
 use Rattle.desk_replies.proofs.Gates.{refuses, none, right, player}
+use Rattle.desk_slots.specs.Slots.{serviceCount, clientCount}
 use Rattle.desk_slots.specs.Table.{sizeOf}
-use Rattle.desk_exchange.specs.Write.{lengthRight, writeRows, writeCall}
+use Rattle.desk_exchange.specs.Write.{lengthRight, writerRows, written, writeCall}
 use borrow.Author.Needs.{needs}
 use Rattle.desk_exchange.proofs.write.Statement.{statement}
 use Rattle.desk_exchange.proofs.write.Tie as tie
@@ -24,15 +28,25 @@ abbrev begin : tie.After-write-gate → tie.Start
 begin g = g .before .before .before .before .before .before
 
 abbrev mine : tie.Start → List Row
-mine s =
-    let c = caller (s .args .d) (s .args .who) in
-    writeRows (s .args .who) (c .link .connected) (c .link .encrypted) (c .account .waiting) (s .args .characteristic) (s .args .value .now)
+mine s = writerRows (s .args .d) (s .args .who) (s .args .service) (s .args .characteristic) (s .args .value .now)
 
 abbrev rows : tie.Start → List Row
 rows s = fronted (lent s) false (s .args .d) ++ mine s
 
-passed : (g : tie.After-write-gate) → not (g .write-gate .result .passes) ≡ false → NoneApplies (rows (begin g))
-passed g e = none (rows (begin g)) (g .write-gate .result) (g .write-gate .ensures) (not-false _ e)
+abbrev start : tie.Else1 → tie.Start
+start e = begin (e .before .before)
+
+passed : (e : tie.Else1) → NoneApplies (rows (start e))
+passed e =
+    let g = e .before .before in
+    none (rows (begin g)) (g .write-gate .result) (g .write-gate .ensures) (not-false _ (e .if1 .left))
+
+-- the client and the service are there
+client : (e : tie.Else1) → start e .args .who < clientCount
+client e = leb-false _ _ (passed e .1 .1 .1 .0)
+
+served : (e : tie.Else1) → start e .args .service < serviceCount
+served e = leb-false _ _ (passed e .1 .1 .1 .1 .0)
 
 -- a write of the position has its four octets
 four : (value : List ℕ) (characteristic : ℕ) → lengthRight characteristic value ≡ true → characteristic ≡ 7 → 4 ≤ length value
@@ -52,17 +66,24 @@ returns c =
     let s = begin g in
     c .shut .ensures ∙ refuses (rows s) (g .write-gate .result) (g .write-gate .ensures) (not-true _ (c .before .if1 .taken)) (keeping (s .args .d)) [] _
 
+service-at-requires : tie.Need-service-at-requires
+service-at-requires c κs = served c
+
 carry-out-requires : tie.Need-carry-out-requires
 carry-out-requires c κs =
-    let g = c .before .before in
-    let s = begin g in
-    let n = passed g (c .if1 .left) in (
+    let e = c .before in
+    let s = start e in
+    let n = passed e in (
       right (lent s) false (s .args .d) (mine s) n,
       (
-        player (lent s) false (s .args .d) (mine s) n,
-        (leb-false _ _ (n .1 .1 .1 .0), four (s .args .value .now) (s .args .characteristic) (not-false _ (n .1 .1 .1 .1 .1 .1 .1 .1 .0))),
+        ap (λ (t : Service). playerRule (s .args .groups .now) (s .args .tracks .now) (t .player)) (c .service-at .ensures)
+            ∙ player (lent s) false (s .args .d) (mine s) n (s .args .service) (served e),
+        (client e, four (s .args .value .now) (s .args .characteristic) (not-false _ (n .1 .1 .1 .1 .1 .1 .1 .1 .1 .0))),
       ),
     )
+
+with-service-requires : tie.Need-with-service-requires
+with-service-requires c κs = omega (arith, served (c .before .before))
 
 left-requires : tie.Need-left-requires
 left-requires c κs = search needs
@@ -70,12 +91,23 @@ left-requires c κs = search needs
 returns-2 : tie.Need-returns-2
 unfolding writeCall
 returns-2 c =
-    let g = c .before .before .before .before in
-    let s = begin g in
-    through (keeping (s .args .d)) (rows s) (passed g (c .before .before .if1 .left))
-    (c .left .ensures ∙ ap (leaves (granted [])) (c .before .carry-out .ensures))
+    let after-carry-out = c .before .before in
+    let after-service-at = after-carry-out .before in
+    let e = after-service-at .before in
+    let s = start e in
+    let told = after-carry-out .carry-out .ensures ∙ ap (λ (t : Service). written (lent s) t (s .args .who) (s .args .characteristic) (s .args .value .now)) (after-service-at .service-at .ensures) in
+    through (keeping (s .args .d)) (rows s) (passed e)
+    (c .left .ensures ∙ ap (leaves (granted [])) (c .before .with-service .ensures ∙ ap (λ (t : Service). withService (s .args .service) t (s .args .d)) told))
 
 pub write-spec : {M : Type 1} → statement M
 write-spec =
     tie.close
-    (tie.spec write-gate-requires shut-requires returns carry-out-requires left-requires returns-2)
+    (tie.spec
+    write-gate-requires
+    shut-requires
+    returns
+    service-at-requires
+    carry-out-requires
+    with-service-requires
+    left-requires
+    returns-2)

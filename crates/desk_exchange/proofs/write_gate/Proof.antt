@@ -11,10 +11,12 @@ use Rattle.ground.proofs.Cases.{past, here}
 use Rattle.ground.proofs.Rows.{NoneApplies, beyond}
 use Rattle.catalogue_tables.specs.Tables.{Tables, tables}
 use Rattle.desk_slots.specs.Characteristics.{writables, isIn}
+use Rattle.desk_client.specs.declared.Link.{Link}
 use Rattle.desk_client.specs.declared.Account.{Account}
-use Rattle.desk_client.specs.declared.Client.{Client}
 use Rattle.desk_client.specs.Client.{mostResults}
-use Rattle.desk_replies.specs.Replies.{Gated, fronted, ofClient, ofCharacteristic, caller}
+use Rattle.desk_state.specs.declared.Service.{Service}
+use Rattle.desk_state.specs.Desk.{accountIn}
+use Rattle.desk_replies.specs.Replies.{Gated, fronted, ofCaller, ofCharacteristic, linkOf, accountOf}
 use Rattle.desk_replies.proofs.Gates.{says, none, stays-shut, stays-open}
 use Rattle.desk_exchange.specs.Write.{firstOctet, lengthRight}
 use borrow.Author.Needs.{needs}
@@ -24,14 +26,14 @@ use Rattle.desk_exchange.proofs.write_gate.Tie as tie
 abbrev lent : tie.Start → Tables
 lent s = tables (s .args .groups .now) (s .args .tracks .now) (s .args .segments .now) (s .args .text .now)
 
-abbrev own : tie.Start → Client
-own s = caller (s .args .d) (s .args .who)
+abbrev own : tie.Start → Link
+own s = linkOf (s .args .d) (s .args .who)
 
 -- the rows that the gate asked, and those behind them
 abbrev asked : tie.Start → List Row
 asked s =
     fronted (lent s) false (s .args .d)
-    ++ (ofClient (s .args .who) (own s .link .connected) ++ ofCharacteristic (own s .link .encrypted) (s .args .characteristic) 0x03 (isIn writables (s .args .characteristic)))
+    ++ (ofCaller (s .args .who) (s .args .service) (own s .connected) ++ ofCharacteristic (own s .encrypted) (s .args .characteristic) 0x03 (isIn writables (s .args .characteristic)))
 
 abbrev badOrder : tie.Start → ℕ → Bool
 badOrder s first = eqb (s .args .characteristic) 15 && not (within 1 8 first)
@@ -43,7 +45,7 @@ abbrev behind : tie.Start → List Row
 behind s =
     row 0x0D (not (lengthRight (s .args .characteristic) (s .args .value .now)))
     ∷ row 0x13 (badOrder s (firstOctet (s .args .value .now)))
-    ∷ row 0x11 (tooMany s (own s .account .waiting))
+    ∷ row 0x11 (tooMany s (accountOf (s .args .d) (s .args .who) (s .args .service) .waiting))
     ∷ []
 
 abbrev begun : tie.After-characteristic-gate → tie.Start
@@ -53,7 +55,7 @@ gated : (g : tie.After-characteristic-gate) → Gated (asked (begun g)) (g .char
 gated g =
     let s = begun g in
     subst
-    (λ (allowed : Bool). Gated (fronted (lent s) false (s .args .d) ++ (ofClient (s .args .who) (own s .link .connected) ++ ofCharacteristic (own s .link .encrypted) (s .args .characteristic) 0x03 allowed)) (g .characteristic-gate .result))
+    (λ (allowed : Bool). Gated (fronted (lent s) false (s .args .d) ++ (ofCaller (s .args .who) (s .args .service) (own s .connected) ++ ofCharacteristic (own s .encrypted) (s .args .characteristic) 0x03 allowed)) (g .characteristic-gate .result))
     (g .before .may-write .ensures) (g .characteristic-gate .ensures)
 
 passed : (e : tie.Else1) → NoneApplies (asked (begun (e .before .before)))
@@ -72,12 +74,13 @@ order-is o =
     let gate = o .before .before .before .before .before in
     ap (badOrder (begun gate)) (o .octet-or-zero .ensures)
 
-many-is : (a : tie.After-account-at)
-    → let s = begun (a .before .before .before .before .before .before .before) in
-    tooMany s (a .account-at .result .waiting) ≡ tooMany s (own s .account .waiting)
+many-is : (a : tie.After-account-in)
+    → let s = begun (a .before .before .before .before .before .before .before .before) in
+    tooMany s (a .account-in .result .waiting) ≡ tooMany s (accountOf (s .args .d) (s .args .who) (s .args .service) .waiting)
 many-is a =
-    let gate = a .before .before .before .before .before .before .before in
-    let s = begun gate in ap (λ (r : Account). tooMany s (r .waiting)) (a .account-at .ensures)
+    let gate = a .before .before .before .before .before .before .before .before in
+    let s = begun gate in
+    ap (λ (r : Account). tooMany s (r .waiting)) (a .account-in .ensures ∙ ap (λ (t : Service). accountIn t (s .args .who)) (a .before .service-at .ensures))
 
 may-write-requires : tie.Need-may-write-requires
 may-write-requires c κs = search needs
@@ -120,8 +123,11 @@ returns-3 c =
     says (asked s ++ behind s) (c .gate-shut2 .result) (refused 0x13) (c .gate-shut2 .ensures .0) (c .gate-shut2 .ensures .1)
     (beyond (asked s) (behind s) (passed e) (past _ (long l ∙ o .before .if2 .left) (here _ (sym (order-is o) ∙ c .before .if3 .taken) refl)))
 
-account-at-requires : tie.Need-account-at-requires
-account-at-requires c κs = leb-false _ _ (passed (c .before .before .before .before) .1 .1 .1 .0)
+service-at-requires : tie.Need-service-at-requires
+service-at-requires c κs = leb-false _ _ (passed (c .before .before .before .before) .1 .1 .1 .1 .0)
+
+account-in-requires : tie.Need-account-in-requires
+account-in-requires c κs = leb-false _ _ (passed (c .before .before .before .before .before) .1 .1 .1 .0)
 
 gate-shut-requires-3 : tie.Need-gate-shut-requires-3
 gate-shut-requires-3 c κs = search needs
@@ -129,24 +135,26 @@ gate-shut-requires-3 c κs = search needs
 returns-4 : tie.Need-returns-4
 returns-4 c =
     let a = c .before .before .before in
-    let o = a .before .before in
+    let test3 = a .before .before in
+    let o = test3 .before in
     let l = o .before .before in
     let e = l .before in
     let s = begun (e .before .before) in
     says (asked s ++ behind s) (c .gate-shut3 .result) (refused 0x11) (c .gate-shut3 .ensures .0) (c .gate-shut3 .ensures .1)
     (beyond (asked s) (behind s) (passed e)
-    (past _ (long l ∙ o .before .if2 .left) (past _ (sym (order-is o) ∙ a .before .if3 .left) (here _ (sym (many-is a) ∙ c .before .if4 .taken) refl))))
+    (past _ (long l ∙ o .before .if2 .left) (past _ (sym (order-is o) ∙ test3 .if3 .left) (here _ (sym (many-is a) ∙ c .before .if4 .taken) refl))))
 
 returns-5 : tie.Need-returns-5
 returns-5 c =
     let a = c .before .before in
-    let o = a .before .before in
+    let test3 = a .before .before in
+    let o = test3 .before in
     let l = o .before .before in
     let e = l .before in
     let g = e .before .before in
     let s = begun g in
     stays-open (asked s) (g .characteristic-gate .result) (gated g) (not-false _ (e .if1 .left)) (behind s)
-    (long l ∙ o .before .if2 .left, (sym (order-is o) ∙ a .before .if3 .left, (sym (many-is a) ∙ c .if4 .left, tt)))
+    (long l ∙ o .before .if2 .left, (sym (order-is o) ∙ test3 .if3 .left, (sym (many-is a) ∙ c .if4 .left, tt)))
 
 pub write-gate-spec : {M : Type 1} → statement M
 write-gate-spec =
@@ -161,7 +169,8 @@ write-gate-spec =
     octet-or-zero-requires
     gate-shut-requires-2
     returns-3
-    account-at-requires
+    service-at-requires
+    account-in-requires
     gate-shut-requires-3
     returns-4
     returns-5)

@@ -1,13 +1,11 @@
--- `desk_notices::note_all`: after i turns, the first i records are told.
+-- `desk_notices::note_all`: after i turns, the first i accounts are told.
 use mathlib.Core.Path.{_≡_, refl, ap, _∙_}
 use Prim.Native.Nat.{ℕ, _≤_, _-_}
 use native.Mathlib.Omega.{arith}
-use lib.ListN.{length}
+use lib.ListN.{length, getD}
 use Rattle.ground.proofs.Sweep.{upTo, turn, swept}
-use Rattle.desk_client.specs.declared.Account.{Account}
-use Rattle.desk_client.specs.Setters.{withAccount}
+use Rattle.desk_client.specs.Client.{noAccount}
 use Rattle.desk_client.specs.Duties.{noted}
-use Rattle.desk_state.specs.Desk.{noClient, clientAt}
 use Rattle.desk_notices.specs.Owed.{noticed}
 use borrow.Author.Needs.{needs}
 use Rattle.desk_notices.proofs.note_all.Statement.{statement}
@@ -28,11 +26,11 @@ cast-who c = search needs
 due-to-requires : tie.Need-due-to-requires Inv-loop μ-loop
 due-to-requires c κs = search needs
 
-mul-c : tie.Need-mul-c Inv-loop μ-loop
-mul-c c = search needs
+mul-a : tie.Need-mul-a Inv-loop μ-loop
+mul-a c = search needs
 
-array-copy-out-c : tie.Need-array-copy-out-c Inv-loop μ-loop
-array-copy-out-c c = search needs
+array-copy-out-a : tie.Need-array-copy-out-a Inv-loop μ-loop
+array-copy-out-a c = search needs
 
 note-requires : tie.Need-note-requires Inv-loop μ-loop
 note-requires c κs = search needs
@@ -51,10 +49,10 @@ loop-less c = search needs
 
 loop-again : tie.Need-loop-again Inv-loop μ-loop
 loop-again c =
-    let d = c .before .before .before in
+    let d = c .before .before in
     let l = d .before .before .loop in
     let a = d .before .before .before .args in
-    (omega arith, l .inv .1, turn (noticed (a .altered) (a .track) (a .cause)) (l .i) _ (l .out) noClient _ (omega arith) (l .inv .2) (ap (λ (x : Account). withAccount x (clientAt (l .out) (l .i))) (c .note .ensures ∙ ap (λ (due : ℕ). noted due (a .altered) (clientAt (l .out) (l .i) .account)) (d .due-to .ensures))))
+    (omega arith, l .inv .1, turn (noticed (a .altered) (a .track) (a .cause)) (l .i) _ (l .out) noAccount _ (omega arith) (l .inv .2) (c .note .ensures ∙ ap (λ (due : ℕ). noted due (a .altered) (getD (l .out) (l .i) noAccount)) (d .due-to .ensures)))
 
 returns : tie.Need-returns Inv-loop μ-loop
 returns c =
@@ -71,8 +69,8 @@ note-all-spec =
     loop-holds
     cast-who
     due-to-requires
-    mul-c
-    array-copy-out-c
+    mul-a
+    array-copy-out-a
     note-requires
     mul-out
     array-set-from-out

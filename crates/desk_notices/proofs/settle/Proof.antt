@@ -1,7 +1,6 @@
--- `desk_notices::settle`: what the two players differ in is what each record is told.
+-- `desk_notices::settle`: what the two players differ in is what each account is told.
 use mathlib.Core.Path.{_≡_, _∙_}
 use Rattle.ground.specs.Lists.{mapFrom}
-use Rattle.desk_client.specs.Setters.{withAccount}
 use Rattle.desk_client.specs.Duties.{noted}
 use Rattle.desk_notices.specs.Owed.{noticed, dueTo, alteredOf, settled}
 use Rattle.desk_notices.proofs.Laws.{due-is}
@@ -27,12 +26,12 @@ returns c =
     let a = w .before .before .before .before .args in
     let altered = w .changed-word .ensures in
     let track = t .track-changed .ensures in
-    let p = a .d .player in
-    let records : c .note-all .result ≡ mapFrom (λ who r. withAccount (noted (dueTo (source (a .tracks .now) (a .text .now)) p (a .q) (a .cause) who) (alteredOf (source (a .tracks .now) (a .text .now)) p (a .q)) (r .account)) r) 0 (a .d .clients) =
+    let p = a .s .player in
+    let told : c .note-all .result ≡ mapFrom (λ who r. noted (dueTo (source (a .tracks .now) (a .text .now)) p (a .q) (a .cause) who) (alteredOf (source (a .tracks .now) (a .text .now)) p (a .q)) r) 0 (a .s .accounts) =
     c .note-all .ensures
-    ∙ (λ k. mapFrom (noticed (altered k) (track k) (a .cause)) 0 (a .d .clients))
-    ∙ (λ k. mapFrom (λ who r. withAccount (noted (due-is (a .tracks .now) (a .text .now) p (a .q) (a .cause) who k) (alteredOf (source (a .tracks .now) (a .text .now)) p (a .q)) (r .account)) r) 0 (a .d .clients)) in
-    λ k. record { player = a .q; clients = records k; turn = a .d .turn }
+    ∙ (λ k. mapFrom (noticed (altered k) (track k) (a .cause)) 0 (a .s .accounts))
+    ∙ (λ k. mapFrom (λ who r. noted (due-is (a .tracks .now) (a .text .now) p (a .q) (a .cause) who k) (alteredOf (source (a .tracks .now) (a .text .now)) p (a .q)) r) 0 (a .s .accounts)) in
+    λ k. record { player = a .q; accounts = told k }
 
 pub settle-spec : {M : Type 1} → statement M
 settle-spec =

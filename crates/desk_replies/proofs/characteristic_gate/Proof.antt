@@ -8,8 +8,8 @@ use Rattle.ground.proofs.Cases.{past, here}
 use Rattle.ground.proofs.Rows.{NoneApplies, beyond}
 use Rattle.catalogue_tables.specs.Tables.{Tables, tables}
 use Rattle.desk_slots.specs.Characteristics.{thirteen, isIn}
-use Rattle.desk_client.specs.declared.Client.{Client}
-use Rattle.desk_replies.specs.Replies.{fronted, ofClient, ofCharacteristic, caller}
+use Rattle.desk_client.specs.declared.Link.{Link}
+use Rattle.desk_replies.specs.Replies.{fronted, ofCaller, ofCharacteristic, linkOf}
 use Rattle.desk_replies.proofs.Gates.{says, none, stays-shut, stays-open}
 use borrow.Author.Needs.{needs}
 use Rattle.desk_replies.proofs.characteristic_gate.Statement.{statement}
@@ -19,35 +19,35 @@ abbrev lent : tie.Start → Tables
 lent s = tables (s .args .groups .now) (s .args .tracks .now) (s .args .segments .now) (s .args .text .now)
 
 abbrev front : tie.Start → List Row
-front s = fronted (lent s) (s .args .small) (s .args .d) ++ ofClient (s .args .who) (caller (s .args .d) (s .args .who) .link .connected)
+front s = fronted (lent s) (s .args .small) (s .args .d) ++ ofCaller (s .args .who) (s .args .service) (linkOf (s .args .d) (s .args .who) .connected)
 
 abbrev own : tie.Start → List Row
-own s = ofCharacteristic (caller (s .args .d) (s .args .who) .link .encrypted) (s .args .characteristic) (s .args .number) (s .args .allowed)
+own s = ofCharacteristic (linkOf (s .args .d) (s .args .who) .encrypted) (s .args .characteristic) (s .args .number) (s .args .allowed)
 
 passed : (i : tie.After-is-characteristic) → NoneApplies (front (i .before .before .before .before .before .before .before .before))
 passed i =
     let g = i .before .before .before in
-    none (front (g .before .before .before .before .before)) (g .client-gate .result) (g .client-gate .ensures) (not-false _ (i .before .if1 .left))
+    none (front (g .before .before .before .before .before)) (g .caller-gate .result) (g .caller-gate .ensures) (not-false _ (i .before .if1 .left))
 
 known : (i : tie.After-is-characteristic)
     → let s = i .before .before .before .before .before .before .before .before in
     not (isIn thirteen (s .args .characteristic)) ≡ not (i .is-characteristic .result)
 known i = sym (ap not (i .is-characteristic .ensures))
 
--- the record that is looked at is the caller's
-safe : (a : tie.After-client-at)
+-- the link that is looked at is the caller's
+safe : (a : tie.After-link-at)
     → let s = a .before .before .before .before .before .before .before .before .before .before .before in
-    not (caller (s .args .d) (s .args .who) .link .encrypted) ≡ not (a .client-at .result .link .encrypted)
-safe a = sym (ap (λ (r : Client). not (r .link .encrypted)) (a .client-at .ensures))
+    not (linkOf (s .args .d) (s .args .who) .encrypted) ≡ not (a .link-at .result .encrypted)
+safe a = sym (ap (λ (l : Link). not (l .encrypted)) (a .link-at .ensures))
 
-client-gate-requires : tie.Need-client-gate-requires
-client-gate-requires c κs = search needs
+caller-gate-requires : tie.Need-caller-gate-requires
+caller-gate-requires c κs = search needs
 
 returns : tie.Need-returns
 returns c =
     let g = c .before .before in
     let s = g .before .before .before .before .before in
-    stays-shut (front s) (g .client-gate .result) (g .client-gate .ensures) (not-true _ (c .if1 .taken)) (own s)
+    stays-shut (front s) (g .caller-gate .result) (g .caller-gate .ensures) (not-true _ (c .if1 .taken)) (own s)
 
 is-characteristic-requires : tie.Need-is-characteristic-requires
 is-characteristic-requires c κs = search needs
@@ -74,8 +74,8 @@ returns-3 c =
     says (front s ++ own s) (c .gate-shut2 .result) (refused (s .args .number)) (c .gate-shut2 .ensures .0) (c .gate-shut2 .ensures .1)
     (beyond (front s) (own s) (passed i) (past _ (known i ∙ c .before .before .if2 .left) (here _ (c .before .if3 .taken) refl)))
 
-client-at-requires : tie.Need-client-at-requires
-client-at-requires c κs = leb-false _ _ (passed (c .before .before) .1 .1 .1 .0)
+link-at-requires : tie.Need-link-at-requires
+link-at-requires c κs = leb-false _ _ (passed (c .before .before) .1 .1 .1 .0)
 
 gate-shut-requires-3 : tie.Need-gate-shut-requires-3
 gate-shut-requires-3 c κs = search needs
@@ -95,21 +95,21 @@ returns-5 c =
     let i = a .before .before .before in
     let g = i .before .before .before in
     let s = g .before .before .before .before .before in
-    stays-open (front s) (g .client-gate .result) (g .client-gate .ensures) (not-false _ (i .before .if1 .left)) (own s)
+    stays-open (front s) (g .caller-gate .result) (g .caller-gate .ensures) (not-false _ (i .before .if1 .left)) (own s)
     (known i ∙ a .before .before .if2 .left, (a .before .if3 .left, (safe a ∙ c .if4 .left, tt)))
 
 pub characteristic-gate-spec : {M : Type 1} → statement M
 characteristic-gate-spec =
     tie.close
     (tie.spec
-    client-gate-requires
+    caller-gate-requires
     returns
     is-characteristic-requires
     gate-shut-requires
     returns-2
     gate-shut-requires-2
     returns-3
-    client-at-requires
+    link-at-requires
     gate-shut-requires-3
     returns-4
     returns-5)

@@ -1,4 +1,4 @@
--- `desk_state::desk_right`: the player, the records, the turn.
+-- `desk_state::desk_right`: the services, the links, the turn.
 use mathlib.Core.Bool.{_&&_}
 use lib.Dec.{ltb}
 use Rattle.desk_state.specs.Desk.{deskRule}
@@ -6,18 +6,18 @@ use borrow.Author.Needs.{needs}
 use Rattle.desk_state.proofs.desk_right.Statement.{statement}
 use Rattle.desk_state.proofs.desk_right.Tie as tie
 
-player-right-requires : tie.Need-player-right-requires
-player-right-requires c κs = search needs
+services-right-requires : tie.Need-services-right-requires
+services-right-requires c κs = search needs
 
-clients-right-requires : tie.Need-clients-right-requires
-clients-right-requires c κs = search needs
+links-right-requires : tie.Need-links-right-requires
+links-right-requires c κs = search needs
 
 returns : tie.Need-returns
 unfolding deskRule
 returns c =
-    let after-player-right = c .before .before in
-    let start = after-player-right .before .before .before .before .before in
-    λ k. after-player-right .player-right .ensures k && c .before .clients-right .ensures k && ltb (start .args .d .turn) 4
+    let services = c .before .before in
+    let start = services .before .before .before .before .before in
+    λ k. services .services-right .ensures k && c .before .links-right .ensures k && ltb (start .args .d .turn) 4
 
 pub desk-right-spec : {M : Type 1} → statement M
-desk-right-spec = tie.close (tie.spec player-right-requires clients-right-requires returns)
+desk-right-spec = tie.close (tie.spec services-right-requires links-right-requires returns)

@@ -1,6 +1,6 @@
 -- `desk_take::take`: 200, 205, 201, then the next client that is owed something.
 use mathlib.Core.Path.{_≡_, refl, sym, ap, _∙_, subst}
-use mathlib.Core.Bool.{Bool, true, false, not}
+use mathlib.Core.Bool.{Bool, false, not}
 use mathlib.Core.List.{List, [], _∷_}
 use Prim.Native.Nat.{ℕ, _<_}
 use borrow.Author.Tests.{le-leb, lt-leb, ltb-false, not-true, not-false}
@@ -9,7 +9,8 @@ use lib.ListN.{length}
 use Rattle.ground.specs.Lists.{filled}
 use Rattle.ground.proofs.Cases.{past, here}
 use Rattle.catalogue_tables.specs.Tables.{Tables, tables}
-use Rattle.desk_slots.specs.Slots.{clientCount}
+use Rattle.desk_slots.specs.Slots.{clientCount, owing}
+use Rattle.desk_slots.specs.Round.{next}
 use Rattle.ground.specs.Limits.{leastOutput}
 use Rattle.ground.specs.Refusals.{granted, Left, leaves, keeping, Row}
 use Rattle.ground.proofs.Rows.{NoneApplies, through}
@@ -20,9 +21,9 @@ use Rattle.desk_state.specs.Desk.{clientAt}
 use Rattle.desk_replies.specs.Replies.{fronted}
 use Rattle.desk_state.proofs.Laws.{client-stands, turn-there}
 use Rattle.desk_replies.proofs.Gates.{refuses, none, right, stands, player, as-it-was, shown}
-use Rattle.desk_take.specs.Serving.{handedOctets, handedValues, afterServing}
-use Rattle.desk_take.specs.Take.{nextClient, withServed, takeCall, takeOctets}
-use Rattle.desk_take.proofs.Laws.{owed-there}
+use Rattle.desk_take.specs.Serving.{placesOwed, handedOctets, handedValues, playersRule, afterServing}
+use Rattle.desk_take.specs.Take.{AllRight, nextClient, withServed, takeCall, takeOctets}
+use Rattle.desk_take.proofs.Laws.{players-stand, owed-there}
 use borrow.Author.Needs.{needs}
 use Rattle.desk_take.proofs.take.Statement.{statement}
 use Rattle.desk_take.proofs.take.Tie as tie
@@ -42,9 +43,11 @@ rows s = fronted (lent s) (small s) (s .args .d)
 passed : (g : tie.After-front-gate) → not (g .front-gate .result .passes) ≡ false → NoneApplies (rows (begin g))
 passed g e = none (rows (begin g)) (g .front-gate .result) (g .front-gate .ensures) (not-false _ e)
 
--- the record of a client stands
-record-stands : (s : tie.Start) → NoneApplies (rows s) → (who : ℕ) → who < clientCount → clientRule (clientAt (s .args .d .clients) who) ≡ true
-record-stands s n who h = client-stands (s .args .groups .now) (s .args .tracks .now) (s .args .d) (stands (lent s) (small s) (s .args .d) [] n) who h
+records-stand : (s : tie.Start) → NoneApplies (rows s) → AllRight (s .args .d)
+records-stand s n who h = client-stands (s .args .groups .now) (s .args .tracks .now) (s .args .d) (stands (lent s) (small s) (s .args .d) [] n) who h
+
+turn-stands : (s : tie.Start) → NoneApplies (rows s) → s .args .d .turn < clientCount
+turn-stands s n = turn-there (s .args .groups .now) (s .args .tracks .now) (s .args .d) (stands (lent s) (small s) (s .args .d) [] n)
 
 front-gate-requires : tie.Need-front-gate-requires
 front-gate-requires c κs = search needs
@@ -62,49 +65,58 @@ returns c =
       as-it-was (rows s) (g .front-gate .result) (g .front-gate .ensures) e _ (ap (λ (l : Left Desk). l .said) (c .shut .ensures)) (takeOctets (lent s) (s .args .d)) (s .args .out .now),
     )
 
-whose-turn-requires : tie.Need-whose-turn-requires
-whose-turn-requires c κs =
-    let s = begin (c .before .before .before) in
-    turn-there (s .args .groups .now) (s .args .tracks .now) (s .args .d) (stands (lent s) (small s) (s .args .d) [] (passed (c .before .before .before) (c .before .if1 .left)))
+owed-sets-requires : tie.Need-owed-sets-requires
+owed-sets-requires c κs = records-stand (begin (c .before .before)) (passed (c .before .before) (c .if1 .left))
+
+next-client-requires : tie.Need-next-client-requires
+next-client-requires c κs = let g = c .before .before .before in turn-stands (begin g) (passed g (c .before .if1 .left))
+
+-- behind both, where a client was looked for
+abbrev begun : tie.After-next-client → tie.Start
+begun w = begin (w .before .before .before .before)
+
+clear : (w : tie.After-next-client) → NoneApplies (rows (begun w))
+clear w = passed (w .before .before .before .before) (w .before .before .if1 .left)
+
+whose : (w : tie.After-next-client) → w .next-client .result ≡ nextClient (begun w .args .d)
+unfolding nextClient
+whose w = w .next-client .ensures .1 ∙ ap (λ (sets : List ℕ). next clientCount (owing sets) (begun w .args .d .turn)) (w .before .owed-sets .ensures)
 
 left-requires : tie.Need-left-requires
 left-requires c κs = search needs
 
 returns-2 : tie.Need-returns-2
-unfolding takeCall takeOctets nextClient
+unfolding takeCall takeOctets
 returns-2 c =
-    let after-whose-turn = c .before .before in
-    let test1 = after-whose-turn .before .before in
-    let gate = test1 .before .before in
-    let s = begin gate in
-    let who = after-whose-turn .whose-turn .ensures in
-    let over = sym (ap (leb clientCount) who) ∙ le-leb _ _ (c .before .if2 .taken) in (
-      through (keeping (s .args .d)) (rows s) (passed gate (test1 .if1 .left)) (here _ over (c .left .ensures)),
+    let w = c .before .before in
+    let s = begun w in
+    let over = sym (ap (leb clientCount) (whose w)) ∙ le-leb _ _ (c .before .if2 .taken) in (
+      through (keeping (s .args .d)) (rows s) (clear w) (here _ over (c .left .ensures)),
       ap (λ (octets : List ℕ). filled octets (s .args .out .now)) (here _ over refl)
           ∙ shown _ _ (takeOctets (lent s) (s .args .d)) (s .args .out .now) (ap (λ (l : Left Desk). l .said) (c .left .ensures)),
     )
+
+players-of-requires : tie.Need-players-of-requires
+players-of-requires c κs = search needs
 
 client-at-requires : tie.Need-client-at-requires
 client-at-requires c κs = search needs
 
 hand-out-requires : tie.Need-hand-out-requires
-unfolding nextClient
 hand-out-requires c κs =
     let test2 = c .before .before .before in
-    let after-whose-turn = test2 .before in
-    let test1 = after-whose-turn .before .before in
-    let gate = test1 .before .before in
-    let s = begin gate in
-    let n = passed gate (test1 .if1 .left) in
-    let w = after-whose-turn .whose-turn in
+    let w = test2 .before in
+    let s = begun w in
+    let n = clear w in
     let there = test2 .if2 .left in
     let own = c .before .client-at .ensures in (
       right (lent s) (small s) (s .args .d) [] n,
       (
-        player (lent s) (small s) (s .args .d) [] n,
+        ap (playersRule (s .args .groups .now) (s .args .tracks .now)) (c .before .before .players-of .ensures)
+            ∙ players-stand (s .args .groups .now) (s .args .tracks .now) (s .args .d) (player (lent s) (small s) (s .args .d) [] n),
         (
-          ap clientRule own ∙ record-stands s n (w .result) there,
-          subst (λ (r : Client). 0 < r .account .owed) (sym own) (owed-there (s .args .d) (turn-there (s .args .groups .now) (s .args .tracks .now) (s .args .d) (stands (lent s) (small s) (s .args .d) [] n)) (w .result) (w .ensures) there),
+          ap clientRule own ∙ records-stand s n (w .next-client .result) there,
+          subst (λ (r : Client). 0 < placesOwed r) (sym own) (owed-there (s .args .d) (turn-stands s n) (w .next-client .result) (whose w) there),
           ltb-false _ _ (n .1 .0),
         ),
       ),
@@ -120,24 +132,23 @@ same-length : tie.Need-same-length
 same-length c = search needs
 
 returns-3 : tie.Need-returns-3
-unfolding takeCall takeOctets nextClient
+unfolding takeCall takeOctets
 returns-3 c =
     let after-hand-out = c .before .before .before .before .before in
     let after-client-at = after-hand-out .before .before in
     let test2 = after-client-at .before .before in
     let w = test2 .before in
-    let test1 = w .before .before in
-    let gate = test1 .before .before in
-    let s = begin gate in
-    let who = w .whose-turn .ensures in
+    let s = begun w in
+    let who = whose w in
     let under = sym (ap (leb clientCount) who) ∙ lt-leb _ _ (test2 .if2 .left) in
-    let own = after-client-at .client-at .ensures ∙ ap (clientAt (s .args .d .clients)) who in
+    let players = after-client-at .before .players-of .ensures in
+    let own = after-client-at .client-at .ensures ∙ ap (clientAt (s .args .d)) who in
     let h = after-hand-out .hand-out in
-    let octets : handedOctets (lent s) (s .args .d .player) (after-client-at .client-at .result) ≡ takeOctets (lent s) (s .args .d) =
-    ap (handedOctets (lent s) (s .args .d .player)) own ∙ past _ under refl in
-    let values = h .ensures .0 .0 ∙ ap (handedValues (lent s) (s .args .d .player)) own in
+    let octets : handedOctets (lent s) (after-client-at .before .players-of .result) (after-client-at .client-at .result) ≡ takeOctets (lent s) (s .args .d) =
+    (λ k. handedOctets (lent s) (players k) (own k)) ∙ past _ under refl in
+    let values = h .ensures .0 .0 ∙ (λ k. handedValues (lent s) (players k) (own k)) in
     let after = h .ensures .0 .1 ∙ ap afterServing own in (
-      through (keeping (s .args .d)) (rows s) (passed gate (test1 .if1 .left))
+      through (keeping (s .args .d)) (rows s) (clear w)
           (past _ under
           (c .left2 .ensures ∙ (λ k. leaves (granted (who k ∷ values k)) ((c .before .with-served .ensures ∙ (λ j. withServed (who j) (after j) (s .args .d))) k)))),
       h .ensures .1 ∙ ap (λ (front : List ℕ). filled front (s .args .out .now)) octets
@@ -151,9 +162,11 @@ take-spec =
     front-gate-requires
     shut-requires
     returns
-    whose-turn-requires
+    owed-sets-requires
+    next-client-requires
     left-requires
     returns-2
+    players-of-requires
     client-at-requires
     hand-out-requires
     with-served-requires

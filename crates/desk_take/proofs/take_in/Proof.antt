@@ -28,9 +28,10 @@ use denote.Laws.{Is, Ises, Are, shows, valss}
 use denote.Memory.{mem}
 use denote.Builtin.{u8, u32}
 use denote.Ref.{ptr-vals, mut-tells}
+use denote.Array.{array-vals, array-tells, array-lawful}
 use denote.Slice.{slice-vals, shr-slice-tells, mut-slice-tells}
 use denote.Signature.{plain, typesAt}
-use denote.Steps.{only, opens, closes, owned, peeks, heard, nothing}
+use denote.Steps.{only, opens, closes, owned, peeks, heard}
 use denote.Struct.Steps.{spelt}
 use denote.Struct.Laws as LL
 use denote.Enum.Laws as EL
@@ -90,7 +91,7 @@ module _ {M : Type 1} (𝓤 : URA M) (H : Heap 𝓤) (A : Atoms 𝓤) (W : Given
 
 -- how the parameters' machine values are spelled
 abbrev spells : (κs : Lfts 6) → (a : Args take-in.signature κs) → Vals take-in.signature κs
-spells κs a = valss (typesAt (take-in.signature .params) κs) (ptr-vals, (slice-vals, (slice-vals, (slice-vals, (slice-vals, (LL.vals Playerᵗ.the-type Playerᵗ′.the-laws, (slice-vals, tt))))))) a
+spells κs a = valss (typesAt (take-in.signature .params) κs) (ptr-vals, (slice-vals, (slice-vals, (slice-vals, (slice-vals, (array-vals (LL.vals Playerᵗ.the-type Playerᵗ′.the-laws), (slice-vals, tt))))))) a
 
 module _ {M : Type 1} (𝓤 : URA M) (H : Heap 𝓤) (A : Atoms 𝓤) (at-mem : Memory → SProp 𝓤) (run : Routine → Fun 𝓤) where
   -- the contract that the proof cites
@@ -161,7 +162,7 @@ module _ {M : Type 1} (𝓤 : URA M) (H : Heap 𝓤) (A : Atoms 𝓤) (W : Given
         -- [obs; the borrow; the token; what the others own; their tokens]
         enter ! C Λ code.function (flat (typesAt (take-in.signature .params) κs) vss) _ $
         alloc1 ! (λ l₀. alloc1 ! (λ l₁. alloc1 ! (λ l₂. alloc1 ! (λ l₃. alloc1 ! (λ l₄. alloc1 ! (λ l₅. alloc1 ! (λ l₆. alloc1 ! (λ l₇. alloc1 ! (λ l₈. alloc1 ! (λ l₉. alloc1 ! (λ l₁₀. alloc1 ! (λ l₁₁. alloc0 ! $ params1 ! $
-        pass1 ! (init ! 20 refl (tt, tt)) $ pass1 ! (init ! 18 refl (tt, (tt, (record { fits = are .1 .0 .0 .1 .0 }, tt)))) $ pass1 ! (init ! 16 refl (tt, (tt, (record { fits = are .1 .1 .0 .0 .1 .0 }, tt)))) $ pass1 ! (init ! 14 refl (tt, (tt, (record { fits = are .1 .1 .1 .0 .0 .1 .0 }, tt)))) $ pass1 ! (init ! 12 refl (tt, (tt, (record { fits = are .1 .1 .1 .1 .0 .0 .1 .0 }, tt)))) $ pass1 ! (init ! 10 refl (LL.lawful Playerᵗ.the-type Playerᵗ′.the-laws 𝓤 H A W .typed (a .1 .1 .1 .1 .1 .0) _ (are .1 .1 .1 .1 .1 .0) .0)) $ pass1 ! (init ! 8 refl (tt, (tt, (record { fits = are .1 .1 .1 .1 .1 .1 .0 .0 .1 .0 }, tt)))) $ pass0 ! $
+        pass1 ! (init ! 20 refl (tt, tt)) $ pass1 ! (init ! 18 refl (tt, (tt, (record { fits = are .1 .0 .0 .1 .0 }, tt)))) $ pass1 ! (init ! 16 refl (tt, (tt, (record { fits = are .1 .1 .0 .0 .1 .0 }, tt)))) $ pass1 ! (init ! 14 refl (tt, (tt, (record { fits = are .1 .1 .1 .0 .0 .1 .0 }, tt)))) $ pass1 ! (init ! 12 refl (tt, (tt, (record { fits = are .1 .1 .1 .1 .0 .0 .1 .0 }, tt)))) $ pass1 ! (init ! 10 refl (array-lawful 𝓤 H A W Playerᵗ.the-row (LL.lawful Playerᵗ.the-type Playerᵗ′.the-laws 𝓤 H A W) 2 .typed (a .1 .1 .1 .1 .1 .0) _ (are .1 .1 .1 .1 .1 .0) .0)) $ pass1 ! (init ! 8 refl (tt, (tt, (record { fits = are .1 .1 .1 .1 .1 .1 .0 .0 .1 .0 }, tt)))) $ pass0 ! $
         move ! (24 ∷ 25 ∷ 26 ∷ []) $ opens ! tt T.the-row {h = h} b o (λ vs. spelt ! T.the-row (Is T.the-row) (shows 𝓤 H A T.the-row) (LL.vals T.the-type T′.the-laws) (LL.tells T.the-type T′.the-laws) fullShare h vs b o $
         move ! (1 ∷ []) $ peeks ! T.the-row (Is T.the-row) (shows 𝓤 H A T.the-row) h (val h ∷ []) (λ g. move ! (1 ∷ 0 ∷ []) $
         -- [the record's cell; what it owns; the open borrow; obs; auth; _11; …; room for _0; …; what the others own; their tokens]: the local i stands at 27 - 2 i
@@ -194,8 +195,8 @@ module _ {M : Type 1} (𝓤 : URA M) (H : Heap 𝓤) (A : Atoms 𝓤) (W : Given
 module _ {M : Type 1} (𝓤 : URA M) (H : Heap 𝓤) (A : Atoms 𝓤) (W : Given 𝓤 H A) (at-mem : Memory → SProp 𝓤) (run : Routine → Fun 𝓤) where
   take-in-walks : (C : Calls 𝓤 H) (Λ : Loops 𝓤 H) → FmC 𝓤 H (W .laws) C → Triple 𝓤 (C #take-own) (Callee 𝓤 H A at-mem run) → Walks 𝓤 H A take-in.ended stayed (WpFn 𝓤 H C Λ code.function) (take-in.clauses 𝓤 H A at-mem run)
   take-in-walks C Λ fm known = walked 𝓤 H A take-in.ended stayed (take-in.clauses 𝓤 H A at-mem run) (WpFn 𝓤 H C Λ code.function)
-      (λ κs. (ptr-vals, (slice-vals, (slice-vals, (slice-vals, (slice-vals, (LL.vals Playerᵗ.the-type Playerᵗ′.the-laws, (slice-vals, tt))))))))
-      (λ κs. (mut-tells (named 0) (κs .0) T.the-row, (shr-slice-tells (named 1) (κs .1 .0) u32, (shr-slice-tells (named 2) (κs .1 .1 .0) u32, (shr-slice-tells (named 3) (κs .1 .1 .1 .0) u32, (shr-slice-tells (named 4) (κs .1 .1 .1 .1 .0) u8, (LL.tells Playerᵗ.the-type Playerᵗ′.the-laws, (mut-slice-tells (named 5) (κs .1 .1 .1 .1 .1 .0) u8, tt))))))))
+      (λ κs. (ptr-vals, (slice-vals, (slice-vals, (slice-vals, (slice-vals, (array-vals (LL.vals Playerᵗ.the-type Playerᵗ′.the-laws), (slice-vals, tt))))))))
+      (λ κs. (mut-tells (named 0) (κs .0) T.the-row, (shr-slice-tells (named 1) (κs .1 .0) u32, (shr-slice-tells (named 2) (κs .1 .1 .0) u32, (shr-slice-tells (named 3) (κs .1 .1 .1 .0) u32, (shr-slice-tells (named 4) (κs .1 .1 .1 .1 .0) u8, (array-tells Playerᵗ.the-row (LL.vals Playerᵗ.the-type Playerᵗ′.the-laws) (LL.tells Playerᵗ.the-type Playerᵗ′.the-laws) 2, (mut-slice-tells (named 5) (κs .1 .1 .1 .1 .1 .0) u8, tt))))))))
       (λ κs qs bounds a _ are. via 𝓤 _ (fst∗ 𝓤 _ (emp 𝓤)) (walk 𝓤 H A W at-mem run κs qs bounds a are C Λ fm known))
 
   all-go : AllGo 𝓤 H A W 6 (take-in.signature .params) (take-in.ended .kept) stayed

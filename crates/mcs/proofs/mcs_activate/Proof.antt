@@ -18,8 +18,8 @@ begun m = m .before .before .before .before .before .before .before .before
 abbrev lent : tie.Start → Tables
 lent s = tables (s .args .groups .now) (s .args .tracks .now) (s .args .segments .now) (s .args .text .now)
 
-left-is : (m : tie.After-activate) → let s = begun m in leftBy (m .activate .result) ≡ activateCall (lent s) (deskOf (s .args .state .now)) (s .args .group)
-left-is m = let s = begun m in m .activate .ensures ∙ ap (λ (d : Desk). activateCall (lent s) d (s .args .group)) (m .before .decode .ensures)
+left-is : (m : tie.After-activate) → let s = begun m in leftBy (m .activate .result) ≡ activateCall (lent s) (deskOf (s .args .state .now)) (s .args .service) (s .args .group)
+left-is m = let s = begun m in m .activate .ensures ∙ ap (λ (d : Desk). activateCall (lent s) d (s .args .service) (s .args .group)) (m .before .decode .ensures)
 
 decode-requires : tie.Need-decode-requires
 decode-requires c κs = search needs
@@ -31,7 +31,7 @@ finish-requires : tie.Need-finish-requires
 finish-requires c κs =
     let m = c .before .before .before in
     let s = begun m in
-    (search needs, (search needs, (search needs, small-left (left-is m) (activate-words (lent s) (deskOf (s .args .state .now)) (s .args .group)))))
+    (search needs, (search needs, (search needs, small-left (left-is m) (activate-words (lent s) (deskOf (s .args .state .now)) (s .args .service) (s .args .group)))))
 
 returns : tie.Need-returns
 returns c = follow (left-is (c .before .before .before .before)) (c .finish .ensures)

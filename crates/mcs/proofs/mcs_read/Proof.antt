@@ -38,7 +38,7 @@ finish-requires c κs =
         search needs,
         (
           search needs,
-          small-left (after-read .read .ensures .0 ∙ ap (λ (x : Desk). readCall k x (s .args .client) (s .args .characteristic) (s .args .offset) (length (s .args .out .now))) (after-decode .decode .ensures)) (read-words k (deskOf (s .args .state .now)) (s .args .client) (s .args .characteristic) (s .args .offset) (length (s .args .out .now))),
+          small-left (after-read .read .ensures .0 ∙ ap (λ (x : Desk). readCall k x (s .args .client) (s .args .service) (s .args .characteristic) (s .args .offset) (length (s .args .out .now))) (after-decode .decode .ensures)) (read-words k (deskOf (s .args .state .now)) (s .args .client) (s .args .service) (s .args .characteristic) (s .args .offset) (length (s .args .out .now))),
         ),
       ),
     )
@@ -57,14 +57,14 @@ returns c =
     let o = after-read .read in
     let d = after-decode .decode .ensures in
     let start = deskOf (s .args .state .now) in
-    let left = o .ensures .0 ∙ ap (λ (x : Desk). readCall k x (s .args .client) (s .args .characteristic) (s .args .offset) (length (s .args .out .now))) d in
+    let left = o .ensures .0 ∙ ap (λ (x : Desk). readCall k x (s .args .client) (s .args .service) (s .args .characteristic) (s .args .offset) (length (s .args .out .now))) d in
     let said = ap (λ (l : Left Desk). l .said) left in (
       follow left (c .finish .ensures),
       (
-        o .ensures .1 ∙ (λ i. tableAfter (said i) (readOctets k (d i) (s .args .client) (s .args .characteristic) (s .args .offset)) (s .args .out .now)),
+        o .ensures .1 ∙ (λ i. tableAfter (said i) (readOctets k (d i) (s .args .client) (s .args .service) (s .args .characteristic) (s .args .offset)) (s .args .out .now)),
         after-tell .tell .ensures
             ∙ ap (λ (t : Told). toldAfter (t .granted) (t .values) (s .args .length .now)) (after-told-of .told-of .ensures ∙ ap toldOf said)
-            ∙ told-as-said (readCall k start (s .args .client) (s .args .characteristic) (s .args .offset) (length (s .args .out .now)) .said) (s .args .length .now) (read-words k start (s .args .client) (s .args .characteristic) (s .args .offset) (length (s .args .out .now))),
+            ∙ told-as-said (readCall k start (s .args .client) (s .args .service) (s .args .characteristic) (s .args .offset) (length (s .args .out .now)) .said) (s .args .length .now) (read-words k start (s .args .client) (s .args .service) (s .args .characteristic) (s .args .offset) (length (s .args .out .now))),
       ),
     )
 

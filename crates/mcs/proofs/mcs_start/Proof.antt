@@ -9,7 +9,7 @@ start-requires : tie.Need-start-requires
 start-requires c κs = search needs
 
 finish-requires : tie.Need-finish-requires
-finish-requires c κs = (search needs, (search needs, (search needs, small-left (c .before .before .before .start .ensures) (start-words _ _ _ _))))
+finish-requires c κs = (search needs, (search needs, (search needs, small-left (c .before .before .before .start .ensures) (start-words _ _ _))))
 
 returns : tie.Need-returns
 returns c = follow (c .before .before .before .before .start .ensures) (c .finish .ensures)

@@ -19,8 +19,8 @@ begun m = m .before .before .before .before .before .before .before .before
 abbrev lent : tie.Start → Tables
 lent s = tables (s .args .groups .now) (s .args .tracks .now) (s .args .segments .now) (s .args .text .now)
 
-left-is : (m : tie.After-unsubscribe) → let s = begun m in leftBy (m .unsubscribe .result) ≡ unsubscribeCall (lent s) (deskOf (s .args .state .now)) (s .args .client) (s .args .characteristic)
-left-is m = let s = begun m in m .unsubscribe .ensures ∙ ap (λ (d : Desk). unsubscribeCall (lent s) d (s .args .client) (s .args .characteristic)) (m .before .decode .ensures)
+left-is : (m : tie.After-unsubscribe) → let s = begun m in leftBy (m .unsubscribe .result) ≡ unsubscribeCall (lent s) (deskOf (s .args .state .now)) (s .args .client) (s .args .service) (s .args .characteristic)
+left-is m = let s = begun m in m .unsubscribe .ensures ∙ ap (λ (d : Desk). unsubscribeCall (lent s) d (s .args .client) (s .args .service) (s .args .characteristic)) (m .before .decode .ensures)
 
 decode-requires : tie.Need-decode-requires
 decode-requires c κs = search needs
@@ -32,7 +32,7 @@ finish-requires : tie.Need-finish-requires
 finish-requires c κs =
     let m = c .before .before .before in
     let s = begun m in
-    (search needs, (search needs, (search needs, small-left (left-is m) (slot-words (lent s) (deskOf (s .args .state .now)) (s .args .client) (s .args .characteristic) dropped))))
+    (search needs, (search needs, (search needs, small-left (left-is m) (slot-words (lent s) (deskOf (s .args .state .now)) (s .args .client) (s .args .service) (s .args .characteristic) dropped))))
 
 returns : tie.Need-returns
 returns c = follow (left-is (c .before .before .before .before)) (c .finish .ensures)

@@ -18,8 +18,8 @@ begun m = m .before .before .before .before .before .before .before .before .bef
 abbrev lent : tie.Start → Tables
 lent s = tables (s .args .groups .now) (s .args .tracks .now) (s .args .segments .now) (s .args .text .now)
 
-left-is : (m : tie.After-write) → let s = begun m in leftBy (m .write .result) ≡ writeCall (lent s) (deskOf (s .args .state .now)) (s .args .client) (s .args .characteristic) (s .args .value .now)
-left-is m = let s = begun m in m .write .ensures ∙ ap (λ (d : Desk). writeCall (lent s) d (s .args .client) (s .args .characteristic) (s .args .value .now)) (m .before .decode .ensures)
+left-is : (m : tie.After-write) → let s = begun m in leftBy (m .write .result) ≡ writeCall (lent s) (deskOf (s .args .state .now)) (s .args .client) (s .args .service) (s .args .characteristic) (s .args .value .now)
+left-is m = let s = begun m in m .write .ensures ∙ ap (λ (d : Desk). writeCall (lent s) d (s .args .client) (s .args .service) (s .args .characteristic) (s .args .value .now)) (m .before .decode .ensures)
 
 decode-requires : tie.Need-decode-requires
 decode-requires c κs = search needs
@@ -31,7 +31,7 @@ finish-requires : tie.Need-finish-requires
 finish-requires c κs =
     let m = c .before .before .before in
     let s = begun m in
-    (search needs, (search needs, (search needs, small-left (left-is m) (written-words (lent s) (deskOf (s .args .state .now)) (s .args .client) (s .args .characteristic) (s .args .value .now)))))
+    (search needs, (search needs, (search needs, small-left (left-is m) (written-words (lent s) (deskOf (s .args .state .now)) (s .args .client) (s .args .service) (s .args .characteristic) (s .args .value .now)))))
 
 returns : tie.Need-returns
 returns c = follow (left-is (c .before .before .before .before)) (c .finish .ensures)

@@ -34,14 +34,20 @@ wide-word-requires c κs = search needs
 wide-word-requires-2 : tie.Need-wide-word-requires-2
 wide-word-requires-2 c κs = search needs
 
+wide-word-requires-3 : tie.Need-wide-word-requires-3
+wide-word-requires-3 c κs = search needs
+
 granted-requires-3 : tie.Need-granted-requires-3
 granted-requires-3 c κs = search needs
 
 enum-known-a-3 : tie.Need-enum-known-a-3
 enum-known-a-3 c = search needs
 
-wide-word-requires-3 : tie.Need-wide-word-requires-3
-wide-word-requires-3 c κs = search needs
+wide-word-requires-4 : tie.Need-wide-word-requires-4
+wide-word-requires-4 c κs = search needs
+
+wide-word-requires-5 : tie.Need-wide-word-requires-5
+wide-word-requires-5 c κs = search needs
 
 granted-requires-4 : tie.Need-granted-requires-4
 granted-requires-4 c κs = search needs
@@ -60,16 +66,22 @@ returns-2 c = c .granted2 .ensures ∙ back (c .before .before .a .given .1)
 
 returns-3 : tie.Need-returns-3
 returns-3 c =
-    let w = c .before .before .wide-word .ensures .0 in
-    let x = c .before .wide-word2 .ensures .0 in
-    let a = c .before .before .before .before .a2 in
-    c .granted3 .ensures ∙ (λ k. toldOf (granted (w k ∷ x k ∷ a .given .0 .1 .1 .0 ∷ []))) ∙ back (a .given .1)
+    let third = c .before in
+    let second = third .before in
+    let first = second .before in
+    let a = first .before .before .a2 in
+    c .granted3 .ensures
+    ∙ (λ k. toldOf (granted (first .wide-word .ensures .0 k ∷ second .wide-word2 .ensures .0 k ∷ third .wide-word3 .ensures .0 k ∷ a .given .0 .1 .1 .1 .0 ∷ [])))
+    ∙ back (a .given .1)
 
 returns-4 : tie.Need-returns-4
 returns-4 c =
-    let w = c .before .wide-word3 .ensures .0 in
-    let a = c .before .before .before .a3 in
-    c .granted4 .ensures ∙ (λ k. toldOf (granted (w k ∷ a .given .0 .1 .0 ∷ []))) ∙ back (a .given .1)
+    let second = c .before in
+    let first = second .before in
+    let a = first .before .before .a3 in
+    c .granted4 .ensures
+    ∙ (λ k. toldOf (granted (first .wide-word4 .ensures .0 k ∷ second .wide-word5 .ensures .0 k ∷ a .given .0 .1 .1 .0 ∷ [])))
+    ∙ back (a .given .1)
 
 returns-5 : tie.Need-returns-5
 returns-5 c = c .refused .ensures ∙ back (c .before .before .a4 .given .1)
@@ -85,9 +97,11 @@ told-of-spec =
     enum-known-a-2
     wide-word-requires
     wide-word-requires-2
+    wide-word-requires-3
     granted-requires-3
     enum-known-a-3
-    wide-word-requires-3
+    wide-word-requires-4
+    wide-word-requires-5
     granted-requires-4
     enum-known-a-4
     refused-requires

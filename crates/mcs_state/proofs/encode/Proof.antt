@@ -1,92 +1,127 @@
--- `mcs_state::encode`: six parts, one behind the other; and they are read again.
-use mathlib.Core.Path.{refl, ap, _∙_}
-use lib.ListN.{drop}
-use Rattle.desk_state.specs.Desk.{clientAt}
-use Rattle.mcs_state.specs.Codec.{deskOf, deskOctets, headOctets, clientOctets}
-use Rattle.mcs_state.proofs.Laid.{bare, lay}
-use Rattle.mcs_state.proofs.Round.{Whole, again}
+-- `mcs_state::encode`: the turn, four links and two services, one behind the other; and they are read again.
+use mathlib.Core.Path.{_≡_, ap, subst, _∙_}
+use mathlib.Core.List.{_++_}
+use Prim.Native.Nat.{_≤_}
+use native.Mathlib.Omega.{arith}
+use lib.ListN.{length, drop}
+use lib.Seq.{take-all}
+use Rattle.ground.proofs.Sweep.{spell, spelled}
+use Rattle.desk_state.specs.Desk.{noLink, noService, linkAt, serviceAt}
+use Rattle.mcs_state.specs.Codec.{eachOctets, turnOctets, linkOctets, serviceFrom, serviceOctets, deskOf, deskOctets}
+use Rattle.mcs_state.proofs.Laid.{Laid, lay}
+use Rattle.mcs_state.proofs.Each.{AllKept, none, more, behind, behind-is}
+use Rattle.mcs_state.proofs.Round.{turn-long, link-kept, again}
 use borrow.Author.Needs.{needs}
 use Rattle.mcs_state.proofs.encode.Statement.{statement}
 use Rattle.mcs_state.proofs.encode.Tie as tie
 
-four-requires : tie.Need-four-requires
-four-requires c κs = search needs
+four-links-requires : tie.Need-four-links-requires
+four-links-requires c κs = search needs
 
-put-name-requires : tie.Need-put-name-requires
-put-name-requires c κs = search needs
+two-services-requires : tie.Need-two-services-requires
+two-services-requires c κs = search needs
 
-put-head-requires : tie.Need-put-head-requires
-put-head-requires c κs = search needs
+put-turn-requires : tie.Need-put-turn-requires
+put-turn-requires c κs = search needs
 
-array-copy-out-put-client : tie.Need-array-copy-out-put-client
-array-copy-out-put-client c = search needs
+array-copy-out-put-link : tie.Need-array-copy-out-put-link
+array-copy-out-put-link c = search needs
 
-put-client-requires : tie.Need-put-client-requires
-put-client-requires c κs = search needs
+put-link-requires : tie.Need-put-link-requires
+put-link-requires c κs = search needs
 
-array-copy-out-put-client-2 : tie.Need-array-copy-out-put-client-2
-array-copy-out-put-client-2 c = search needs
+array-copy-out-put-link-2 : tie.Need-array-copy-out-put-link-2
+array-copy-out-put-link-2 c = search needs
 
-put-client-requires-2 : tie.Need-put-client-requires-2
-put-client-requires-2 c κs = search needs
+put-link-requires-2 : tie.Need-put-link-requires-2
+put-link-requires-2 c κs = search needs
 
-array-copy-out-put-client-3 : tie.Need-array-copy-out-put-client-3
-array-copy-out-put-client-3 c = search needs
+array-copy-out-put-link-3 : tie.Need-array-copy-out-put-link-3
+array-copy-out-put-link-3 c = search needs
 
-put-client-requires-3 : tie.Need-put-client-requires-3
-put-client-requires-3 c κs = search needs
+put-link-requires-3 : tie.Need-put-link-requires-3
+put-link-requires-3 c κs = search needs
 
-array-copy-out-put-client-4 : tie.Need-array-copy-out-put-client-4
-array-copy-out-put-client-4 c = search needs
+array-copy-out-put-link-4 : tie.Need-array-copy-out-put-link-4
+array-copy-out-put-link-4 c = search needs
 
-put-client-requires-4 : tie.Need-put-client-requires-4
-put-client-requires-4 c κs = search needs
+put-link-requires-4 : tie.Need-put-link-requires-4
+put-link-requires-4 c κs = search needs
+
+array-copy-out-put-service : tie.Need-array-copy-out-put-service
+array-copy-out-put-service c = search needs
+
+put-service-requires : tie.Need-put-service-requires
+put-service-requires c κs = search needs
+
+array-copy-out-put-service-2 : tie.Need-array-copy-out-put-service-2
+array-copy-out-put-service-2 c = search needs
+
+put-service-requires-2 : tie.Need-put-service-requires-2
+put-service-requires-2 c κs = search needs
 
 same-length : tie.Need-same-length
 same-length c = search needs
 
 returns : tie.Need-returns
-unfolding deskOctets headOctets clientOctets
+unfolding deskOctets
 returns c =
-    let after-put-client4 = c .before .before in
-    let after-put-client3 = after-put-client4 .before .before .before .before .before in
-    let after-put-client2 = after-put-client3 .before .before .before .before .before in
-    let after-put-client = after-put-client2 .before .before .before .before .before in
-    let after-put-head = after-put-client .before .before .before .before .before in
-    let after-put-name = after-put-head .before .before .before .before in
-    let after-four = after-put-name .before .before in
-    let start = after-four .before .before .before .before .before in
-    let a = start .args in
-    let d = a .d in
-    let name = after-put-name .put-name .ensures in
-    let head = after-put-head .put-head .ensures in
-    let p0 = after-put-client .put-client .ensures in
-    let p1 = after-put-client2 .put-client2 .ensures in
-    let p2 = after-put-client3 .put-client3 .ensures in
-    let p3 = after-put-client4 .put-client4 .ensures in
-    let l1 = lay _ (d .player .name .octets) 128 (bare (a .s .now)) (name .1) (name .0) in
-    let l2 = lay _ (headOctets (d .player) (d .turn)) 26 l1 refl head in
-    let l3 = lay _ (clientOctets (clientAt (d .clients) 0)) 46 l2 refl (p0 .0) in
-    let l4 = lay _ (clientOctets (clientAt (d .clients) 1)) 46 l3 refl (p1 .0) in
-    let l5 = lay _ (clientOctets (clientAt (d .clients) 2)) 46 l4 refl (p2 .0) in
-    let l6 = lay _ (clientOctets (clientAt (d .clients) 3)) 46 l5 refl (p3 .0) in
-    let whole : Whole d = record { name = name .1; clients = after-four .four .ensures; results0 = p0 .1; results1 = p1 .1; results2 = p2 .1; results3 = p3 .1 } in
-    (l6 .is, ap deskOf (l6 .is) ∙ again d (drop 338 (a .s .now)) whole)
+    let after-named = c .before .before in
+    let after-generic = after-named .before .before .before .before .before in
+    let after-four = after-generic .before .before .before .before .before in
+    let after-three = after-four .before .before .before .before .before in
+    let after-two = after-three .before .before .before .before .before in
+    let after-one = after-two .before .before .before .before .before in
+    let after-turn = after-one .before .before .before .before .before in
+    let counted = after-turn .before .before in
+    let start = counted .before .before .before .before .before in
+    let d = start .args .d in
+    let old = start .args .s .now in
+    let fits : 0 ≤ length old = omega arith in
+    let four = counted .before .four-links .ensures in
+    let two = counted .two-services .ensures in
+    let p0 = after-generic .put-service .ensures in
+    let p1 = after-named .put-service2 .ensures in
+    let t = turnOctets (d .turn) in
+    let links = spell noLink (d .links) 0 4 in
+    let services = spell noService (d .services) 0 2 in
+    let l1 : Laid old 0 t (after-turn .put-turn .last .0) 5 = record { is = after-turn .put-turn .ensures; long = turn-long (d .turn) } in
+    let l2 = lay _ (linkOctets (linkAt (d .links) 0)) 10 fits l1 (link-kept (linkAt (d .links) 0) .long) (after-one .put-link .ensures) in
+    let l3 = lay _ (linkOctets (linkAt (d .links) 1)) 10 fits l2 (link-kept (linkAt (d .links) 1) .long) (after-two .put-link2 .ensures) in
+    let l4 = lay _ (linkOctets (linkAt (d .links) 2)) 10 fits l3 (link-kept (linkAt (d .links) 2) .long) (after-three .put-link3 .ensures) in
+    let l5 = lay _ (linkOctets (linkAt (d .links) 3)) 10 fits l4 (link-kept (linkAt (d .links) 3) .long) (after-four .put-link4 .ensures) in
+    let l6 = lay _ (serviceOctets (serviceAt d 0)) 294 fits l5 (p0 .1 .long) (p0 .0) in
+    let l7 = lay _ (serviceOctets (serviceAt d 1)) 294 fits l6 (p1 .1 .long) (p1 .0) in
+    let all-links : links ≡ d .links = spelled noLink (d .links) 0 4 four in
+    let all-services : services ≡ d .services = spelled noService (d .services) 0 2 two in
+    let kept : AllKept serviceFrom serviceOctets 294 (d .services) = subst (AllKept serviceFrom serviceOctets 294) all-services (more (p0 .1) (more (p1 .1) none)) in
+    let front = behind linkOctets t links in
+    let octets : behind serviceOctets front services ≡ deskOctets d =
+    behind-is serviceOctets front services
+    ∙ (λ i. behind-is linkOctets t links i ++ eachOctets serviceOctets services)
+    ∙ (λ i. t ++ eachOctets linkOctets (all-links i) ++ eachOctets serviceOctets (all-services i)) in
+    let is : after-named .put-service2 .last .0 ≡ deskOctets d ++ drop 633 old =
+    l7 .is ∙ (λ i. (take-all 633 (behind serviceOctets front services) (omega (arith, l7 .long)) ∙ octets) i ++ drop 633 old) in
+    (is, ap deskOf is ∙ again d (drop 633 old) four two kept)
 
 pub encode-spec : {M : Type 1} → statement M
 encode-spec =
     tie.close
     (tie.spec
-    four-requires
-    put-name-requires
-    put-head-requires
-    array-copy-out-put-client
-    put-client-requires
-    array-copy-out-put-client-2
-    put-client-requires-2
-    array-copy-out-put-client-3
-    put-client-requires-3
-    array-copy-out-put-client-4
-    put-client-requires-4
+    four-links-requires
+    two-services-requires
+    put-turn-requires
+    array-copy-out-put-link
+    put-link-requires
+    array-copy-out-put-link-2
+    put-link-requires-2
+    array-copy-out-put-link-3
+    put-link-requires-3
+    array-copy-out-put-link-4
+    put-link-requires-4
+    array-copy-out-put-service
+    put-service-requires
+    array-copy-out-put-service-2
+    put-service-requires-2
     same-length
     returns)

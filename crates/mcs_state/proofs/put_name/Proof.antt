@@ -1,4 +1,4 @@
--- `mcs_state::put_name`: 128 octets at 0.
+-- `mcs_state::put_name`: 128 octets at the service's place.
 use mathlib.Core.Path.{_≡_, _∙_, ap}
 use lib.ListN.{length}
 use lib.Seq.{paste}
@@ -18,10 +18,9 @@ same-length c = search needs
 returns : tie.Need-returns
 returns c =
     let after-put = c .before .before in
-    let start = after-put .before .before .before .before in
-    let a = start .args in
-    let e : length (a .t2) ≡ 128 = search needs in
-    (after-put .put .ensures ∙ ap (paste (a .s .now) 0 (a .t2)) e, e)
+    let a = after-put .before .before .before .before .args in
+    let e : length (a .t3) ≡ 128 = search needs in
+    (after-put .put .ensures ∙ ap (paste (a .s .now) (a .at) (a .t3)) e, e)
 
 pub put-name-spec : {M : Type 1} → statement M
 put-name-spec = tie.close (tie.spec slice-aggregate-put put-requires same-length returns)
