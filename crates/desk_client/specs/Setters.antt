@@ -1,12 +1,10 @@
--- An account, a link or a client record with one part changed. antt has no record update.
+-- An account or a link with one part changed. antt has no record update.
 -- Assumes nothing.
 use mathlib.Core.List.{List}
 use Prim.Native.Nat.{ℕ}
-use lib.ListN.{set}
 use Rattle.desk_client.specs.declared.Entry.{Entry}
 use Rattle.desk_client.specs.declared.Link.{Link}
 use Rattle.desk_client.specs.declared.Account.{Account}
-use Rattle.desk_client.specs.declared.Client.{Client}
 
 -- what the slots hold: subscribed and owed, and the waiting results
 abbrev pub withSlots : ℕ → ℕ → ℕ → List Entry → Account → Account
@@ -28,6 +26,3 @@ withFresh fresh a =
 
 abbrev pub withMark : ℕ → Link → Link
 withMark mark l = record { connected = l .connected; encrypted = l .encrypted; mtu = l .mtu; mark = mark }
-
-abbrev pub withAccount : ℕ → Account → Client → Client
-withAccount service a c = record { link = c .link; accounts = set (c .accounts) service a }

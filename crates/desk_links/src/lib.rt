@@ -1,6 +1,5 @@
 // Devices come and go, and say which values they want to be told of. Each call checks catalogue and state itself, and refuses by document 01's numbers.
 ghost use mathlib.Core.Path.{_≡_};
-ghost use mathlib.Core.Bool.{Bool};
 ghost use Prim.Native.Nat.{_<_};
 ghost use Rattle.ground.specs.Cases.{pick};
 ghost use Rattle.catalogue_tables.specs.Tables.{tables};

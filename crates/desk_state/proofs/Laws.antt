@@ -17,7 +17,6 @@ use Rattle.player_state.specs.declared.Player.{Player}
 use Rattle.player_check.specs.Standing.{playerRule}
 use Rattle.desk_slots.specs.Slots.{serviceCount, clientCount}
 use Rattle.desk_client.specs.declared.Link.{Link}
-use Rattle.desk_client.specs.declared.Account.{Account}
 use Rattle.desk_client.specs.declared.Client.{Client}
 use Rattle.desk_client.specs.Client.{linkRule, accountFits, noAccount, accountWith, clientRule}
 use Rattle.desk_client.proofs.Rule.{client-link, client-account, client-stands as record-stands}

@@ -4,7 +4,6 @@ use lib.ListN.{set, getD}
 use Rattle.desk_client.specs.Client.{noAccount}
 use Rattle.desk_client.specs.Setters.{withMark}
 use Rattle.desk_client.specs.Duties.{served, passedOn}
-use Rattle.desk_client.specs.declared.Account.{Account}
 use Prim.Native.Nat.{ℕ}
 use borrow.Author.Needs.{needs}
 use Rattle.desk_client.proofs.serve.Statement.{statement}

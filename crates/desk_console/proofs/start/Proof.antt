@@ -3,7 +3,7 @@ use mathlib.Core.Path.{_≡_, ap, _∙_}
 use mathlib.Core.Bool.{false}
 use mathlib.Core.List.{List, [], _∷_}
 use borrow.Author.Tests.{not-true, not-false}
-use Rattle.ground.specs.Refusals.{granted, Row, Left, leaves, keeping}
+use Rattle.ground.specs.Refusals.{granted, Row, leaves, keeping}
 use Rattle.ground.proofs.Cases.{past}
 use Rattle.ground.proofs.Rows.{NoneApplies, through}
 use Rattle.catalogue_tables.specs.Tables.{Tables, tables}

@@ -1,5 +1,5 @@
 -- `desk_slots::places_of`: service 1's slots stand behind service 0's, and none of them is lost by the shift.
-use mathlib.Core.Path.{_≡_, refl, sym, ap, _∙_, subst}
+use mathlib.Core.Path.{_≡_, sym, ap, _∙_, subst}
 use mathlib.Core.List.{[], _∷_}
 use Prim.Native.Nat.{ℕ, _*_, _%_, _^_, _<_}
 use lib.Bits.{bitOr, or-zero-r}
