@@ -34,7 +34,7 @@ use Rattle.desk_exchange.specs.Write.{writeRows, written, writeCall}
 use Rattle.desk_take.specs.Serving.{nextPlace, handedValues, afterServing}
 use Rattle.desk_take.specs.Take.{nextClient, playersOf, withServed, takenBy, takeCall}
 use Rattle.desk_history.specs.Calls.{Call, take, left}
-use Rattle.desk_history.specs.Apart.{To, naming, activating, deactivating, advancing, subscribing, unsubscribing, reading, writing, Both, connecting, disconnecting, lineOf, SameFor}
+use Rattle.desk_history.specs.Apart.{To, naming, activating, deactivating, advancing, subscribing, unsubscribing, reading, writing, Both, connecting, disconnecting, unmarked, SameFor}
 
 -- a chain of rows leaves what it found or what the work leaves
 either-left : (P : Desk → Type 0) (rows : List Row) (d : Desk) (work : Left Desk) → P d → P (work .state) → P (answered (keeping d) rows work .state)
@@ -71,7 +71,7 @@ record Shape (k : Tables) (v : ℕ) (call : Call) : Type 0 where
   values : Service → (ℕ → Link) → List ℕ
   next : Service → (ℕ → Link) → Service
   is : (d : Desk) → left k call d
-      ≡ asked k small d (rows (serviceAt d v) (lineOf d)) (leaves (granted (values (serviceAt d v) (lineOf d))) (withService v (next (serviceAt d v) (lineOf d)) d))
+      ≡ asked k small d (rows (serviceAt d v) (unmarked d)) (leaves (granted (values (serviceAt d v) (unmarked d))) (withService v (next (serviceAt d v) (unmarked d)) d))
 
 module _ (k : Tables) where
   shape : {v : ℕ} {call : Call} → To v call → Shape k v call
@@ -150,24 +150,24 @@ module _ (k : Tables) where
     unfolding withService
     others-stay d w n =
         ap (λ (l : Left Desk). serviceAt (l .state) w) (form .is d)
-        ∙ either-left (λ (e : Desk). serviceAt e w ≡ serviceAt d w) (fronted k (form .small) d ++ form .rows (serviceAt d v) (lineOf d)) d
-        (leaves (granted (form .values (serviceAt d v) (lineOf d))) (withService v (form .next (serviceAt d v) (lineOf d)) d)) refl
-        (getD-set-other (d .services) v w (form .next (serviceAt d v) (lineOf d)) noService n)
+        ∙ either-left (λ (e : Desk). serviceAt e w ≡ serviceAt d w) (fronted k (form .small) d ++ form .rows (serviceAt d v) (unmarked d)) d
+        (leaves (granted (form .values (serviceAt d v) (unmarked d))) (withService v (form .next (serviceAt d v) (unmarked d)) d)) refl
+        (getD-set-other (d .services) v w (form .next (serviceAt d v) (unmarked d)) noService n)
 
     -- and the links, and whose turn it was
     pub links-stay : (d : Desk) → left k call d .state .links ≡ d .links
     unfolding withService
     links-stay d =
         ap (λ (l : Left Desk). l .state .links) (form .is d)
-        ∙ either-left (λ (e : Desk). e .links ≡ d .links) (fronted k (form .small) d ++ form .rows (serviceAt d v) (lineOf d)) d
-        (leaves (granted (form .values (serviceAt d v) (lineOf d))) (withService v (form .next (serviceAt d v) (lineOf d)) d)) refl refl
+        ∙ either-left (λ (e : Desk). e .links ≡ d .links) (fronted k (form .small) d ++ form .rows (serviceAt d v) (unmarked d)) d
+        (leaves (granted (form .values (serviceAt d v) (unmarked d))) (withService v (form .next (serviceAt d v) (unmarked d)) d)) refl refl
 
     pub turn-stays : (d : Desk) → left k call d .state .turn ≡ d .turn
     unfolding withService
     turn-stays d =
         ap (λ (l : Left Desk). l .state .turn) (form .is d)
-        ∙ either-left (λ (e : Desk). e .turn ≡ d .turn) (fronted k (form .small) d ++ form .rows (serviceAt d v) (lineOf d)) d
-        (leaves (granted (form .values (serviceAt d v) (lineOf d))) (withService v (form .next (serviceAt d v) (lineOf d)) d)) refl refl
+        ∙ either-left (λ (e : Desk). e .turn ≡ d .turn) (fronted k (form .small) d ++ form .rows (serviceAt d v) (unmarked d)) d
+        (leaves (granted (form .values (serviceAt d v) (unmarked d))) (withService v (form .next (serviceAt d v) (unmarked d)) d)) refl refl
 
     -- its reply and what it does to its own service depend on nothing of the others: over any two desks that agree on that service and the links and that
     -- both stand, whether the call is accepted or refused
@@ -176,7 +176,7 @@ module _ (k : Tables) where
     unfolding withService
     own-alone d e sd se ld le same =
         let s = serviceAt e v in
-        let l = lineOf e in
+        let l = unmarked e in
         let new = form .next s l in
         let both = alike (λ (x : Desk). serviceAt x v) d e (withService v new d) (withService v new e) (granted (form .values s l)) (same .service)
         (getD-set-same (d .services) v new noService ld ∙ sym (getD-set-same (e .services) v new noService le))
@@ -184,8 +184,8 @@ module _ (k : Tables) where
         let toD : left k call d ≡ answered (keeping d) (fronted k (form .small) e ++ form .rows s l) (leaves (granted (form .values s l)) (withService v new d)) =
         form .is d
         ∙ (λ i. answered (keeping d)
-        ((lentRows k (form .small) ++ (stateRow ((sd ∙ sym se) i) ∷ [])) ++ form .rows (same .service i) (λ who. same .line who i))
-        (leaves (granted (form .values (same .service i) (λ who. same .line who i))) (withService v (form .next (same .service i) (λ who. same .line who i)) d))) in (
+        ((lentRows k (form .small) ++ (stateRow ((sd ∙ sym se) i) ∷ [])) ++ form .rows (same .service i) (λ who. same .link who i))
+        (leaves (granted (form .values (same .service i) (λ who. same .link who i))) (withService v (form .next (same .service i) (λ who. same .link who i)) d))) in (
           ap (λ (x : Left Desk). x .said) toD ∙ both .0 ∙ sym (ap (λ (x : Left Desk). x .said) (form .is e)),
           ap (λ (x : Left Desk). serviceAt (x .state) v) toD ∙ both .1 ∙ sym (ap (λ (x : Left Desk). serviceAt (x .state) v) (form .is e)),
         )
@@ -194,7 +194,7 @@ module _ (k : Tables) where
   pub read-alone : (v who c offset : ℕ) (d e : Desk) → SameFor v d e → readOctets k d who v c offset ≡ readOctets k e who v c offset
   unfolding readOctets
   read-alone v who c offset d e same =
-      λ i. partFrom offset (same .line who i .mtu - 1) (valueOf (sourceOf k) (same .service i .player) c)
+      λ i. partFrom offset (same .link who i .mtu - 1) (valueOf (sourceOf k) (same .service i .player) c)
 
   -- connect and disconnect act on every service: what they answer depends on the links alone, and what they make of a service on that service besides
   module _ (v : ℕ) (there : v < serviceCount) where
@@ -204,16 +204,16 @@ module _ (k : Tables) where
     relinked who c d = listed (λ (w : ℕ). withAccount who (accountWith c w) (serviceAt d w)) serviceCount v noService there
 
     alone : (rows : (ℕ → Link) → List Row) (who : ℕ) (c : Client) (d e : Desk) → stateRight k d ≡ true → stateRight k e ≡ true → SameFor v d e
-        → (asked k false d (rows (lineOf d)) (leaves (granted []) (withClient who c d)) .said ≡ asked k false e (rows (lineOf e)) (leaves (granted []) (withClient who c e)) .said)
-        × (serviceAt (asked k false d (rows (lineOf d)) (leaves (granted []) (withClient who c d)) .state) v
-        ≡ serviceAt (asked k false e (rows (lineOf e)) (leaves (granted []) (withClient who c e)) .state) v)
+        → (asked k false d (rows (unmarked d)) (leaves (granted []) (withClient who c d)) .said ≡ asked k false e (rows (unmarked e)) (leaves (granted []) (withClient who c e)) .said)
+        × (serviceAt (asked k false d (rows (unmarked d)) (leaves (granted []) (withClient who c d)) .state) v
+        ≡ serviceAt (asked k false e (rows (unmarked e)) (leaves (granted []) (withClient who c e)) .state) v)
     alone rows who c d e sd se same =
         let both = alike (λ (x : Desk). serviceAt x v) d e (withClient who c d) (withClient who c e) (granted []) (same .service)
         (relinked who c d ∙ ap (withAccount who (accountWith c v)) (same .service) ∙ sym (relinked who c e))
-        (fronted k false e ++ rows (lineOf e)) in
-        let toD : asked k false d (rows (lineOf d)) (leaves (granted []) (withClient who c d))
-        ≡ answered (keeping d) (fronted k false e ++ rows (lineOf e)) (leaves (granted []) (withClient who c d)) =
-        λ i. answered (keeping d) ((lentRows k false ++ (stateRow ((sd ∙ sym se) i) ∷ [])) ++ rows (λ w. same .line w i)) (leaves (granted []) (withClient who c d)) in
+        (fronted k false e ++ rows (unmarked e)) in
+        let toD : asked k false d (rows (unmarked d)) (leaves (granted []) (withClient who c d))
+        ≡ answered (keeping d) (fronted k false e ++ rows (unmarked e)) (leaves (granted []) (withClient who c d)) =
+        λ i. answered (keeping d) ((lentRows k false ++ (stateRow ((sd ∙ sym se) i) ∷ [])) ++ rows (λ w. same .link w i)) (leaves (granted []) (withClient who c d)) in
         (ap (λ (x : Left Desk). x .said) toD ∙ both .0, ap (λ (x : Left Desk). serviceAt (x .state) v) toD ∙ both .1)
 
     pub both-alone : {call : Call} → Both call → (d e : Desk) → stateRight k d ≡ true → stateRight k e ≡ true → SameFor v d e

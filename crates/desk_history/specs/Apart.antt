@@ -27,10 +27,10 @@ pub data Both : Call → Type 0 where
   disconnecting : (who : ℕ) → Both (disconnect who)
 
 -- what a client's link is but for the mark of its round: "only the order of takes is shared"
-abbrev pub lineOf : Desk → ℕ → Link
-lineOf d who = withMark 0 (linkAt (d .links) who)
+abbrev pub unmarked : Desk → ℕ → Link
+unmarked d who = withMark 0 (linkAt (d .links) who)
 
 -- two desks agree on a service and on the links
 pub record SameFor (v : ℕ) (d e : Desk) : Type 0 where
   pub service : serviceAt d v ≡ serviceAt e v
-  pub line : (who : ℕ) → lineOf d who ≡ lineOf e who
+  pub link : (who : ℕ) → unmarked d who ≡ unmarked e who
