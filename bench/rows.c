@@ -27,11 +27,12 @@ call lend(call made, void *state, answers *a)
     made.out = a->out;
     made.out_len = sizeof a->out;
     made.room = whole_room(&a->loaded);
-    made.starts = a->starts;
-    made.starts_len = MOST_STARTS;
-    made.card = a->card;
-    made.card_len = sizeof a->card;
+    made.entries = a->entries;
+    made.entries_len = MOST_STARTS;
+    made.written = a->written;
+    made.written_len = sizeof a->written;
     made.word = &a->word;
+    made.count = &a->count;
     made.served = a->served;
     made.counts = a->counts;
     made.block = &a->block;
@@ -139,6 +140,21 @@ static call written(uint32_t client, uint32_t characteristic, uint8_t octet)
 
 static call opcode(uint32_t client, uint8_t opcode) { return written(client, MCS_CONTROL_POINT, opcode); }
 
+/* The number of an object, to be written. */
+static call numbered(uint32_t client, uint32_t characteristic, uint32_t object)
+{
+    static uint8_t values[64][MCS_OBJECT_OCTETS];
+    static size_t used;
+    uint8_t *value = values[used];
+    if (used == sizeof values / sizeof values[0]) {
+        fprintf(stderr, "bench: more written numbers than there is room for\n");
+        exit(1);
+    }
+    used += 1u;
+    mcs_put_object(value, object);
+    return with_octets(WRITE, client, characteristic, value, MCS_OBJECT_OCTETS);
+}
+
 /* Goto Segment -2, and so on: Last, and one step before it. */
 static const uint8_t BACK_2_SEGMENTS[5] = {MCS_OPCODE_GOTO_SEGMENT, 0xFE, 0xFF, 0xFF, 0xFF};
 static const uint8_t BACK_2_TRACKS[5] = {MCS_OPCODE_GOTO_TRACK, 0xFE, 0xFF, 0xFF, 0xFF};
@@ -203,6 +219,21 @@ static desk both_playing(const catalogue *c)
     desk d = playing(c);
     make(&d, c, to_named(plain(ACTIVATE, 0, 0, GROUP)));
     make(&d, c, to_named(opcode(1, MCS_OPCODE_PLAY)));
+    take_until(&d, c, 0);
+    return d;
+}
+
+/* The last track of that group. */
+static uint32_t last_track(const catalogue *c)
+{
+    return group_word(&c->tables, GROUP, FIRST_TRACK) + group_word(&c->tables, GROUP, TRACK_COUNT) - 1u;
+}
+
+/* Paused in an order, and the group's last track is named to come next; nothing is owed. */
+static desk named_last(const catalogue *c, uint8_t order)
+{
+    desk d = paused(c, order);
+    make(&d, c, numbered(0, MCS_NEXT_TRACK_OBJECT, MCS_OBJECT_OF_TRACK(last_track(c))));
     take_until(&d, c, 0);
     return d;
 }
@@ -298,6 +329,7 @@ static void add_refusals(table *t, const catalogue *c)
     catalogue *cut = &copies[used], *spoilt = &copies[used + 1u];
     desk before = playing(c);
     call beyond = plain(ADVANCE, 0, 0, 1);
+    call no_object = numbered(0, MCS_TRACK_OBJECT, MCS_OBJECT_OF_TRACK(MCS_MOST_TRACKS));
     beyond.service = MCS_SERVICES;
     used += 2u;
     *cut = *c;
@@ -309,6 +341,7 @@ static void add_refusals(table *t, const catalogue *c)
     add(t, "advance, refused for the state (201)", c, plain(ADVANCE, 0, 0, 1), wrong_turn(c), MCS_BAD_STATE);
     add(t, "advance, refused for the service (219)", c, beyond, before, MCS_NO_SERVICE);
     add(t, "activate, refused (208)", c, plain(ACTIVATE, 0, 0, MCS_MOST_GROUPS), before, MCS_BAD_GROUP);
+    add(t, "write, track object, refused (0x13)", c, no_object, before, MCS_NOT_ALLOWED);
 }
 
 void add_card_load(table *t, const catalogue *c)
@@ -344,6 +377,31 @@ void add_cue_sheets(table *t)
     }
 }
 
+/* The objects of the group and of the first track with segments, written; and what is written, read. */
+static void add_objects(table *t, const catalogue *c, desk before)
+{
+    static uint8_t objects[8][MCS_MOST_SEGMENTS_OBJECT];
+    static size_t used;
+    static const struct {
+        const char *write, *read;
+        uint32_t kind;
+    } OBJECT[2] = {{"group object write", "group object read", GROUP_OBJECT_WRITE},
+                   {"segments object write", "segments object read", SEGMENTS_OBJECT_WRITE}};
+    uint32_t k;
+    for (k = 0; k < 2u; k++) {
+        call made = plain(OBJECT[k].kind, 0, 0, k == 0 ? GROUP : 0);
+        desk d = before;
+        while (k == 1u && track_word(&c->tables, made.number, SEGMENT_COUNT) == 0) {
+            made.number += 1u;
+        }
+        make(&d, c, made);
+        memcpy(objects[used], from_library.written, from_library.word);
+        add(t, OBJECT[k].write, c, made, before, ACCEPTED);
+        add(t, OBJECT[k].read, c, with_octets(GROUP_OBJECT_READ + k, 0, 0, objects[used], from_library.word), before, ACCEPTED);
+        used += 1u;
+    }
+}
+
 void add_check(table *t, const catalogue *c)
 {
     desk none;
@@ -356,13 +414,15 @@ void add_calls(table *t, const catalogue *c)
 {
     desk by_number = paused(c, 3), by_stamp = paused(c, 5), plays = playing(c), inactive = idle(c);
     uint32_t end = track_word(&c->tables, plays.state.services[MCS_GENERIC].player.track, DURATION);
-    desk falling = inactive, both_play = both_playing(c), both_owe = owing_by_both(c);
+    desk falling = inactive, both_play = both_playing(c), both_owe = owing_by_both(c), named = named_last(c, 5);
+    uint32_t last = MCS_OBJECT_OF_TRACK(last_track(c));
 
     make(&falling, c, written(0, MCS_PLAYING_ORDER, 7));
     take_until(&falling, c, 0);
 
     add_card_load(t, c);
     add(t, "card write", c, plain(CARD_WRITE, 0, 0, 0), inactive, ACCEPTED);
+    add_objects(t, c, inactive);
     add(t, "start", c, start(NAME, sizeof NAME - 1u), inactive, ACCEPTED);
     add(t, "set name", c, with_octets(SET_NAME, 0, 0, NAME, 10), plays, ACCEPTED);
     add(t, "activate, order 3", c, plain(ACTIVATE, 0, 0, GROUP), inactive, ACCEPTED);
@@ -377,6 +437,13 @@ void add_calls(table *t, const catalogue *c)
     add(t, "read, name", c, plain(READ, 3, MCS_NAME, 0), plays, ACCEPTED);
     add(t, "read, title", c, plain(READ, 3, MCS_TITLE, 0), plays, ACCEPTED);
     add(t, "read, position", c, plain(READ, 0, MCS_POSITION, 0), plays, ACCEPTED);
+    add(t, "read, segments object", c, plain(READ, 0, MCS_SEGMENTS_OBJECT, 0), plays, ACCEPTED);
+    add(t, "read, track object", c, plain(READ, 0, MCS_TRACK_OBJECT, 0), plays, ACCEPTED);
+    add(t, "read, next track object, order 3", c, plain(READ, 0, MCS_NEXT_TRACK_OBJECT, 0), plays, ACCEPTED);
+    add(t, "read, next track object, order 5", c, plain(READ, 0, MCS_NEXT_TRACK_OBJECT, 0), by_stamp, ACCEPTED);
+    add(t, "read, next track object, named", c, plain(READ, 0, MCS_NEXT_TRACK_OBJECT, 0), named, ACCEPTED);
+    add(t, "read, parent group object", c, plain(READ, 0, MCS_PARENT_GROUP_OBJECT, 0), plays, ACCEPTED);
+    add(t, "read, group object", c, plain(READ, 0, MCS_GROUP_OBJECT, 0), plays, ACCEPTED);
     add(t, "write, Play", c, opcode(0, MCS_OPCODE_PLAY), by_number, ACCEPTED);
     add(t, "write, Next Segment", c, opcode(0, MCS_OPCODE_NEXT_SEGMENT), by_number, ACCEPTED);
     add(t, "write, Goto Segment", c, with_octets(WRITE, 0, MCS_CONTROL_POINT, BACK_2_SEGMENTS, 5), by_number, ACCEPTED);
@@ -386,6 +453,11 @@ void add_calls(table *t, const catalogue *c)
     add(t, "write, Goto Group, order 3", c, with_octets(WRITE, 0, MCS_CONTROL_POINT, BACK_1_GROUP, 5), by_number, ACCEPTED);
     add(t, "write, position", c, with_octets(WRITE, 0, MCS_POSITION, POSITION, 4), by_number, ACCEPTED);
     add(t, "write, order", c, written(0, MCS_PLAYING_ORDER, 6), by_number, ACCEPTED);
+    add(t, "write, track object", c, numbered(0, MCS_TRACK_OBJECT, last), by_number, ACCEPTED);
+    add(t, "write, next track object", c, numbered(0, MCS_NEXT_TRACK_OBJECT, last), by_number, ACCEPTED);
+    add(t, "write, group object, order 3", c, numbered(0, MCS_GROUP_OBJECT, MCS_OBJECT_OF_GROUP(3)), by_number, ACCEPTED);
+    add(t, "write, group object, order 5", c, numbered(0, MCS_GROUP_OBJECT, MCS_OBJECT_OF_GROUP(3)), by_stamp, ACCEPTED);
+    add(t, "write, Next Track, named", c, opcode(0, MCS_OPCODE_NEXT_TRACK), named, ACCEPTED);
     add(t, "take, a title", c, plain(TAKE, 0, 0, 0), owing_title(c), ACCEPTED);
     add(t, "take, a result", c, plain(TAKE, 0, 0, 0), owing_results(c), ACCEPTED);
     add(t, "take, nothing owed", c, plain(TAKE, 0, 0, 0), plays, ACCEPTED);

@@ -18,9 +18,10 @@ typedef struct {
 typedef struct {
     uint8_t out[MCS_OUTPUT_OCTETS];
     uint32_t word, served[SERVED_WORDS], counts[4], block, line, track, octet;
+    size_t count;
     tables loaded;
-    uint32_t starts[MOST_STARTS];
-    uint8_t card[MCS_CARD_OCTETS];
+    uint32_t entries[MOST_STARTS];
+    uint8_t written[MCS_CARD_OCTETS];
 } answers;
 
 /* The call with a state and answers that are lent to it. They are filled, always alike, so that what a call leaves alone can be
@@ -35,7 +36,7 @@ typedef struct {
     uint32_t number; /* what all must return */
 } row;
 
-#define MOST_ROWS 256u
+#define MOST_ROWS 384u
 
 typedef struct {
     row rows[MOST_ROWS];

@@ -115,6 +115,13 @@ static void alter_sheet(run *r, const step *s)
     if (s->kind == CUT_SHEET && s->number < c->length) {
         c->length = s->number;
     }
+    if (s->kind == POKE_SHEET && s->number < c->length) {
+        c->octets[s->number] = (uint8_t)s->what;
+    }
+    if (s->kind == WRITTEN_OBJECT) {
+        c->length = 0;
+        add_text(c, r->written.octets, r->written.length, 1);
+    }
 }
 
 void alter(run *r, const step *s)
@@ -135,6 +142,8 @@ void alter(run *r, const step *s)
     case ADD_TEXT:
     case ADD_STARTS:
     case CUT_SHEET:
+    case POKE_SHEET:
+    case WRITTEN_OBJECT:
         alter_sheet(r, s);
         break;
     case KEEP:

@@ -150,7 +150,7 @@ const char *not_in_turn(const answer *a, const uint8_t before[MCS_STATE_OCTETS],
                : "both leave another turn or another mark than what was served";
 }
 
-/* ---- "Demand 3's 40 becomes 80." */
+/* ---- W-209: "per client there are now 28 slots and the bound is 112" */
 
 const char *too_late(waits *w, const step *s, const answer *a, const uint8_t before[MCS_STATE_OCTETS],
                      const uint8_t after[MCS_STATE_OCTETS])

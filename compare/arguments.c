@@ -52,7 +52,7 @@ uint32_t some_writer(dice *d, const run *r, uint32_t service, uint32_t wrong)
 
 uint32_t no_characteristic(dice *d)
 {
-    return ONE_OF(d, 0, 2, 3, 10, 11, 12, 13, 14, 20, 21, 23, 24, 31, 32, 33, 36, 39, 50, 255, 257, 0x105, 0x10012u,
+    return ONE_OF(d, 0, 2, 3, 20, 21, 23, 24, 31, 32, 33, 36, 39, 42, 43, 46, 50, 255, 257, 0x105, 0x10B, 0x10012u,
                   0x80000007u, 0xFFFFFFFFu);
 }
 
@@ -144,6 +144,12 @@ uint32_t value_length(const run *r, const ref_player *p, uint32_t characteristic
     case MCS_POSITION:
     case MCS_OPCODES_SUPPORTED:
         return 4;
+    case MCS_SEGMENTS_OBJECT:
+    case MCS_TRACK_OBJECT:
+    case MCS_NEXT_TRACK_OBJECT:
+    case MCS_PARENT_GROUP_OBJECT:
+    case MCS_GROUP_OBJECT:
+        return has_track(r, p) ? MCS_OBJECT_OCTETS : 0;
     default:
         return 1;
     }
@@ -183,4 +189,37 @@ uint32_t some_group(dice *d, const run *r, uint32_t wrong)
         }
     }
     return below(d, groups);
+}
+
+/* Nearly a right number: with a bit set in one of its upper octets, of another kind, beside the right ones, or any. */
+static uint64_t wrong_object(dice *d, const tables *t, uint64_t right, uint32_t first, uint32_t count)
+{
+    switch (below(d, 6)) {
+    case 0:
+        return right ^ (uint64_t)1 << between(d, 32, 47);
+    case 1:
+        return right ^ (uint64_t)1 << between(d, 16, 31);
+    case 2:
+        return (right & 0xFFFu) + ONE_OF(d, 0, 0x1000, 0x2000, 0x3000, 0x4000);
+    case 3:
+        return (right & 0xF000u) + ONE_OF(d, first - 1u, first + count, first + count + 1u, 63, 64, 255, 256, 0xFFF, 0x1000);
+    case 4:
+        return ((uint64_t)any_word(d) << 32 | any_word(d)) >> between(d, 16, 40);
+    default:
+        return MCS_OBJECT_OF_TRACK(below(d, track_count(t) + 1u));
+    }
+}
+
+uint64_t some_object(dice *d, const run *r, const ref_player *p, uint32_t characteristic)
+{
+    uint32_t groups = group_count(&r->lent), group = p->group < groups ? p->group : 0, first = 0, count = groups;
+    uint64_t right;
+    if (characteristic == MCS_GROUP_OBJECT) {
+        right = MCS_OBJECT_OF_GROUP(one_in(d, 4) ? group : some_group(d, r, 16));
+    } else {
+        first = groups == 0 ? 0 : group_word(&r->lent, group, FIRST_TRACK);
+        count = groups == 0 ? 0 : group_word(&r->lent, group, TRACK_COUNT);
+        right = MCS_OBJECT_OF_TRACK(one_in(d, 4) ? p->track : first + below(d, count));
+    }
+    return one_in(d, 5) ? wrong_object(d, &r->lent, right, first, count) : right;
 }

@@ -20,7 +20,7 @@ uint32_t some_service(dice *d, uint32_t wrong);
 /* Mostly one whose results in the service are kept, since they say what a control write did. */
 uint32_t some_writer(dice *d, const run *r, uint32_t service, uint32_t wrong);
 
-/* One that is none of the thirteen, also such as would be one if its upper octets were dropped. */
+/* One that is none of the eighteen, also such as would be one if its upper octets were dropped. */
 uint32_t no_characteristic(dice *d);
 
 /* The room of an output. */
@@ -42,5 +42,9 @@ uint32_t value_length(const run *r, const ref_player *p, uint32_t characteristic
 uint32_t some_time(dice *d, const run *r, const ref_player *p);
 
 uint32_t some_group(dice *d, const run *r, uint32_t wrong);
+
+/* The number of an object for a write of 11, 12 or 14: of a track of the player's group, or of a group with tracks, the current ones
+ * too; one in a few is only nearly so. */
+uint64_t some_object(dice *d, const run *r, const ref_player *p, uint32_t characteristic);
 
 #endif

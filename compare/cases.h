@@ -1,5 +1,5 @@
-/* The cases of document 01, the bounds of both documents, bad blocks, bad texts, what random calls meet late, and those of two
- * services, on both programs. */
+/* The cases of document 01, the bounds of both documents, bad blocks, bad texts, what random calls meet late, those of two
+ * services, and those of objects and their numbers, on both programs. */
 #ifndef CASES_H
 #define CASES_H
 
@@ -14,5 +14,7 @@ unsigned long play_bad_blocks(FILE *out, run *r);
 unsigned long play_bad_texts(FILE *out, run *r);
 unsigned long play_edges(FILE *out, run *r);
 unsigned long play_two_services(FILE *out, run *r);
+unsigned long play_numbers(FILE *out, run *r);
+unsigned long play_entries(FILE *out, run *r);
 
 #endif

@@ -85,16 +85,16 @@ static int compare_random(uint64_t calls, uint64_t seed)
 
 static int compare_cases(void)
 {
-    unsigned long wrong;
+    static unsigned long (*const PLAYS[])(FILE *, run *) = {play_cases, play_limits,       play_bad_blocks, play_bad_texts,
+                                                            play_edges, play_two_services, play_numbers,    play_entries};
+    unsigned long wrong = 0;
     strcpy(what_runs, "the cases of the documents");
-    wind_the_watch();
-    wrong = play_cases(stdout, &pair);
-    wrong += play_limits(stdout, &pair);
-    wrong += play_bad_blocks(stdout, &pair);
-    wrong += play_bad_texts(stdout, &pair);
-    wrong += play_edges(stdout, &pair);
-    wrong += play_two_services(stdout, &pair);
+    for (size_t k = 0; k < sizeof PLAYS / sizeof PLAYS[0]; k++) {
+        wind_the_watch();
+        wrong += PLAYS[k](stdout, &pair);
+    }
     strcpy(what_runs, "lengths of more than 32 bits");
+    wind_the_watch();
     wrong += play_wide_lengths(stdout);
     return wrong == 0 ? 0 : 1;
 }

@@ -1,4 +1,5 @@
 #include "count.h"
+#include "count_objects.h"
 #include "count_services.h"
 #include "judge.h"
 #include "octets.h"
@@ -430,6 +431,10 @@ void count_call(const run *r, const step *s, uint32_t share)
     count_place(r, s);
     if (has_state(s->kind)) {
         count_services(r, s);
+        count_numbers(r, s);
+    }
+    if (writes_object(s->kind) || reads_object(s->kind)) {
+        count_object(r, s);
     }
     if (has_state(s->kind) && s->kind != START && !plain_truths(r->octets)) {
         count_truths(r, s);
@@ -464,11 +469,12 @@ static void tell_player(void)
             tell(by_result[service][place][result], (unsigned long)result_can_be(place, result), "%u", (unsigned)result);
         }
     }
-    /* "past an end, the other end in a repeat order, else result 4"; in order 1 there is no neighbour. */
+    /* "past an end, the other end in a repeat order, else result 4"; in order 1 there is no neighbour, and the next track is one that
+     * is named (document 02, W-209). */
     for (uint32_t order = 1; order <= 8; order++) {
         row("track moves in order %u", (unsigned)order);
         for (uint32_t move = 0; move < MOVES; move++) {
-            tell(by_move[order][move][1], order != 1 || move > 1, "%s", MOVE[move]);
+            tell(by_move[order][move][1], order != 1 || move > 0, "%s", MOVE[move]);
             tell(by_move[order][move][4], order % 2u == 1 && move != 2 && move != 3, "%s not made", MOVE[move]);
         }
     }
@@ -670,7 +676,8 @@ static void tell_all(void)
     static const char *const SHARE_NAME[SHARES] = {"histories",          "valid states",
                                                    "damaged states",     "any octets as a state",
                                                    "damaged catalogues", "any words as a catalogue",
-                                                   "cards",              "cue sheets"};
+                                                   "cards",              "cue sheets",
+                                                   "objects"};
     row("calls by where what they are lent came from");
     for (uint32_t k = 0; k < SHARES; k++) {
         tell(by_share[k], 1, "%s", SHARE_NAME[k]);
@@ -698,6 +705,7 @@ static void tell_all(void)
     tell_characteristics("reads above 0", read_on, MCS_MAY_READ);
     tell_characteristics("writes", written, MCS_MAY_WRITE);
     tell_services();
+    tell_objects();
     tell_truths();
     tell_places();
     tell_cards();

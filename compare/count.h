@@ -7,7 +7,18 @@
 #include <stdio.h>
 
 /* Where what is lent to a call came from. */
-enum { FROM_HISTORY, VALID_STATE, DAMAGED_STATE, ANY_STATE, DAMAGED_CATALOGUE, ANY_CATALOGUE, FROM_CARD, FROM_SHEET, SHARES };
+enum {
+    FROM_HISTORY,
+    VALID_STATE,
+    DAMAGED_STATE,
+    ANY_STATE,
+    DAMAGED_CATALOGUE,
+    ANY_CATALOGUE,
+    FROM_CARD,
+    FROM_SHEET,
+    FROM_OBJECT,
+    SHARES
+};
 
 /* A call that both answered alike. */
 void count_call(const run *r, const step *s, uint32_t share);

@@ -28,7 +28,7 @@ static void damage_player(dice *d, const run *r, step *s)
         first = group_word(&r->lent, now->group, FIRST_TRACK);
         count = group_word(&r->lent, now->group, TRACK_COUNT);
     }
-    switch (below(d, 10)) {
+    switch (below(d, 12)) {
     case 0:
         poke_word(s, at + MCS_IN_NAME_LENGTH, ONE_OF(d, 0, 1, 127, 128, 129, 255), 1);
         break;
@@ -62,6 +62,11 @@ static void damage_player(dice *d, const run *r, step *s)
         at += MCS_IN_POSITION;
         poke_word(s, at, ONE_OF(d, 0, 1, duration - 1u, duration, duration + 1u, 0x80000000u, 0xFFFFFFFFu), 4);
         break;
+    case 9:
+    case 10: /* of the tracks about the current group's run, as the number plus 1 */
+        at += MCS_IN_NEXT;
+        poke_word(s, at, ONE_OF(d, 0, 1, first, first + 1u, first + count, first + count + 1u, 257, 0x80000001u, 0xFFFFFFFFu), 4);
+        break;
     default:
         poke_word(s, at + MCS_IN_SPEED, any_word(d), 1);
         break;
@@ -90,7 +95,7 @@ static void damage_link(dice *d, step *s)
         poke_word(s, at + MCS_IN_MTU, ONE_OF(d, 0, 1, 2, 3, 22, 23, 24, 517, 518, 0x10017u, 0xFFFFFFFFu), 4);
         break;
     default: /* the places of both services, and beyond */
-        to = one_in(d, 2) ? below(d, PLACES + 4u) : ONE_OF(d, 9, 10, 18, 19, 20, 31, 32, 256, 0x80000000u, 0xFFFFFFFFu);
+        to = one_in(d, 2) ? below(d, PLACES + 4u) : ONE_OF(d, 13, 14, 26, 27, 28, 31, 32, 256, 0x80000000u, 0xFFFFFFFFu);
         poke_word(s, at + MCS_IN_MARK, to, 4);
         break;
     }
@@ -102,13 +107,13 @@ static void damage_account(dice *d, const run *r, step *s)
     const ref_account *a = &r->second.services[service].accounts[who];
     switch (below(d, 7)) {
     case 0:
-        poke_word(s, at + MCS_IN_SUBSCRIBED, one_in(d, 2) ? a->subscribed ^ 1u << below(d, 32) : any_word(d) & 0x3FFu, 4);
+        poke_word(s, at + MCS_IN_SUBSCRIBED, one_in(d, 2) ? a->subscribed ^ 1u << below(d, 32) : any_word(d) & 0x3FFFu, 4);
         break;
     case 1:
         poke_word(s, at + MCS_IN_OWED, one_in(d, 2) ? a->owed ^ 1u << below(d, 32) : any_word(d) & a->subscribed, 4);
         break;
     case 2:
-        poke_word(s, at + MCS_IN_READ, one_in(d, 2) ? a->fresh ^ 1u << below(d, 32) : any_word(d) & 0x004B83E2u, 4);
+        poke_word(s, at + MCS_IN_READ, one_in(d, 2) ? a->fresh ^ 1u << below(d, 32) : any_word(d) & 0x004BFFE2u, 4);
         break;
     case 3:
         poke_word(s, at + MCS_IN_WAITING, ONE_OF(d, 0, 1, 2, 7, 8, 9, 16, 256, 0x80000000u, 0xFFFFFFFFu), 8);

@@ -78,11 +78,15 @@ static void draw_control(dice *d, const run *r, uint32_t wrong, step *s)
 static void draw_write(dice *d, const run *r, uint32_t wrong, step *s)
 {
     const ref_player *p = player_of(r, s->service);
-    uint32_t kind = below(d, 16);
+    uint32_t kind = below(d, 20);
     memset(s->octets, 0, 264);
     if (one_in(d, wrong)) {
-        s->what = one_in(d, 2) ? no_characteristic(d) : ONE_OF(d, 1, 4, 5, 6, 9, 16, 17, 19, 22);
-        s->length = below(d, 6);
+        s->what = one_in(d, 2) ? no_characteristic(d) : ONE_OF(d, 1, 4, 5, 6, 9, 10, 13, 16, 17, 19, 22);
+        s->length = below(d, 7);
+    } else if (kind >= 16) {
+        s->what = ONE_OF(d, MCS_TRACK_OBJECT, MCS_NEXT_TRACK_OBJECT, MCS_NEXT_TRACK_OBJECT, MCS_GROUP_OBJECT);
+        s->length = one_in(d, wrong) ? ONE_OF(d, 0, 1, 4, 5, 7, 8, 262) : MCS_OBJECT_OCTETS;
+        mcs_put_object(s->octets, some_object(d, r, p, s->what));
     } else if (kind < 10) {
         s->what = MCS_CONTROL_POINT;
         draw_control(d, r, wrong, s);
@@ -184,7 +188,8 @@ void draw_this_call(dice *d, const run *r, uint32_t kind, uint32_t wrong, step *
         s->what = slot_at(below(d, SLOTS));
         if (one_in(d, wrong)) {
             s->what = one_in(d, 2) ? no_characteristic(d)
-                                   : ONE_OF(d, MCS_ORDERS_SUPPORTED, MCS_OPCODES_SUPPORTED, MCS_CONTENT_CONTROL_ID);
+                                   : ONE_OF(d, MCS_SEGMENTS_OBJECT, MCS_ORDERS_SUPPORTED, MCS_OPCODES_SUPPORTED,
+                                            MCS_CONTENT_CONTROL_ID);
         }
         break;
     case READ:

@@ -2,6 +2,7 @@
  * comment in quotation marks is a sentence of document 01. */
 #include "cases.h"
 #include "expect.h"
+#include "order.h"
 #include "service.h"
 
 #include <string.h>
@@ -80,41 +81,6 @@ static void long_catalogue(tables *t, uint32_t count, uint32_t pattern)
     t->length[TRACKS] = first * MCS_TRACK_WORDS;
 }
 
-/* "3, 4 by number; 5, 6 by rising stamp; 7, 8 by falling stamp; ties by lower number in all" */
-static int comes_before(const tables *t, uint32_t order, uint32_t a, uint32_t b)
-{
-    uint32_t x = track_word(t, a, STAMP), y = track_word(t, b, STAMP);
-    return order < 5 || x == y ? a < b : order < 7 ? x < y : x > y;
-}
-
-static void list_tracks(const tables *t, uint32_t order, uint32_t count, uint32_t *list)
-{
-    for (uint32_t k = 0; k < count; k++) {
-        uint32_t at = k;
-        for (; at > 0 && comes_before(t, order, BEFORE + k, list[at - 1u]); at--) {
-            list[at] = list[at - 1u];
-        }
-        list[at] = BEFORE + k;
-    }
-}
-
-/* "Next and Previous Track: the neighbour; past an end, the other end in a repeat order, else result 4. Goto Track is First or
- * Last and then steps". The place in the list that a move leads to, or -1. */
-static int64_t place_after(uint8_t opcode, int64_t n, int64_t place, int64_t length, int repeats)
-{
-    int64_t to = opcode == MCS_OPCODE_PREVIOUS_TRACK ? place - 1
-                 : opcode == MCS_OPCODE_NEXT_TRACK   ? place + 1
-                 : opcode == MCS_OPCODE_FIRST_TRACK  ? 0
-                 : opcode == MCS_OPCODE_LAST_TRACK   ? length - 1
-                 : n == 0                            ? place
-                 : n > 0                             ? n - 1
-                                                     : length + n;
-    if (to < 0 || to >= length) {
-        return repeats ? (to % length + length) % length : -1;
-    }
-    return to;
-}
-
 static void stand_in_list(uint32_t track, uint32_t position, uint8_t media)
 {
     poke_number(player_at(MCS_IN_TRACK), track, 4);
@@ -159,7 +125,7 @@ static void order_cases(void)
         for (uint32_t order = 1; order <= 8; order++) {
             const uint32_t places[5] = {0, 1, count / 2u, count - 2u, count - 1u};
             poke_number(player_at(MCS_IN_ORDER), order, 1);
-            list_tracks(&t, order, count, list);
+            list_in_order(&t, LONG_GROUP, order, list);
             activate(1, 0);
             commands(MCS_OPCODE_NEXT_GROUP, 0, MCS_RESULT_SUCCESS);
             stands_at(LONG_GROUP, list[0], 0);

@@ -6,22 +6,22 @@
 /* Where a call has the pointer and the length of a buffer, the octets of an entry, and the most entries, which are always lent
  * where there is no length. */
 #define NO_LENGTH ((size_t)-1)
-#define TABLE(part, name, entry, most, words)                                                                              \
-    {offsetof(call, part.name), offsetof(call, part.name##_len), entry, most, words}
+#define TABLE(name, entry, most, words) {offsetof(call, name), offsetof(call, name##_len), entry, most, words}
 #define TABLES_OF(part, words)                                                                                             \
-    TABLE(part, groups, 4, GROUPS_ROOM, words), TABLE(part, tracks, 4, TRACKS_ROOM, words),                                \
-        TABLE(part, segments, 4, SEGMENTS_ROOM, words), TABLE(part, text, 1, TEXT_ROOM, words)
+    TABLE(part.groups, 4, GROUPS_ROOM, words), TABLE(part.tracks, 4, TRACKS_ROOM, words),                                  \
+        TABLE(part.segments, 4, SEGMENTS_ROOM, words), TABLE(part.text, 1, TEXT_ROOM, words)
 static const struct {
     size_t pointer, length, entry, most;
     const char *words;
 } BUFFER[BUFFERS] = {
     TABLES_OF(catalogue, "the catalogue"),
     {offsetof(call, state), NO_LENGTH, 1, MCS_STATE_OCTETS, "the state"},
-    {offsetof(call, octets), offsetof(call, length), 1, SHEET_ROOM, "the name, value, card or cue sheet"},
-    TABLE(players[MCS_GENERIC], name, 1, START_NAME_ROOM, "the generic player's name"),
-    TABLE(players[MCS_NAMED], name, 1, START_NAME_ROOM, "the named player's name"),
+    {offsetof(call, octets), offsetof(call, length), 1, SHEET_ROOM, "the name, value, card, cue sheet or object"},
+    TABLE(players[MCS_GENERIC].name, 1, START_NAME_ROOM, "the generic player's name"),
+    TABLE(players[MCS_NAMED].name, 1, START_NAME_ROOM, "the named player's name"),
     {offsetof(call, out), offsetof(call, out_len), 1, OUT_ROOM, "the output"},
-    {offsetof(call, word), NO_LENGTH, 4, 1, "the length of a read, count of a cue sheet or blocks of a card write"},
+    {offsetof(call, word), NO_LENGTH, 4, 1, "the length of a read or an object, count of a cue sheet or blocks of a card write"},
+    {offsetof(call, count), NO_LENGTH, sizeof(size_t), 1, "the count of an object's entries"},
     {offsetof(call, served), NO_LENGTH, 4, SERVED_WORDS, "what a take served"},
     {offsetof(call, counts), NO_LENGTH, 4, 4, "the counts of a card load"},
     {offsetof(call, block), NO_LENGTH, 4, 1, "the block of a card load"},
@@ -29,8 +29,8 @@ static const struct {
     {offsetof(call, track), NO_LENGTH, 4, 1, "the track with a bad title"},
     {offsetof(call, octet), NO_LENGTH, 4, 1, "the wrong octet of a title or a name"},
     TABLES_OF(room, "a loaded table"),
-    {offsetof(call, starts), offsetof(call, starts_len), 4, STARTS_ROOM, "the starts"},
-    {offsetof(call, card), offsetof(call, card_len), 1, CARD_ROOM, "the written card"},
+    TABLE(entries, 4, STARTS_ROOM, "the starts or entries"),
+    TABLE(written, 1, CARD_ROOM, "the written card or object"),
 };
 
 void *lent_at(const call *c, uint32_t buffer)
@@ -74,6 +74,9 @@ void table_changed(run *r, uint32_t table) { r->stale[AGAINST_END][table] = r->s
 
 int has_output(uint32_t kind) { return kind == READ || kind == TAKE; }
 
+/* With a card or an object. */
+static int fills_room(uint32_t kind) { return kind == CARD_WRITE || writes_object(kind); }
+
 uint8_t filled(uint8_t fill, uint32_t at) { return (uint8_t)(fill + 37u * at); }
 
 struct mcs_place filled_place(uint8_t fill)
@@ -82,12 +85,13 @@ struct mcs_place filled_place(uint8_t fill)
     return place;
 }
 
-static uint32_t filled_word(const step *s, uint32_t at) { return (s->fill + at) * 0x9E3779B1u; }
+uint32_t filled_word(uint8_t fill, uint32_t at) { return (fill + at) * 0x9E3779B1u; }
 
 static void fill_answer(const step *s, answer *a)
 {
     a->number = 0;
     a->length = 0x01010101u * s->fill;
+    a->count = ~(size_t)a->length;
     for (uint32_t k = 0; k < SERVED_WORDS; k++) {
         a->served[k] = a->length + 1u;
     }
@@ -111,27 +115,30 @@ static void lend_card(run *r, const step *s, call *c)
     for (uint32_t table = 0; table < TABLES; table++) {
         lend_entries(c, ROOM + table, s->room[table]);
         for (uint32_t k = 0; k < s->room[table]; k++) {
-            set_table_entry(&r->loaded, table, k, filled_word(s, k));
+            set_table_entry(&r->loaded, table, k, filled_word(s->fill, k));
         }
     }
 }
 
+/* A cue sheet, or an object that is read. */
 static void lend_sheet(run *r, const step *s, call *c)
 {
     c->octets = r->lent_sheet.octets;
     c->length = r->lent_sheet.length;
-    c->line = &r->second_said.line;
-    c->starts = r->starts;
-    c->starts_len = s->room[0];
+    c->line = s->kind == CUE_SHEET ? &r->second_said.line : NULL;
+    c->count = s->kind == CUE_SHEET ? NULL : &r->second_said.count;
+    c->entries = r->entries;
+    c->entries_len = s->room[0];
     for (uint32_t k = 0; k < s->room[0]; k++) {
-        r->starts[k] = filled_word(s, k);
+        r->entries[k] = filled_word(s->fill, k);
     }
 }
 
-static void lend_room_for_card(run *r, const step *s, call *c)
+/* For a card or an object. */
+static void lend_room(run *r, const step *s, call *c)
 {
-    c->card = r->written.octets;
-    c->card_len = s->room[0];
+    c->written = r->written.octets;
+    c->written_len = s->room[0];
     for (uint32_t k = 0; k < s->room[0]; k++) {
         r->written.octets[k] = filled(s->fill, k);
     }
@@ -175,14 +182,14 @@ void lend_plainly(run *r, const step *s, call *c)
         c->out = a->out;
         c->out_len = s->room[0];
     }
-    c->word = s->kind == READ || s->kind == CUE_SHEET || s->kind == CARD_WRITE ? &a->length : NULL;
+    c->word = s->kind == READ || s->kind == CUE_SHEET || fills_room(s->kind) ? &a->length : NULL;
     c->served = s->kind == TAKE ? a->served : NULL;
     if (s->kind == CARD_LOAD) {
         lend_card(r, s, c);
-    } else if (s->kind == CUE_SHEET) {
+    } else if (s->kind == CUE_SHEET || reads_object(s->kind)) {
         lend_sheet(r, s, c);
-    } else if (s->kind == CARD_WRITE) {
-        lend_room_for_card(r, s, c);
+    } else if (fills_room(s->kind)) {
+        lend_room(r, s, c);
     }
 }
 

@@ -11,6 +11,7 @@ enum {
     NAMES, /* of a start, by service */
     OUTPUT = NAMES + (int)MCS_SERVICES,
     WORD,
+    COUNT,
     SERVED,
     COUNTS,
     BLOCK,
@@ -18,7 +19,7 @@ enum {
     BAD_TRACK,
     BAD_OCTET,
     ROOM,
-    STARTS = ROOM + TABLES,
+    ENTRIES = ROOM + TABLES,
     WRITTEN,
     BUFFERS
 };
@@ -47,9 +48,10 @@ void lend_guarded(run *r, const step *s, const call *plain, uint32_t against, ca
  * compared where it is asked for. */
 const char *differing(const call *one, const call *other, int states);
 
-/* Whether a call is lent an output, and what an output holds before the call. */
+/* Whether a call is lent an output, and what an output of octets, and one of words, holds before the call. */
 int has_output(uint32_t kind);
 uint8_t filled(uint8_t fill, uint32_t at);
+uint32_t filled_word(uint8_t fill, uint32_t at);
 
 /* What the two words for a place hold before the call: no track and no octet that can be carried, so that it is seen whether they are
  * written. */

@@ -175,7 +175,7 @@ static void sheet_cases(void)
     reads("an empty sheet", NONE, 0, 0, "", 0, 0, 0);
     /* "at most 65,536 octets": 3,640 lines of 18 octets and 16 more. */
     reads("as many starts as fit", FULL, '\n', 16, "", 3640, 0, 3640);
-    expect("the last start", both->starts[3639], 4852);
+    expect("the last start", both->entries[3639], 4852);
     reads("one start too many for the room", FULL, '\n', 16, "", 3639, MCS_MANY_STARTS, 0);
     reads("no room for starts", FULL, '\n', 16, "", 0, MCS_MANY_STARTS, 0);
     reads("65,537 octets", FULL, '\n', 17, "", 3640, MCS_LONG_SHEET, 0);
@@ -186,9 +186,9 @@ static void sheet_cases(void)
     /* "(60 times mm + ss) times 100 plus the whole part of 4 times ff over 3" */
     reads("the frames of a second and the last of all", SECOND_ON, '\n', 1, "INDEX 01 99:59:74", 77, 0, 77);
     for (uint32_t frame = 0; frame < 76; frame++) {
-        expect("a frame's start", both->starts[frame], 4u * frame / 3u);
+        expect("a frame's start", both->entries[frame], 4u * frame / 3u);
     }
-    expect("the last frame's start", both->starts[76], 599998);
+    expect("the last frame's start", both->entries[76], 599998);
     reads("ss 60", TWO, ' ', 2, "INDEX 01 00:60:00", 9, MCS_BAD_LINE, 3);
     reads("ff 75", TWO, ' ', 2, "INDEX 01 00:00:75", 9, MCS_BAD_LINE, 3);
     /* "first start not 0 or not rising", "by lowest line", "then 228" */

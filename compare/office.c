@@ -12,7 +12,7 @@
 #include <string.h>
 
 enum { NOTE = 0, FIRST_CALL = 1, LAST_CALL = 12, DAMAGE = 13 };
-enum { SAMPLE, LONG_TITLES, OWN_PARENT, CUT_GROUPS, CLOSE_SEGMENTS, RUNNING, BAD_TITLES, BAD_AND_WRONG, CATALOGUES };
+enum { SAMPLE, LONG_TITLES, OWN_PARENT, CUT_GROUPS, CLOSE_SEGMENTS, RUNNING, BAD_TITLES, BAD_AND_WRONG, FOLDERS, MANY, CATALOGUES };
 
 #define GESPRAECH                                                                                                          \
     "Gespr\xC3\xA4"                                                                                                        \
@@ -21,6 +21,22 @@ enum { SAMPLE, LONG_TITLES, OWN_PARENT, CUT_GROUPS, CLOSE_SEGMENTS, RUNNING, BAD
     "berfahrt, aufgenommen im Hafen, erste Spur"
 
 static tables catalogue[CATALOGUES];
+
+/* Group 0 has track 0 and group 1, which has two tracks, group 2 without tracks, and group 3 with the last track. */
+static void make_folders(tables *t)
+{
+    static const uint32_t GROUPS_OF[4][MCS_GROUP_WORDS] = {{0, 0, 1}, {0, 1, 2}, {1, 3, 0}, {1, 3, 1}};
+    memcpy(t->groups, GROUPS_OF, sizeof GROUPS_OF);
+}
+
+/* As many groups and tracks as there may be, with all tracks in the last group. */
+static void make_many(tables *t)
+{
+    memset(t, 0, sizeof *t);
+    t->length[GROUPS] = MCS_GROUP_WORDS * MCS_MOST_GROUPS;
+    t->length[TRACKS] = MCS_TRACK_WORDS * MCS_MOST_TRACKS;
+    t->groups[MCS_GROUP_WORDS * (MCS_MOST_GROUPS - 1u) + TRACK_COUNT] = MCS_MOST_TRACKS;
+}
 
 static void make_catalogues(void)
 {
@@ -67,6 +83,8 @@ static void make_catalogues(void)
         bad->tracks[MCS_TRACK_WORDS * k + TITLE] = BAD_TITLE[k].at;
         bad->tracks[MCS_TRACK_WORDS * k + TITLE_LENGTH] = BAD_TITLE[k].length;
     }
+    make_folders(&catalogue[FOLDERS]);
+    make_many(&catalogue[MANY]);
     *wrong = *bad;
     wrong->groups[MCS_GROUP_WORDS * 3 + PARENT] = 3;
 }
@@ -93,6 +111,7 @@ static void write_service(FILE *out, const ref_service *s, const ref_link *links
     }
     fprintf(out, " %u %d %d | %u %u %u", (unsigned)p->order, p->speed, p->seeking, (unsigned)p->group, (unsigned)p->track,
             (unsigned)p->position);
+    fprintf(out, p->next == 0 ? " -" : " %u", (unsigned)p->next - 1u);
     for (uint32_t k = 0; k < REF_CLIENTS; k++) {
         const ref_account *a = &s->accounts[k];
         if (!links[k].connected) {
@@ -169,6 +188,7 @@ static void damage_step(step *s)
                 {OF_PLAYER, MCS_IN_GROUP, 4},
                 {OF_PLAYER, MCS_IN_TRACK, 4},
                 {OF_PLAYER, MCS_IN_POSITION, 4},
+                {OF_PLAYER, MCS_IN_NEXT, 4},
                 {OF_PLAYER, MCS_IN_NAME_LENGTH, 1},
                 {OF_PLAYER, MCS_IN_NAME, 1},
                 {OF_ALL, MCS_AT_TURN, 4},

@@ -1,6 +1,8 @@
 #include "play.h"
 #include "damage.h"
 
+#include <string.h>
+
 #define ROUND 64u
 
 int goes_on(const play *p) { return p->going && p->t->count + ROUND <= MOST_STEPS; }
@@ -31,6 +33,18 @@ void call_in(play *p, const mood *m)
 {
     if (p->going) {
         draw_call(&p->d, p->r, m, new_step(p));
+        take_step(p);
+    }
+}
+
+void add_piece(play *p, const void *octets, uint32_t length, uint32_t times)
+{
+    step *s = new_step(p);
+    if (p->going) {
+        blank_step(&p->d, ADD_TEXT, s);
+        memcpy(s->octets, octets, length);
+        s->length = length;
+        s->number = times;
         take_step(p);
     }
 }

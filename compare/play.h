@@ -31,6 +31,7 @@ void take_step(play *p);
 /* Each does nothing where the play is not going. */
 void bare_step(play *p, uint32_t kind, uint32_t number);
 void call_in(play *p, const mood *m);
+void add_piece(play *p, const void *octets, uint32_t length, uint32_t times); /* to a cue sheet or an object */
 void damage(play *p, uint32_t times, void (*draw)(dice *, const run *, step *));
 void damage_titles_or_more(play *p); /* the catalogue: its titles, something else, or both */
 
@@ -47,6 +48,7 @@ void play_catalogues(play *p);
 void play_any_tables(play *p);
 void play_cards(play *p);
 void play_sheets(play *p);
+void play_objects(play *p);
 
 /* What they share: a start that is accepted, with clients that connect and subscribe; a state of its own. */
 void start_and_open(play *p);

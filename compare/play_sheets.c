@@ -15,18 +15,6 @@ typedef struct {
 
 /* ---- Pieces */
 
-static void add_piece(play *p, const void *octets, uint32_t length, uint32_t times)
-{
-    step *s = new_step(p);
-    if (p->going) {
-        blank_step(&p->d, ADD_TEXT, s);
-        memcpy(s->octets, octets, length);
-        s->length = length;
-        s->number = times;
-        take_step(p);
-    }
-}
-
 static uint32_t line_end(play *p, const making *m, uint8_t *to)
 {
     int with_cr = m->ends == 1 || (m->ends == 2 && one_in(&p->d, 2));
@@ -246,7 +234,7 @@ static void read_sheet(play *p, const making *m)
     /* A frame is four thirds of a hundredth of a second. */
     if (s->room[0] < m->starts ? p->r->second_said.number != MCS_MANY_STARTS
                                : p->r->second_said.number != 0 || count != m->starts ||
-                                     (count > 0 && p->r->starts[count - 1u] != 4u * m->frame / 3u)) {
+                                     (count > 0 && p->r->entries[count - 1u] != 4u * m->frame / 3u)) {
         cannot_be(p, "both read something else from a cue sheet that was made right");
     }
 }

@@ -31,9 +31,9 @@ static void print_service(FILE *out, const ref_service *s)
 {
     const ref_player *p = &s->player;
     uint32_t end = REF_NAME_ROOM;
-    fprintf(out, " mask 0x%08x ccid %u media %u order %u speed %d seeking %d group %u track %u position %u name (%u)",
+    fprintf(out, " mask 0x%08x ccid %u media %u order %u speed %d seeking %d group %u track %u position %u next %u name (%u)",
             (unsigned)p->mask, p->ccid, p->media, p->order, p->speed, p->seeking, (unsigned)p->group, (unsigned)p->track,
-            (unsigned)p->position, (unsigned)p->name_len);
+            (unsigned)p->position, (unsigned)p->next, (unsigned)p->name_len);
     for (; end > p->name_len && p->name[end - 1u] == 0; end--) {
     }
     for (uint32_t k = 0; k < end; k++) {
@@ -41,7 +41,7 @@ static void print_service(FILE *out, const ref_service *s)
     }
     for (uint32_t k = 0; k < REF_CLIENTS; k++) {
         const ref_account *a = &s->accounts[k];
-        fprintf(out, "\n       client %u: subscribed 0x%03x owed 0x%03x read 0x%06x results (%u)", (unsigned)k,
+        fprintf(out, "\n       client %u: subscribed 0x%04x owed 0x%04x read 0x%06x results (%u)", (unsigned)k,
                 (unsigned)a->subscribed, (unsigned)a->owed, (unsigned)a->fresh, (unsigned)a->waiting);
         for (uint32_t j = 0; j < REF_RESULTS; j++) {
             fprintf(out, j == a->waiting ? " | %02x %u" : " %02x %u", a->results[j].opcode, a->results[j].code);
@@ -106,6 +106,10 @@ static void print_answer(FILE *out, const char *program, const step *s, const an
         fprintf(out, ", count %u, line %u", (unsigned)a->length, (unsigned)a->line);
     } else if (s->kind == CARD_WRITE && a->number == 0) {
         fprintf(out, ", blocks %u", (unsigned)a->length);
+    } else if (writes_object(s->kind) && a->number == 0) {
+        fprintf(out, ", octets %u", (unsigned)a->length);
+    } else if (reads_object(s->kind) && a->number == 0) {
+        fprintf(out, ", entries %zu", a->count);
     } else if (s->kind == READ && a->number == 0) {
         print_octets(out, a->out, a->length < OUT_ROOM ? a->length : OUT_ROOM);
     } else if (s->kind == TAKE && a->number == 0) {

@@ -76,6 +76,7 @@ static void random_player(dice *d, const tables *t, ref_player *s)
     s->group = group;
     s->track = group_word(t, group, FIRST_TRACK) + below(d, group_word(t, group, TRACK_COUNT));
     s->position = random_position(d, t, s->track);
+    s->next = one_in(d, 2) ? 0 : 1u + group_word(t, group, FIRST_TRACK) + below(d, group_word(t, group, TRACK_COUNT));
 }
 
 static void random_link(dice *d, ref_link *l)

@@ -1,8 +1,10 @@
 #include "run.h"
 #include "alter.h"
 #include "apart.h"
+#include "entries.h"
 #include "guard.h"
 #include "lend.h"
+#include "numbers.h"
 #include "octets.h"
 #include "places.h"
 
@@ -57,9 +59,9 @@ static int differs_in(run *r, const char *when, const char *buffer)
 }
 
 /* "A refusal returns its number alone and alters nothing." */
-static int states_stay(run *r, const uint8_t *octets)
+static int states_stay(run *r)
 {
-    if (memcmp(r->octets, octets, MCS_STATE_OCTETS) != 0) {
+    if (memcmp(r->octets, r->octets_before, MCS_STATE_OCTETS) != 0) {
         return differs(r, "a refusal of the library altered the state");
     }
     if (memcmp(&r->second, &r->before, sizeof r->before) != 0) {
@@ -68,10 +70,11 @@ static int states_stay(run *r, const uint8_t *octets)
     return 1;
 }
 
-/* A state of another layout, and a yes or no that is neither 1 nor 0, are refused with 201, before which 200 and 205 come. A
- * start looks at no state. */
-static int wrong_octets_are_refused(run *r, const step *s, const uint8_t *octets)
+/* A state of another layout, a yes or no that is neither 1 nor 0, and a next track that may not be named are refused with 201,
+ * before which 200 and 205 come. A start looks at no state. */
+static int wrong_octets_are_refused(run *r, const step *s)
 {
+    const uint8_t *octets = r->octets_before;
     uint32_t number = r->library_said.number;
     uint32_t should = has_output(s->kind) && s->room[0] < MCS_OUTPUT_OCTETS ? MCS_SMALL_OUTPUT : MCS_BAD_STATE;
     if (s->kind == START || number == MCS_BAD_CATALOGUE || number == should) {
@@ -80,27 +83,35 @@ static int wrong_octets_are_refused(run *r, const step *s, const uint8_t *octets
     if (octets[MCS_AT_LAYOUT] != MCS_STATE_MARK) {
         return differs(r, "a state that does not begin with its mark is not refused with 201 in its turn");
     }
+    for (uint32_t k = 0; k < MCS_SERVICES; k++) {
+        standing p = standing_in(octets, k);
+        if (is_misnamed(&r->lent, &p)) {
+            return differs(r, "a next track that may not be named is not refused with 201 in its turn");
+        }
+    }
     return plain_truths(octets) || differs(r, "a yes or no that is neither 1 nor 0 is not refused with 201 in its turn");
 }
 
-/* What both did to the services, and in which order they served, is what it has to be. */
-static int services_are_apart(run *r, const step *s, const uint8_t *octets)
+/* What both did to the services, in which order they served, and what they did with the numbers of objects is what it has to be. */
+static int services_are_right(run *r, const step *s)
 {
     const answer *a = &r->library_said;
+    const uint8_t *octets = r->octets_before;
     const char *wrong = wrong_service(s, a);
     if (wrong == NULL && a->number == 0) {
         wrong = s->kind == TAKE ? not_in_turn(a, octets, r->octets) : NULL;
         wrong = wrong == NULL ? not_apart(s, a, octets, r->octets) : wrong;
         wrong = wrong == NULL ? too_late(&r->waited, s, a, octets, r->octets) : wrong;
     }
+    wrong = wrong == NULL ? wrong_number(&r->lent, s, a, octets, r->octets) : wrong;
     return wrong == NULL || differs(r, wrong);
 }
 
 /* After an accepted call every octet is what it has to be; and where nothing of what they mean has changed, what it was. */
-static int same_states(run *r, const step *s, const uint8_t *octets)
+static int same_states(run *r, const step *s)
 {
     static uint8_t should[MCS_STATE_OCTETS];
-    r->seen_dead = octets_after(octets, s, &r->second, &r->second_said, should);
+    r->seen_dead = octets_after(r->octets_before, s, &r->second, &r->second_said, should);
     for (uint32_t k = 0; k < MCS_STATE_OCTETS; k++) {
         static ref_state meant;
         if (r->octets[k] == should[k]) {
@@ -114,7 +125,7 @@ static int same_states(run *r, const step *s, const uint8_t *octets)
         return 0;
     }
     r->unchanged = s->kind != START && same_meaning(&r->before, &r->second, NULL, 0);
-    if (r->unchanged && memcmp(r->octets, octets, MCS_STATE_OCTETS) != 0) {
+    if (r->unchanged && memcmp(r->octets, r->octets_before, MCS_STATE_OCTETS) != 0) {
         return differs(r, "a call of the library that changes nothing altered octets of the state");
     }
     return 1;
@@ -171,9 +182,8 @@ static int carried_alone(run *r, const step *s, uint32_t block, uint32_t line)
 static int do_call(run *r, const step *s)
 {
     static call plain, second, made[2];
-    static uint8_t octets_before[MCS_STATE_OCTETS];
     uint32_t number[2], makings = s->twice ? 2 : 1, block, line;
-    const char *buffer;
+    const char *buffer, *wrong;
     lend_plainly(r, s, &plain);
     block = r->second_said.block;
     line = r->second_said.line;
@@ -183,7 +193,7 @@ static int do_call(run *r, const step *s)
     second = plain;
     second.state = &r->second;
     r->library_said = r->second_said;
-    memcpy(octets_before, r->octets, MCS_STATE_OCTETS);
+    memcpy(r->octets_before, r->octets, MCS_STATE_OCTETS);
     memcpy(&r->before, &r->second, sizeof r->second);
     r->unchanged = r->library_faulted = 0;
     r->seen_dead = 0;
@@ -203,8 +213,8 @@ static int do_call(run *r, const step *s)
     }
     r->library_said.number = number[0];
     collect(r, &plain, &made[0]);
-    if (s->kind == CARD_WRITE) {
-        r->written.length = number[0] == 0 ? MCS_BLOCK_OCTETS * r->second_said.length : 0;
+    if (plain.written != NULL) {
+        r->written.length = number[0] == 0 ? (s->kind == CARD_WRITE ? MCS_BLOCK_OCTETS : 1u) * r->second_said.length : 0;
     }
     for (uint32_t k = 0; s->kind == CARD_LOAD && k < TABLES; k++) {
         r->loaded.length[k] = number[0] == 0 ? record_entries(k) * r->second_said.counts[k] : 0;
@@ -224,11 +234,11 @@ static int do_call(run *r, const step *s)
         return 0;
     }
     if (!has_state(s->kind)) {
-        return 1;
+        wrong = wrong_object(r, s);
+        return wrong == NULL || differs(r, wrong);
     }
-    return wrong_octets_are_refused(r, s, octets_before) &&
-           (r->library_said.number != 0 ? states_stay(r, octets_before) : same_states(r, s, octets_before)) &&
-           services_are_apart(r, s, octets_before);
+    return wrong_octets_are_refused(r, s) && (r->library_said.number != 0 ? states_stay(r) : same_states(r, s)) &&
+           services_are_right(r, s);
 }
 
 int do_step(run *r, const step *s)

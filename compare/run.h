@@ -13,7 +13,8 @@
 
 typedef struct {
     uint32_t number;
-    uint32_t length;       /* of a read; the count of a cue sheet; the blocks of a card write */
+    uint32_t length;       /* of a read or an object write; the count of a cue sheet; the blocks of a card write */
+    size_t count;          /* of an object that is read */
     uint32_t served[SERVED_WORDS]; /* of a take */
     uint32_t counts[4];    /* of a card load */
     uint32_t block;        /* of a card load */
@@ -37,7 +38,7 @@ typedef struct {
 typedef struct {
     tables lent;
     card lent_card;
-    sheet lent_sheet;
+    sheet lent_sheet; /* a cue sheet, or an object that is read */
     uint8_t octets[MCS_STATE_OCTETS]; /* the library's state */
     ref_state second;                 /* the second program's */
     uint8_t kept_octets[MCS_STATE_OCTETS];
@@ -47,10 +48,11 @@ typedef struct {
     int stale[2][TABLES]; /* the guarded copy of a table is not what is lent */
     tables loaded;        /* by the second program's last card load; its lengths are 0 where it was refused */
     int swapped;          /* it is lent, and the catalogue is put aside in its place */
-    uint32_t starts[STARTS_ROOM]; /* by its last cue sheet */
-    card written;                 /* by its last card write; its length is that of the blocks, 0 where it was refused */
+    uint32_t entries[STARTS_ROOM]; /* by its last cue sheet or object read */
+    card written;                  /* by its last card or object write; its length is 0 where that was refused */
     int library_faulted, second_faulted;
-    ref_state before;         /* the second program's state before the last call */
+    uint8_t octets_before[MCS_STATE_OCTETS]; /* the library's state before the last call */
+    ref_state before;         /* the second program's */
     waits waited;             /* for what is owed now, and in the last take for what it served */
     int unchanged;            /* the last call was accepted, was no start, and left the meaning of the state as it was */
     uint32_t seen_dead;       /* the rules for octets that mean nothing that the last call has shown, as bits (octets.h) */

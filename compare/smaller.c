@@ -115,7 +115,7 @@ static int smaller_track(trial *t, run *r, uint32_t track)
 }
 
 /* Numbers above `number` become less by so much, in both services of every state that is set; and the groups that are
- * activated. */
+ * activated, and those and the tracks whose objects are written. */
 static void renumber(uint32_t in, uint32_t number, uint32_t by)
 {
     for (uint32_t k = 0; k < tried.count; k++) {
@@ -124,7 +124,9 @@ static void renumber(uint32_t in, uint32_t number, uint32_t by)
             uint8_t *octets = s->octets + MCS_AT_SERVICE(service) + in;
             put_word(octets, word_at(octets) - (word_at(octets) > number ? by : 0));
         }
-        if (s->kind == ACTIVATE && in == MCS_IN_GROUP && s->number > number) {
+        if ((((s->kind == ACTIVATE || s->kind == GROUP_OBJECT_WRITE) && in == MCS_IN_GROUP) ||
+             (s->kind == SEGMENTS_OBJECT_WRITE && in == MCS_IN_TRACK)) &&
+            s->number > number) {
             s->number -= by;
         }
     }
@@ -139,6 +141,7 @@ static int without_group(trial *t, run *r, uint32_t group)
     renumber(MCS_IN_GROUP, group, 1);
     if (count > 0) {
         renumber(MCS_IN_TRACK, first + count - 1u, count);
+        renumber(MCS_IN_NEXT, first + count, count);
     }
     return with_catalogue(t, r, dropped);
 }
@@ -149,6 +152,7 @@ static int without_track(trial *t, run *r, uint32_t track)
     try_copy(t);
     dropped = drop_track(&tried.catalogue, track);
     renumber(MCS_IN_TRACK, track, 1);
+    renumber(MCS_IN_NEXT, track + 1u, 1);
     return with_catalogue(t, r, dropped);
 }
 

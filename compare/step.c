@@ -25,6 +25,10 @@ const step_number STEP_NUMBERS[KINDS][MOST_NUMBERS] = {
     [CARD_LOAD] = {ROOM("room of groups", 0, 0), ROOM("of tracks", 1, 0), ROOM("of segments", 2, 0), ROOM("of text", 3, 0)},
     [CUE_SHEET] = {ROOM("room", 0, 0)},
     [CARD_WRITE] = {ROOM("room", 0, 0)},
+    [GROUP_OBJECT_WRITE] = {NUMBER("group", 0), ROOM("room", 0, 0)},
+    [SEGMENTS_OBJECT_WRITE] = {NUMBER("track", 0), ROOM("room", 0, 0)},
+    [GROUP_OBJECT_READ] = {ROOM("room", 0, 0)},
+    [SEGMENTS_OBJECT_READ] = {ROOM("room", 0, 0)},
     [POKE_STATE] = {NUMBER("from", 0)},
     [POKE_TABLE] = {WHO("table"), NUMBER("entry", 0), WHAT("is", 0)},
     [TABLE_LENGTH] = {WHO("table"), NUMBER("has", 0)},
@@ -37,6 +41,7 @@ const step_number STEP_NUMBERS[KINDS][MOST_NUMBERS] = {
     [ADD_TEXT] = {NUMBER("times", 0)},
     [ADD_STARTS] = {NUMBER("lines", 0), WHO("from frame"), WHAT("frames apart", 0)},
     [CUT_SHEET] = {NUMBER("octets at most", 0)},
+    [POKE_SHEET] = {NUMBER("at", 0), WHAT("is", 0)},
 };
 
 const char *const STEP_NAME[KINDS] = {
@@ -52,10 +57,12 @@ const char *const STEP_NAME[KINDS] = {
     [SPOIL_BLOCK] = "a block of the card is bad (check 1, number 2, kind 4, count 8, not full 16, padding 32):",
     [WRITTEN_CARD] = "the card is what was written last",
     [MEND_BLOCK] = "sums of the card's octets:",
-    [NEW_SHEET] = "the cue sheet is empty",
-    [ADD_TEXT] = "the cue sheet goes on:",
+    [NEW_SHEET] = "the cue sheet or object is empty",
+    [ADD_TEXT] = "the cue sheet or object goes on:",
     [ADD_STARTS] = "the cue sheet goes on with lines INDEX 01:",
-    [CUT_SHEET] = "the cue sheet has",
+    [CUT_SHEET] = "the cue sheet or object has",
+    [POKE_SHEET] = "an octet of the object:",
+    [WRITTEN_OBJECT] = "the object is what was written last",
     [KEEP] = "state and catalogue are remembered",
     [PUT_BACK] = "state and catalogue are as remembered",
 };

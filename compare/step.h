@@ -18,10 +18,12 @@ enum {
     SPOIL_BLOCK,       /* block `who` becomes bad for the reasons of `number`; `what` decides in which way */
     WRITTEN_CARD,      /* the card is what was written last */
     MEND_BLOCK,        /* block `number` gets the sums that its octets have */
-    NEW_SHEET,         /* the cue sheet is empty */
+    NEW_SHEET,         /* the cue sheet, or the object that is read, is empty */
     ADD_TEXT,          /* `octets` come behind it, `number` times */
     ADD_STARTS,        /* `number` lines of starts, from frame `who` on and `what` frames apart, each ending in `octets` */
     CUT_SHEET,         /* it is lent with at most `number` octets */
+    POKE_SHEET,        /* octet `number` of it is `what` */
+    WRITTEN_OBJECT,    /* it is what was written last */
     KEEP,              /* state and catalogue are remembered */
     PUT_BACK,          /* and are again as they were */
     KINDS
@@ -42,8 +44,9 @@ typedef struct {
     uint32_t who;                     /* client */
     uint32_t service;
     uint32_t what;                    /* characteristic; of connect whether encrypted */
-    uint32_t number;                  /* group, hundredths, ATT_MTU, offset */
-    uint32_t room[4];                 /* of the output of a read or a take; in entries of a card load's tables, of starts; of a card */
+    uint32_t number;                  /* group, hundredths, ATT_MTU, offset; of an object write the group or the track */
+    uint32_t room[4];                 /* of the output of a read or a take; in entries of a card load's tables; in words of starts and
+                                       * of an object's entries; of a card or an object */
     uint32_t length;                  /* of octets, but of a start */
     uint8_t octets[MCS_STATE_OCTETS]; /* name, value or text; of a start both names */
     step_player players[MCS_SERVICES]; /* of a start */

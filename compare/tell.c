@@ -39,8 +39,8 @@ void tell(unsigned long count, unsigned long least, const char *format, ...)
     }
 }
 
-/* The rows of document 01's table that can apply, of cards and cue sheets also document 02's, and of services 219 (W-208), in
- * their order; 0, accepted, ends each list. */
+/* The rows of document 01's table that can apply, of cards, cue sheets and objects also document 02's, and of services 219 (W-208),
+ * in their order; 0, accepted, ends each list. */
 static const uint8_t ROWS[CALLS][13] = {
     [START] = {200, 207, 0},
     [SET_NAME] = {200, 201, 219, 207, 0},
@@ -57,6 +57,10 @@ static const uint8_t ROWS[CALLS][13] = {
     [CARD_LOAD] = {210, 211, 215, 216, 217, 214, 218, 212, 0},
     [CUE_SHEET] = {225, 226, 227, 228, 0},
     [CARD_WRITE] = {200, 213, 0},
+    [GROUP_OBJECT_WRITE] = {200, 0x13, 223, 0},
+    [SEGMENTS_OBJECT_WRITE] = {200, 0x13, 223, 0},
+    [GROUP_OBJECT_READ] = {222, 223, 0},
+    [SEGMENTS_OBJECT_READ] = {222, 223, 0},
 };
 
 void tell_numbers(uint32_t kind, const unsigned long counts[NUMBERS], uint32_t behind, uint32_t but)

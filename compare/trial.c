@@ -20,19 +20,22 @@ int replay_trial(trial *t, run *r)
 int play_trial(uint64_t seed, uint64_t number, trial *t, run *r, int *unshrinkable)
 {
     /* Trials are of very different lengths; these weights give the shares of calls that the counts print. */
-    enum { ANY_TABLES = 3, SHEETS = 5, KINDS = 6 };
-    static const uint32_t WEIGHT[KINDS] = {12, 12, 14, 30, 50, 11};
-    static void (*const PLAYS[KINDS])(play *) = {play_history,    play_states, play_catalogues,
-                                                 play_any_tables, play_cards,  play_sheets};
+    enum { ANY_TABLES = 3, SHEETS = 5, KINDS = 7 };
+    static const uint32_t WEIGHT[KINDS] = {12, 17, 15, 30, 50, 11, 16};
+    static void (*const PLAYS[KINDS])(play *) = {play_history, play_states, play_catalogues, play_any_tables,
+                                                 play_cards,   play_sheets, play_objects};
     play p;
-    uint32_t at, kind = 0;
+    uint32_t at = 0, kind = 0;
     p.d = dice_of(seed, number);
     p.t = t;
     p.r = r;
     p.share = FROM_HISTORY;
     p.going = 1;
     p.differed = p.unshrinkable = 0;
-    at = below(&p.d, WEIGHT[0] + WEIGHT[1] + WEIGHT[2] + WEIGHT[3] + WEIGHT[4] + WEIGHT[5]);
+    for (uint32_t k = 0; k < KINDS; k++) {
+        at += WEIGHT[k];
+    }
+    at = below(&p.d, at);
     while (at >= WEIGHT[kind]) {
         at -= WEIGHT[kind++];
     }

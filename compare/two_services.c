@@ -91,7 +91,7 @@ static void start_cases(void)
             expect("the mask", word_at(at + MCS_IN_MASK), 0x11u << service);
             expect("the Content Control ID", at[MCS_IN_CCID], 7u + service);
         }
-        expect("the first octet", both->octets[MCS_AT_LAYOUT], 0x82);
+        expect("the first octet", both->octets[MCS_AT_LAYOUT], 0x83);
     }
 }
 
@@ -102,25 +102,26 @@ static void layout_cases(void)
     for (uint32_t octet = 0; octet < 256; octet++) {
         four_clients("the first octet of a state");
         poke_number(MCS_AT_LAYOUT, octet, 1);
-        calls_give(octet == 0x82 ? 0 : MCS_BAD_STATE);
+        calls_give(octet == 0x83 ? 0 : MCS_BAD_STATE);
     }
 }
 
 static void round_mark_cases(void)
 {
-    static const uint32_t MARKS[] = {20, 21, 29, 30, 255, 256, 0x10000u, 0x80000000u, 0xFFFFFFFFu};
-    for (uint32_t k = 0; k < 20u + sizeof MARKS / sizeof MARKS[0]; k++) {
-        uint32_t mark = k < 20 ? k : MARKS[k - 20u];
+    static const uint32_t MARKS[] = {28, 29, 41, 42, 255, 256, 0x10000u, 0x80000000u, 0xFFFFFFFFu};
+    for (uint32_t k = 0; k < 28u + sizeof MARKS / sizeof MARKS[0]; k++) {
+        uint32_t mark = k < 28 ? k : MARKS[k - 28u];
         for (uint32_t client = 0; client < MCS_CLIENTS; client++) {
             four_clients("a mark of the round");
             poke_number(MCS_AT_LINK(client) + MCS_IN_MARK, mark, 4);
             /* Client 3 is not connected, and has start's. */
-            calls_give((client < 3 ? mark < 20 : mark == 19) ? 0 : MCS_BAD_STATE);
+            calls_give((client < 3 ? mark < 28 : mark == 27) ? 0 : MCS_BAD_STATE);
         }
     }
 }
 
-/* ---- "a client's slots running through the generic service and then the other, twenty in all. Demand 3's 40 becomes 80." */
+/* ---- "a client's slots running through the generic service and then the other"; W-209: "per client there are now 28 slots and the
+ * bound is 112" */
 
 /* A client that is owed these places, and has eight results where the last slot of a service is among them. */
 static void owe(uint32_t client, uint32_t places, uint32_t mark)
@@ -143,8 +144,8 @@ static void serves(uint32_t client, uint32_t place)
     const uint32_t *served = both->library_said.served;
     makes(blank(TAKE), 0);
     expect("the client served", served[SERVED_CLIENT], client);
-    expect("the service served", served[SERVED_SERVICE], place / 10u);
-    expect("the characteristic served", served[SERVED_CHARACTERISTIC], slot_at(place % 10u));
+    expect("the service served", served[SERVED_SERVICE], place / 14u);
+    expect("the characteristic served", served[SERVED_CHARACTERISTIC], slot_at(place % 14u));
     expect("the mark", word_at(both->octets + MCS_AT_LINK(client) + MCS_IN_MARK), place);
     expect("the turn", word_at(both->octets + MCS_AT_TURN), client);
 }
@@ -153,37 +154,37 @@ static void serves(uint32_t client, uint32_t place)
  * other. */
 static void round_cases(void)
 {
-    four_clients("the round of twenty places");
-    for (uint32_t k = 0; k < 20u * 20u * 20u; k++) {
-        uint32_t mark = k % 20u, one = k / 20u % 20u, other = k / 400u, from = (mark + 1u) % 20u;
-        uint32_t nearer = (one + 20u - from) % 20u <= (other + 20u - from) % 20u ? one : other;
+    four_clients("the round of twenty-eight places");
+    for (uint32_t k = 0; k < 28u * 28u * 28u; k++) {
+        uint32_t mark = k % 28u, one = k / 28u % 28u, other = k / 784u, from = (mark + 1u) % 28u;
+        uint32_t nearer = (one + 28u - from) % 28u <= (other + 28u - from) % 28u ? one : other;
         owe(0, 1u << one | 1u << other, mark);
         serves(0, nearer);
-        if (one != other && one % 10u != 9 && other % 10u != 9) {
+        if (one != other && one % 14u != 13 && other % 14u != 13) {
             serves(0, nearer == one ? other : one);
             takes_nothing();
         }
     }
 }
 
-/* All four are owed all there is: every place is served once in eighty takes, the last at the eightieth. */
+/* All four are owed all there is: every place is served once in 112 takes, the last at the 112th. */
 static void bound_cases(void)
 {
     uint64_t longest = 0;
     four_clients("all that can be owed");
-    expect("the bound", BOUND, 80);
+    expect("the bound", BOUND, 112);
     for (uint32_t client = 0; client < MCS_CLIENTS; client++) {
         poke_number(MCS_AT_LINK(client) + MCS_IN_CONNECTED, 1, 1);
         poke_number(MCS_AT_LINK(client) + MCS_IN_ENCRYPTED, 1, 1);
-        owe(client, (1u << PLACES) - 1u, (7u * client + 3u) % 20u);
+        owe(client, (1u << PLACES) - 1u, (7u * client + 3u) % 28u);
     }
     poke_number(MCS_AT_TURN, 1, 4);
-    for (uint32_t k = 0; k < 80; k++) {
+    for (uint32_t k = 0; k < 112; k++) {
         uint32_t client = (2u + k) % 4u;
-        serves(client, ((7u * client + 3u) % 20u + 1u + k / 4u) % 20u);
+        serves(client, ((7u * client + 3u) % 28u + 1u + k / 4u) % 28u);
         longest = both->waited.of_served > longest ? both->waited.of_served : longest;
     }
-    expect("the takes before the one that served what waited longest", (int64_t)longest, 79);
+    expect("the takes before the one that served what waited longest", (int64_t)longest, 111);
     /* "Each has its own player state, name, subscriptions and results": of each eight, one was handed out. */
     for (uint32_t k = 0; k < 7u * 8u; k++) {
         makes(blank(TAKE), 0);
@@ -208,13 +209,13 @@ static void link_cases(void)
         for (tried_service = 0; tried_service < MCS_SERVICES; tried_service++) {
             expect("octets of the account that are not 0", memcmp(both->octets + account_at(1, 0), clean, 36) != 0, 0);
         }
-        expect("the mark", word_at(both->octets + MCS_AT_LINK(1) + MCS_IN_MARK), 19);
+        expect("the mark", word_at(both->octets + MCS_AT_LINK(1) + MCS_IN_MARK), 27);
         expect("ATT_MTU", word_at(both->octets + MCS_AT_LINK(1) + MCS_IN_MTU), k == 0 ? 23 : 64);
         makes(come, k == 0 ? 0 : MCS_ALREADY_CONNECTED);
     }
     tried_service = MCS_GENERIC;
     /* The round begins at the generic service's lowest slot. */
-    owe(1, (1u << PLACES) - 1u, 19);
+    owe(1, (1u << PLACES) - 1u, 27);
     serves(1, 0);
 }
 
@@ -266,7 +267,8 @@ static void results_cases(void)
     expect("the other's media state", both->library_said.out[0], MCS_INACTIVE);
 }
 
-/* 8 and 15 are not owed to the client that wrote them, and nothing of it to anyone in the other service. */
+/* 8 and 15 are not owed to the client that wrote them, but the next track, which another order changes, is (W-209); and nothing of it
+ * to anyone in the other service. */
 static void owed_cases(void)
 {
     static const uint32_t WRITTEN[2] = {MCS_PLAYBACK_SPEED, MCS_PLAYING_ORDER};
@@ -279,6 +281,9 @@ static void owed_cases(void)
         makes(other(listen), 0);
         makes(s, 0);
         takes(1, WRITTEN[k], "\5", 1);
+        if (WRITTEN[k] == MCS_PLAYING_ORDER) {
+            takes(0, MCS_NEXT_TRACK_OBJECT, "", 0);
+        }
         takes_nothing();
     }
 }

@@ -31,34 +31,53 @@ static const struct {
     {"a command", WRITE, OCTETS, MCS_CONTROL_POINT, MCS_BAD_LENGTH},
     {"a card", CARD_LOAD, OCTETS, 0, MCS_BAD_CARD_LENGTH},
     {"a cue sheet", CUE_SHEET, OCTETS, 0, MCS_LONG_SHEET},
+    {"the number of a track", WRITE, OCTETS, MCS_TRACK_OBJECT, MCS_BAD_LENGTH},
+    {"the number of a next track", WRITE, OCTETS, MCS_NEXT_TRACK_OBJECT, MCS_BAD_LENGTH},
+    {"the number of a group", WRITE, OCTETS, MCS_GROUP_OBJECT, MCS_BAD_LENGTH},
+    {"a group's object", GROUP_OBJECT_READ, OCTETS, 0, MCS_BAD_ENTRIES},
+    {"a track's segments", SEGMENTS_OBJECT_READ, OCTETS, 0, MCS_BAD_ENTRIES},
     {"the output of a read", READ, OUTPUT, MCS_DURATION, MCS_OK},
     {"the output of a take", TAKE, OUTPUT, 0, MCS_OK},
     {"the room of groups", CARD_LOAD, ROOM + GROUPS, 0, MCS_OK},
     {"the room of tracks", CARD_LOAD, ROOM + TRACKS, 0, MCS_OK},
     {"the room of segments", CARD_LOAD, ROOM + SEGMENTS, 0, MCS_OK},
     {"the room of text", CARD_LOAD, ROOM + TEXT, 0, MCS_OK},
-    {"the room of starts", CUE_SHEET, STARTS, 0, MCS_OK},
+    {"the room of starts", CUE_SHEET, ENTRIES, 0, MCS_OK},
     {"the room of a card", CARD_WRITE, WRITTEN, 0, MCS_OK},
+    {"the room of a group's object", GROUP_OBJECT_WRITE, WRITTEN, 0, MCS_OK},
+    {"the room of a track's segments", SEGMENTS_OBJECT_WRITE, WRITTEN, 0, MCS_OK},
+    {"the room of a group's entries", GROUP_OBJECT_READ, ENTRIES, 0, MCS_OK},
+    {"the room of a track's positions", SEGMENTS_OBJECT_READ, ENTRIES, 0, MCS_OK},
 };
 
 static tables sample, loaded;
 static card made, written;
 static uint8_t octets[MCS_STATE_OCTETS], out[MCS_OUTPUT_OCTETS], line_of_0[17];
 static ref_state state;
-static uint32_t word, served[SERVED_WORDS], counts[4], block, line, track, octet, starts[1];
+static uint32_t word, served[SERVED_WORDS], counts[4], block, line, track, octet, entries[MCS_GROUP_ENTRY_WORDS];
+static size_t count;
 
-/* A call on the sample that is accepted: the octet 1 is a name, a speed, an order and Play. */
+/* The length of a value that is written. */
+static size_t value_length(uint32_t what)
+{
+    int has_object = what == MCS_TRACK_OBJECT || what == MCS_NEXT_TRACK_OBJECT || what == MCS_GROUP_OBJECT;
+    return what == MCS_POSITION ? 4 : has_object ? MCS_OBJECT_OCTETS : 1;
+}
+
+/* A call on the sample that is accepted, but for the number of an object while Inactive: the octet 1 is a name, a speed, an order
+ * and Play, and octets of 0 an entry of either object. */
 static call right_call(uint32_t kind, uint32_t what)
 {
-    static const uint8_t ONE[4] = {1};
+    static const uint8_t ONE[MCS_OBJECT_OCTETS] = {1}, ENTRY[MCS_GROUP_ENTRY_OCTETS] = {0};
     call c = {.kind = kind, .what = what, .catalogue = lent(&sample), .octets = ONE, .out = out, .out_len = sizeof out};
     c.number = kind == CONNECT ? 23 : 0;
     for (uint32_t k = 0; k < MCS_SERVICES; k++) {
         c.players[k].name = ONE;
         c.players[k].name_len = 1;
     }
-    c.length = what == MCS_POSITION ? 4 : 1;
+    c.length = value_length(what);
     c.word = &word;
+    c.count = &count;
     c.served = served;
     c.counts = counts;
     c.block = &block;
@@ -66,16 +85,19 @@ static call right_call(uint32_t kind, uint32_t what)
     c.track = &track;
     c.octet = &octet;
     c.room = whole_room(&loaded);
-    c.starts = starts;
-    c.starts_len = 1;
-    c.card = written.octets;
-    c.card_len = sizeof written.octets;
+    c.entries = entries;
+    c.entries_len = sizeof entries / sizeof entries[0];
+    c.written = written.octets;
+    c.written_len = sizeof written.octets;
     if (kind == CARD_LOAD) {
         c.octets = made.octets;
         c.length = made.length;
     } else if (kind == CUE_SHEET) {
         c.octets = line_of_0;
         c.length = sizeof line_of_0;
+    } else if (reads_object(kind)) {
+        c.octets = ENTRY;
+        c.length = kind == GROUP_OBJECT_READ ? MCS_GROUP_ENTRY_OCTETS : MCS_SEGMENT_ENTRY_OCTETS;
     }
     return c;
 }
@@ -119,6 +141,8 @@ unsigned long play_wide_lengths(FILE *to)
         call c = right_call(CASES[k].kind, CASES[k].characteristic);
         size_t entries = CASES[k].number == MCS_OK ? 0 : lent_entries(&c, CASES[k].buffer);
         memcpy(space, lent_at(&c, CASES[k].buffer), lent_octets(&c, CASES[k].buffer));
+        /* Behind what would be lent without the upper half no entry begins, so that nobody has to look further. */
+        memset((uint8_t *)space + lent_octets(&c, CASES[k].buffer), 0xFF, CASES[k].number == MCS_BAD_ENTRIES ? 2 : 0);
         lend_at(&c, CASES[k].buffer, space);
         lend_entries(&c, CASES[k].buffer, MORE + entries);
         wrong += !give(to, CASES[k].what, c, CASES[k].number);

@@ -17,6 +17,7 @@
 #define upper_lets_pass(t, ...) upper_lets_pass(HERE(t), __VA_ARGS__)
 #define upper_writes(t, ...) upper_writes(HERE(t), __VA_ARGS__)
 #define upper_controls(t, ...) upper_controls(HERE(t), __VA_ARGS__)
+#define upper_writes_object(t, ...) upper_writes_object(HERE(t), __VA_ARGS__)
 #define upper_confirms(t, ...) upper_confirms(HERE(t), __VA_ARGS__)
 #define lower_subscribes(t, ...) lower_subscribes(HERE(t), __VA_ARGS__)
 #define lower_unsubscribes(t, ...) lower_unsubscribes(HERE(t), __VA_ARGS__)
@@ -25,15 +26,26 @@
 #define third_connects_unencrypted(t) third_connects_unencrypted(HERE(t))
 #define lower_writes(t, ...) lower_writes(HERE(t), __VA_ARGS__)
 #define lower_writes_position(t, ...) lower_writes_position(HERE(t), __VA_ARGS__)
+#define lower_writes_object(t, ...) lower_writes_object(HERE(t), __VA_ARGS__)
 #define lower_commands(t, ...) lower_commands(HERE(t), __VA_ARGS__)
 #define lower_controls(t, ...) lower_controls(HERE(t), __VA_ARGS__)
 #define lower_commands_position(t, ...) lower_commands_position(HERE(t), __VA_ARGS__)
 #define expect_reads(t, ...) expect_reads(HERE(t), __VA_ARGS__)
+#define lower_reads_object(t, ...) lower_reads_object(HERE(t), __VA_ARGS__)
 #define expect_reads_text(t, ...) expect_reads_text(HERE(t), __VA_ARGS__)
 #define expect_command_ignored(t, ...) expect_command_ignored(HERE(t), __VA_ARGS__)
 #define expect_read_refused(t, ...) expect_read_refused(HERE(t), __VA_ARGS__)
 #define expect_write_refused(t, ...) expect_write_refused(HERE(t), __VA_ARGS__)
 #define expect_subscription_refused(t, ...) expect_subscription_refused(HERE(t), __VA_ARGS__)
+#define expect_object_refused(t, ...) expect_object_refused(HERE(t), __VA_ARGS__)
+#define fetch_group(t, ...) fetch_group(HERE(t), __VA_ARGS__)
+#define fetch_segments(t, ...) fetch_segments(HERE(t), __VA_ARGS__)
+#define expect_lists(t, ...) expect_lists(HERE(t), __VA_ARGS__)
+#define expect_in_segment(t, ...) expect_in_segment(HERE(t), __VA_ARGS__)
+#define expect_same_object(t, ...) expect_same_object(HERE(t), __VA_ARGS__)
+#define expect_other_object(t, ...) expect_other_object(HERE(t), __VA_ARGS__)
+#define expect_objects_of(t, ...) expect_objects_of(HERE(t), __VA_ARGS__)
+#define expect_told(t, ...) expect_told(HERE(t), __VA_ARGS__)
 #define expect_notified(t, ...) expect_notified(HERE(t), __VA_ARGS__)
 #define expect_notified_text(t, ...) expect_notified_text(HERE(t), __VA_ARGS__)
 #define expect_result(t, ...) expect_result(HERE(t), __VA_ARGS__)
@@ -62,10 +74,11 @@ struct tested_case {
 void from_inactive(struct tester *t);
 #define END_OF_CASES {NULL, NULL, NULL, NULL, NULL, 0, 0, 0}
 
-/* The initial condition of 4.4.7 to 4.4.13. */
+/* The initial condition of 4.4.7 to 4.4.10, and that of 4.4.11 to 4.4.13. */
 #define TRACK_CCCDS                                                                                                            \
     (CCCD(MCS_CONTROL_POINT) | CCCD(MCS_MEDIA_STATE) | CCCD(MCS_TRACK_CHANGED) | CCCD(MCS_POSITION) | CCCD(MCS_DURATION) |      \
-     CCCD(MCS_TITLE))
+     CCCD(MCS_TITLE) | CCCD(MCS_TRACK_OBJECT))
+#define GROUP_CCCDS (TRACK_CCCDS | CCCD(MCS_GROUP_OBJECT))
 
 /* In the suite's order. */
 extern const struct tested_case gatt_cases[];      /* 4.3 */
@@ -83,12 +96,13 @@ unsigned show_wrong_things(struct tester *t, unsigned *seen);
 /* Every step of the suite is met, wherever the suite leaves a start, a catalogue or a value open. */
 #define PASS "pass"
 
-/* Not wherever it leaves one open: for some, document 01 chooses otherwise than the suite expects. Both are run, what the suite
- * expects and what document 01 does. docs/CONFORMANCE.md has a row for each choice. */
+/* Not wherever it leaves one open: for some, document 01 or document 02 chooses otherwise than the suite expects. Both are run,
+ * what the suite expects and what the document says. docs/CONFORMANCE.md has a row for each choice. */
 #define CHOICE(which) "document 01's choice: " which
+#define CHOICE_OF_02(which) "document 02's choice: " which
 
 /* "A slot is owed to a subscribed client when a call changes its value." */
-#define EQUAL_UNSENT "an equal title or duration is not sent"
+#define EQUAL_UNSENT "an equal title, duration or Object ID is not sent"
 #define STAYING_UNSENT "a Goto that leads to where the player is sends its result alone"
 #define STOPPED_AT_0 "a Stop at position 0 sends no Track Position"
 #define UNMOVED_UNSENT "a write that leaves the position sends nothing"
@@ -99,6 +113,9 @@ unsigned show_wrong_things(struct tester *t, unsigned *seen);
 #define SINGLE_ORDERS "in the orders 1 and 2 the current track is the whole list"
 /* "Group moves run over the groups of the same parent that have tracks, group 0 left out" */
 #define EMPTY_GROUPS "groups without tracks are passed over"
+/* W-209: "a group's child groups by number ..., then its tracks by number" */
+#define EMPTY_LISTED "a parent's object lists groups without tracks too"
+#define TRACKS_BY_NUMBER "an object lists tracks by number in the orders 5 to 8 too"
 /* 0x0D "for 18: 0, over 5, or not 1 or 5 as a known opcode asks" */
 #define LENGTH_FIRST "a wrong length is refused (0x0D), without a result"
 

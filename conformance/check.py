@@ -7,8 +7,9 @@ Every case of the suite has one row of the page, with its name and items. It app
 each of its items; then the program has run it, once, on the core's service that the header has for it (MCS_GENERIC for GMCS,
 MCS_NAMED for MCS), with an expectation at least, and printed the row's verdict, file and function. Where an answer is no, the row
 says so with the answer's reason, and the program has not run it. The answer is yes for the characteristics and opcodes that the
-header has, and for no others. A choice of document 01 that a verdict names has its row in the page's table of choices, which names
-the cases. Numbers in the page are those of the run. With --suite, TEXT is the suite's own text, and suite.txt must say the same.
+header has, and for no others. A choice that a verdict names has its row in the page's table of choices, which names the same
+document and the cases. Numbers in the page are those of the run. With --suite, TEXT is the suite's own text, and suite.txt must say
+the same.
 
 Exit 1 and a line for each difference, or exit 0 and one line."""
 import collections
@@ -22,8 +23,9 @@ CASES = 234  # of MCS.TS.p5
 TCID = r"G?MCS/SR(?:/[A-Z]+)+/B[VI]-\d+-C"
 RUN = re.compile(r"(%s) (.+) \[service (\d+), (\S+) (\w+), (\d+) expectations\]" % TCID)
 SERVICES = {"GMCS": "MCS_GENERIC", "MCS": "MCS_NAMED"}  # the front of a TCID to the service's name in the header
-CHOICE, NOT = "document 01's choice", "does not apply"
-KINDS = ("pass", CHOICE, "pass in part", NOT)
+CHOICES, NOT = "a document's choice", "does not apply"
+CHOICE = re.compile(r"(document 0[12])'s choice: ")  # before the choices of a verdict that are that document's
+KINDS = ("pass", CHOICES, "pass in part", NOT)
 
 differences = []
 
@@ -159,22 +161,28 @@ def compare_rows(suite, rows, answers, run):
     return {tcid: verdict for tcid, (_, _, verdict, _) in written.items()}
 
 
+def the_kind(verdict):
+    return CHOICES if CHOICE.match(verdict) else verdict.split(": ")[0]
+
+
 def compare_choices(verdicts, rows):
-    """Each choice that a verdict names has a row, and a row names the cases whose verdicts name it: 'MCP/BV-30 to -32, -34'."""
+    """Each choice that a verdict names has a row, of the same document, and a row names the cases whose verdicts name it, as in
+    'MCP/BV-30 to -32, -34'."""
     named = collections.defaultdict(set)
     for tcid, verdict in verdicts.items():
-        if verdict.startswith(CHOICE):
-            for choice in verdict.split(": ", 1)[1].split("; "):
-                named[choice].add(re.search(r"\w+/B[VI]-\d+", tcid)[0])
+        parts = CHOICE.split(verdict)[1:]
+        for whose, choices in zip(parts[::2], parts[1::2]):
+            for choice in choices.removesuffix("; ").split("; "):
+                named[whose, choice].add(re.search(r"\w+/B[VI]-\d+", tcid)[0])
     explained = {}
-    for choice, _, _, cases in rows:
-        once(explained, choice, set(), "among the choices")
+    for choice, whose, _, _, cases in rows:
+        once(explained, (whose, choice), set(), "among the choices")
         for group, first, last in re.findall(r"(?:(\w+/B[VI])|, )-(\d+)(?: to -(\d+))?", cases):
             front = group or front
-            explained[choice].update("%s-%02d" % (front, number) for number in range(int(first), int(last or first) + 1))
-    for choice in sorted(named.keys() | explained.keys()):
-        if named.get(choice) != explained.get(choice):
-            differs("%s: named by %s, explained for %s", choice, sorted(named.get(choice, ())), sorted(explained.get(choice, ())))
+            explained[whose, choice].update("%s-%02d" % (front, number) for number in range(int(first), int(last or first) + 1))
+    for key in sorted(named.keys() | explained.keys()):
+        if named.get(key) != explained.get(key):
+            differs("%s, %s: named by %s, explained for %s", *key, sorted(named.get(key, ())), sorted(explained.get(key, ())))
 
 
 def main(arguments):
@@ -192,9 +200,9 @@ def main(arguments):
     compare_header(suite, answers)
     verdicts = compare_rows(suite, tables[("TCID", "case", "TCMT item", "verdict", "run by")], answers, run)
 
-    compare_choices(verdicts, tables[("choice", "the suite", "document 01", "cases")])
+    compare_choices(verdicts, tables[("choice", "whose", "the suite", "what is chosen", "cases")])
 
-    counts = collections.Counter(verdict.split(": ")[0] for verdict in verdicts.values())
+    counts = collections.Counter(the_kind(verdict) for verdict in verdicts.values())
     counted = {kind: str(counts[kind]) for kind in (*KINDS, *counts)} | {"all": str(len(verdicts))}
     summary = {kind: number for kind, number, _ in tables[("verdict", "cases", "meaning")]}
     if summary != counted:

@@ -1,4 +1,4 @@
-/* 4.3 Generic GATT Integrated Tests: the rows of Table 4.2 for the thirteen characteristics of the core.
+/* 4.3 Generic GATT Integrated Tests: the rows of Table 4.2 for the eighteen characteristics of the core.
  *
  * The table is the input of a procedure of GATT.TS, 6.3, on declarations, handles, UUIDs and descriptors, which are attributes
  * of the host's GATT server. What has to stand in them is shown here by what the core takes and refuses: reads, writes by both
@@ -9,15 +9,32 @@
 /* Properties as in Table 4.2; WRITE is both Write and Write Without Response, which stand together in every row. */
 enum { READ = 0x02, WRITE = 0x0C, NOTIFY = 0x10 };
 
+/* What is written first, and then: positions, speeds and orders of 1 and 2; to the Media Control Point Play and Pause, which lead
+ * to the states 1 and 2; the Object IDs of the tracks 1 and 2 and of the groups 3 and 1 of the sample. */
+static long long written(uint32_t characteristic, uint32_t time)
+{
+    switch (characteristic) {
+    case MCS_TRACK_OBJECT:
+    case MCS_NEXT_TRACK_OBJECT:
+        return MCS_OBJECT_OF_TRACK(time);
+    case MCS_GROUP_OBJECT:
+        return MCS_OBJECT_OF_GROUP(time == 1 ? 3u : 1u);
+    default:
+        return time;
+    }
+}
+
 /* A client that is not encrypted is refused what is offered; what is not offered is refused to everyone. The Lower Tester is
  * subscribed afterwards, where that is offered. */
 static void properties(struct tester *t, uint32_t characteristic, int offered)
 {
-    /* Positions, speeds and orders of 1 and 2; to the Media Control Point Play and Pause, which lead to the states 1 and 2. */
-    static const uint8_t one[6] = {1}, two[6] = {2};
     const uint32_t seen_in = characteristic == MCS_CONTROL_POINT ? MCS_MEDIA_STATE : characteristic;
-    const size_t length = characteristic == MCS_POSITION ? 4 : 1;
+    const bool is_object = characteristic >= MCS_SEGMENTS_OBJECT && characteristic <= MCS_GROUP_OBJECT;
+    const size_t length = is_object ? MCS_OBJECT_OCTETS : characteristic == MCS_POSITION ? 4 : 1;
+    uint8_t one[MCS_OBJECT_OCTETS + 1] = {0}, two[MCS_OBJECT_OCTETS + 1] = {0};
 
+    mcs_put_object(one, (uint64_t)written(characteristic, 1));
+    mcs_put_object(two, (uint64_t)written(characteristic, 2));
     third_connects_unencrypted(t);
     if ((offered & READ) != 0) {
         expect_read_refused(t, THIRD(t), characteristic, 0, MCS_NOT_ENCRYPTED); /* the cases read it themselves */
@@ -26,9 +43,9 @@ static void properties(struct tester *t, uint32_t characteristic, int offered)
     }
     if ((offered & WRITE) != 0) {
         lower_writes(t, characteristic, one, length);
-        expect_reads(t, seen_in, 1);
+        expect_reads(t, seen_in, written(characteristic, 1));
         lower_commands(t, characteristic, two, length);
-        expect_reads(t, seen_in, 2);
+        expect_reads(t, seen_in, written(characteristic, 2));
         expect_write_refused(t, THIRD(t), characteristic, one, length, MCS_NOT_ENCRYPTED);
     } else {
         expect_write_refused(t, LOWER(t), characteristic, one, length, MCS_NOT_WRITABLE);
@@ -167,6 +184,115 @@ static void seeking_speed(struct tester *t)
     expect_reads(t, MCS_SEEKING_SPEED, 4);
 }
 
+/* 3.10: Read; length left out */
+static void track_segments_object(struct tester *t)
+{
+    preamble(t, &SAMPLE_LINES);
+    expect_reads(t, MCS_SEGMENTS_OBJECT, NO_OBJECT);
+    active(t);
+    properties(t, MCS_SEGMENTS_OBJECT, READ);
+    expect_reads(t, MCS_SEGMENTS_OBJECT, MCS_OBJECT_OF_SEGMENTS(0));
+    /* Document 02's choice, against 001, 3.10: "or none ... for 10 where the track has no segments". No case of the suite asks for
+     * it. */
+    upper_activates(t, 3);
+    expect_reads(t, MCS_SEGMENTS_OBJECT, NO_OBJECT);
+}
+
+/* W-209: "0x13 for any other number, a group without tracks in 14 and while Inactive". The sample's group 1 has the tracks 0 to 2;
+ * its groups 0 and 2 have none, and there is no group 4. */
+#define NOT_ALLOWED 4u
+static const long long no_such_track[NOT_ALLOWED] = {MCS_OBJECT_OF_TRACK(3), MCS_OBJECT_OF_TRACK(4), MCS_OBJECT_OF_GROUP(1), 0};
+static const long long no_such_group[NOT_ALLOWED] = {MCS_OBJECT_OF_GROUP(0), MCS_OBJECT_OF_GROUP(2), MCS_OBJECT_OF_GROUP(4), 0};
+
+/* 3.11, 3.12 and 3.14: Read, Write, Write Without Response, Notify; length left out. What it reads before anything is written, two
+ * numbers that may be written, and some that may not. */
+static void writable_object(struct tester *t, uint32_t characteristic, long long before, long long one, long long other,
+                            const long long not_allowed[NOT_ALLOWED])
+{
+    preamble(t, &SAMPLE_LINES);
+    expect_reads(t, characteristic, NO_OBJECT);
+    expect_object_refused(t, characteristic, one);
+    active(t);
+    expect_reads(t, characteristic, before);
+    properties(t, characteristic, READ | WRITE | NOTIFY);
+    upper_writes_object(t, characteristic, one);
+    expect_notified(t, characteristic, one);
+    /* 001, 3.11.1, 3.12.1 and 3.14.1: not to the client that wrote it */
+    lower_writes_object(t, characteristic, other);
+    expect_silence(t);
+    expect_reads(t, characteristic, other);
+    for (size_t k = 0; k < NOT_ALLOWED; k++) {
+        expect_object_refused(t, characteristic, not_allowed[k]);
+    }
+    /* All 48 bits count; the sample has fewer tracks and groups than four bits do. */
+    for (uint32_t bit = 4; bit < 48; bit++) {
+        expect_object_refused(t, characteristic, one ^ 1LL << bit);
+    }
+    lower_unsubscribes(t, CCCD(characteristic));
+    upper_writes_object(t, characteristic, one);
+    expect_silence(t);
+    expect_reads(t, characteristic, one);
+}
+
+/* 001, 3.11.1 and 3.14.1: what is written leads there, to position 0; by document 02 the state stays, and Seeking becomes Playing.
+ * On the archive, in order 5, by rising stamp. */
+static void object_leads_to(struct tester *t, uint32_t characteristic, long long object, uint32_t group, uint32_t track)
+{
+    static const uint8_t states[] = {MCS_PLAYING, MCS_PAUSED, MCS_SEEKING};
+
+    for (size_t s = 0; s < sizeof states; s++) {
+        const struct setting from = {5, 1, 0, 700, states[s]};
+        const struct setting to = {5, group, track, 0, states[s] == MCS_SEEKING ? MCS_PLAYING : states[s]};
+        preamble(t, &ARCHIVE_LINES);
+        upper_orders(t, from);
+        lower_writes_object(t, characteristic, object);
+        expect_reads(t, MCS_SEEKING_SPEED, 0);
+        expect_objects_of(t, to);
+        upper_confirms(t, to);
+    }
+}
+
+static void track_object(struct tester *t)
+{
+    writable_object(t, MCS_TRACK_OBJECT, MCS_OBJECT_OF_TRACK(0), MCS_OBJECT_OF_TRACK(1), MCS_OBJECT_OF_TRACK(0), no_such_track);
+    object_leads_to(t, MCS_TRACK_OBJECT, MCS_OBJECT_OF_TRACK(2), 1, 2);
+}
+
+/* Before one is named: order 3, so track 1 behind track 0. The current track may be named too. */
+static void next_track_object(struct tester *t)
+{
+    writable_object(t, MCS_NEXT_TRACK_OBJECT, MCS_OBJECT_OF_TRACK(1), MCS_OBJECT_OF_TRACK(1), MCS_OBJECT_OF_TRACK(0),
+                    no_such_track);
+}
+
+static void group_object(struct tester *t)
+{
+    writable_object(t, MCS_GROUP_OBJECT, MCS_OBJECT_OF_GROUP(1), MCS_OBJECT_OF_GROUP(3), MCS_OBJECT_OF_GROUP(1), no_such_group);
+    object_leads_to(t, MCS_GROUP_OBJECT, MCS_OBJECT_OF_GROUP(6), 6, 12);
+}
+
+/* 3.13: Read, Notify; length left out. Of the archive's groups 1 and 3 have the parent 0, 5 and 7 the parent 3. */
+static void parent_group_object(struct tester *t)
+{
+    struct setting setting = {3, 5, 9, 0, MCS_PAUSED};
+
+    preamble(t, &ARCHIVE_LINES);
+    expect_reads(t, MCS_PARENT_GROUP_OBJECT, NO_OBJECT);
+    upper_orders(t, setting);
+    properties(t, MCS_PARENT_GROUP_OBJECT, READ | NOTIFY);
+    expect_reads(t, MCS_PARENT_GROUP_OBJECT, MCS_OBJECT_OF_GROUP(3));
+    upper_activates(t, 1);
+    expect_notified(t, MCS_PARENT_GROUP_OBJECT, MCS_OBJECT_OF_GROUP(0));
+    upper_activates(t, 3);
+    expect_silence(t);
+    /* The client that changes it by writing another one is told. */
+    lower_writes_object(t, MCS_GROUP_OBJECT, MCS_OBJECT_OF_GROUP(7));
+    expect_notified(t, MCS_PARENT_GROUP_OBJECT, MCS_OBJECT_OF_GROUP(3));
+    lower_unsubscribes(t, CCCD(MCS_PARENT_GROUP_OBJECT));
+    upper_activates(t, 1);
+    expect_silence(t);
+}
+
 /* 3.15: Read, Write, Write Without Response, Notify; length 1 */
 static void playing_order(struct tester *t)
 {
@@ -257,6 +383,11 @@ const struct tested_case gatt_cases[] = {
     CASE("/SR/SGGIT/CHA/BV-07-C", IN_PART, track_position, 0, 0, 0),
     CASE("/SR/SGGIT/CHA/BV-08-C", IN_PART, playback_speed, 0, 0, 0),
     CASE("/SR/SGGIT/CHA/BV-09-C", IN_PART, seeking_speed, 0, 0, 0),
+    CASE("/SR/SGGIT/CHA/BV-10-C", IN_PART, track_segments_object, 0, 0, 0),
+    CASE("/SR/SGGIT/CHA/BV-11-C", IN_PART, track_object, 0, 0, 0),
+    CASE("/SR/SGGIT/CHA/BV-12-C", IN_PART, next_track_object, 0, 0, 0),
+    CASE("/SR/SGGIT/CHA/BV-13-C", IN_PART, parent_group_object, 0, 0, 0),
+    CASE("/SR/SGGIT/CHA/BV-14-C", IN_PART, group_object, 0, 0, 0),
     CASE("/SR/SGGIT/CHA/BV-15-C", IN_PART, playing_order, 0, 0, 0),
     CASE("/SR/SGGIT/CHA/BV-16-C", IN_PART, playing_orders_supported, 0, 0, 0),
     CASE("/SR/SGGIT/CHA/BV-17-C", IN_PART, media_state, 0, 0, 0),

@@ -12,11 +12,14 @@ static void expect_no_track(struct tester *t)
     expect_reads_text(t, MCS_TITLE, "");
     expect_reads(t, MCS_DURATION, UNAVAILABLE);
     expect_reads(t, MCS_POSITION, UNAVAILABLE);
+    for (uint32_t object = MCS_SEGMENTS_OBJECT; object <= MCS_GROUP_OBJECT; object++) {
+        expect_reads(t, object, NO_OBJECT);
+    }
 }
 
 static void inactive_with(struct tester *t, int64_t number)
 {
-    /* The steps before the write read Media State, Track Duration or Track Position. */
+    /* The steps before the write read Media State, Track Duration, Track Position or Object IDs. */
     expect_no_track(t);
     lower_controls(t, t->opcode, number);
     expect_result(t, t->opcode, MCS_RESULT_INACTIVE);

@@ -21,7 +21,10 @@ unsigned show_wrong_things(struct tester *t, unsigned *seen)
 {
     static const uint8_t order_5[1] = {5}, order_9[1] = {9}, others_order[1] = {OTHERS_ORDER}, unknown[1] = {0xFF};
     const struct setting beyond_the_end = {3, 1, 0, 6001, MCS_PAUSED}, in_another_group = {3, 1, 3, 0, MCS_PAUSED};
+    static const uint32_t groups[] = {1, 2, 3}, tracks[] = {0, 1, 2}; /* that the sample's group 0 lists, and that group 1 does */
     const char *title = LONG_TITLES_LINES.tracks[0].title;
+    struct group_object group;
+    struct segments_object segments;
     unsigned shown = 0;
 
 #define WRONG(what)                                                                                                            \
@@ -85,6 +88,44 @@ unsigned show_wrong_things(struct tester *t, unsigned *seen)
         WRONG(upper_confirms(t, elsewhere));
     }
 
+    /* Object IDs: other numbers, none where there is one and one where there is none, what is no Object ID; numbers that the core
+     * does not take, and one that it does */
+    WRONG(expect_reads(t, MCS_TRACK_OBJECT, MCS_OBJECT_OF_TRACK(1)));
+    WRONG(expect_reads(t, MCS_TRACK_OBJECT, MCS_OBJECT_OF_TRACK(0) | 1LL << 40));
+    WRONG(expect_reads(t, MCS_GROUP_OBJECT, NO_OBJECT));
+    WRONG((void)lower_reads_object(t, MCS_TITLE));
+    WRONG((void)lower_reads_object(t, MCS_CONTROL_POINT));
+    WRONG(lower_writes_object(t, MCS_TRACK_OBJECT, MCS_OBJECT_OF_TRACK(3)));
+    WRONG(upper_writes_object(t, MCS_GROUP_OBJECT, MCS_OBJECT_OF_GROUP(2)));
+    WRONG(expect_object_refused(t, MCS_NEXT_TRACK_OBJECT, MCS_OBJECT_OF_TRACK(2)));
+    WRONG(expect_same_object(t, MCS_OBJECT_OF_TRACK(0), MCS_OBJECT_OF_GROUP(0)));
+    WRONG(expect_other_object(t, NO_OBJECT, NO_OBJECT));
+    for (int field = 0; field < 2; field++) {
+        struct setting elsewhere = paused;
+        elsewhere.group = field == 0 ? 3 : paused.group;
+        elsewhere.track = field == 1 ? 1 : paused.track;
+        WRONG(expect_objects_of(t, elsewhere));
+    }
+
+    /* Objects that are not there, and others than those that are; segments that a position is not in */
+    begin(t);
+    WRONG(fetch_group(t, MCS_OBJECT_OF_GROUP(4), &group));
+    WRONG(fetch_group(t, MCS_OBJECT_OF_TRACK(1), &group));
+    WRONG(fetch_group(t, NO_OBJECT, &group));
+    WRONG(fetch_segments(t, MCS_OBJECT_OF_SEGMENTS(1), &segments)); /* track 1 has none */
+    WRONG(fetch_segments(t, MCS_OBJECT_OF_GROUP(1), &segments));
+    fetch_group(t, MCS_OBJECT_OF_GROUP(0), &group);
+    WRONG(expect_lists(t, &group, groups, 2, NULL, 0));
+    WRONG(expect_lists(t, &group, groups, 3, tracks, 1));
+    WRONG(expect_lists(t, &group, tracks, 3, NULL, 0));
+    fetch_group(t, MCS_OBJECT_OF_GROUP(1), &group);
+    WRONG(expect_lists(t, &group, NULL, 0, groups, 3));
+    fetch_segments(t, MCS_OBJECT_OF_SEGMENTS(0), &segments);
+    WRONG(expect_in_segment(t, &segments, 700, 0));
+    WRONG(expect_in_segment(t, &segments, 700, 2));
+    WRONG(expect_in_segment(t, &segments, 1500, 1));
+    WRONG(expect_in_segment(t, &segments, 5000, 4));
+
     /* Parts of a Read Long that are longer or shorter than the ATT_MTU asks, and a notification that is longer */
     preamble_with(t, &LONG_TITLES_LINES, MCS_ALL_OPCODES, 64);
     upper_activates(t, 0);
@@ -104,6 +145,12 @@ unsigned show_wrong_things(struct tester *t, unsigned *seen)
     upper_activates(t, 3);
     WRONG(expect_notified(t, MCS_DURATION, 901));
     WRONG(expect_notified(t, MCS_TITLE, SAMPLE_LINES.tracks[3].title[0]));
+    WRONG(expect_notified(t, MCS_NEXT_TRACK_OBJECT, MCS_OBJECT_OF_TRACK(3))); /* it is the group's only one: none is next */
+    WRONG(expect_reads(t, MCS_NEXT_TRACK_OBJECT, MCS_OBJECT_OF_TRACK(3)));
+    t->cccds = CCCD(MCS_GROUP_OBJECT) | CCCD(MCS_PARENT_GROUP_OBJECT);
+    WRONG(expect_told(t, MCS_GROUP_OBJECT, MCS_OBJECT_OF_GROUP(1), MCS_OBJECT_OF_GROUP(2)));
+    WRONG(expect_told(t, MCS_PARENT_GROUP_OBJECT, MCS_OBJECT_OF_GROUP(1), MCS_OBJECT_OF_GROUP(0)));
+    t->cccds = 0;
     WRONG(expect_silence(t));
     WRONG(upper_lets_pass(t, 0));
     upper_renames(t, "Desk 5");

@@ -97,16 +97,41 @@ static const struct segment_move segment_move[] = {
     {MCS_OPCODE_LAST_SEGMENT, &ARCHIVE_LINES, 8000, 11000},
 };
 
+/* The Result Position of Table 4.7: the number of the segment that the move leads to among those of an object. */
+static size_t segment_of(const struct segment_move *m, const struct segments_object *segments)
+{
+    size_t from = 0; /* the one that it begins in */
+    while (from < segments->count && segments->positions[from] <= m->from) {
+        from++;
+    }
+    switch (m->opcode) {
+    case MCS_OPCODE_FIRST_SEGMENT:
+        return 1;
+    case MCS_OPCODE_LAST_SEGMENT:
+        return segments->count;
+    case MCS_OPCODE_NEXT_SEGMENT:
+        return from + 1;
+    default:
+        /* The one before, or the same, as the server chooses */
+        return from > 0 && m->from - segments->positions[from - 1] < 300 ? from - 1 : from;
+    }
+}
+
 static void segment_moves(struct tester *t)
 {
     for (const struct segment_move *m = segment_move; m < segment_move + sizeof segment_move / sizeof segment_move[0]; m++) {
         for (size_t k = 0; m->opcode == t->opcode && k < CLOCKS(t); k++) {
+            struct segments_object segments;
+            long long object;
             begin(t, m->lines, &clocks[k], m->from);
-            /* Step 2 is for Object IDs. Step 3: Track Position */
+            /* Steps 2 and 3: the segments' Object ID; Track Position */
+            object = lower_reads_object(t, MCS_SEGMENTS_OBJECT);
             expect_reads(t, MCS_POSITION, m->from);
-            /* Steps 4 to 7: the opcode; Media State, if the server chooses so; result; Track Position. Step 8 is for Object IDs. */
+            /* Steps 4 to 8: the opcode; Media State, if the server chooses so; result; Track Position; the object */
             lower_controls(t, t->opcode, 0);
             expect_repositioned(t, m->from, m->to);
+            fetch_segments(t, object, &segments);
+            expect_in_segment(t, &segments, m->to, segment_of(m, &segments));
             expect_time_passing(t, m->to, clocks[k].passes);
         }
     }
@@ -124,15 +149,20 @@ static void goto_segments(struct tester *t, const catalogue_lines *lines, const 
             if (n2 != n1) { /* which round 2 leaves out */
                 const uint32_t to1 = track->starts[n1 - 1], to2 = track->starts[segments - n2];
                 uint32_t position = 1000;
+                struct segments_object listed;
                 begin(t, lines, clock, position);
-                /* Steps 2 and 3 are for Object IDs. Steps 4 to 7 of round 1: Track Position; the opcode; result; Track Position */
+                /* Steps 2 and 3: the segments' Object ID, and the object */
+                fetch_segments(t, lower_reads_object(t, MCS_SEGMENTS_OBJECT), &listed);
+                /* Steps 4 to 7 of round 1: Track Position; the opcode; result; Track Position */
                 expect_reads(t, MCS_POSITION, position);
                 lower_controls(t, t->opcode, n1);
                 expect_repositioned(t, position, to1);
+                expect_in_segment(t, &listed, to1, n1);
                 position = expect_time_passing(t, to1, clock->passes);
                 /* The same of round 2: segment N from the end */
                 lower_controls(t, t->opcode, -(int64_t)n2);
                 expect_repositioned(t, position, to2);
+                expect_in_segment(t, &listed, to2, listed.count - n2 + 1);
             }
         }
     }

@@ -67,6 +67,36 @@ static void update_title_oversized(struct tester *t)
 
 /* ---- 4.6 Service procedures ----------------------------------------------------------------------------------------------- */
 
+/* 4.6.1: group 0 has no parent, and group 1 below it has; the player comes there by activation, and by a write of the group's
+ * Object ID. Step 1 reads the current track's Object ID, and the outcome compares the current group's: both are read. */
+static void no_parent_group(struct tester *t)
+{
+    for (uint32_t group = 0; group < LONG_TITLES_LINES.group_count; group++) {
+        for (size_t s = 0; s < ACTIVE_STATES; s++) {
+            struct setting there = {3, 0, 0, 0, active_states[s]};
+            long long current, parent;
+            begin(t, &LONG_TITLES_LINES, there);
+            if (group != 0) {
+                lower_writes_object(t, MCS_GROUP_OBJECT, MCS_OBJECT_OF_GROUP(group));
+                there.group = group;
+                there.track = group_word(&t->made, group, FIRST_TRACK);
+            }
+            /* Steps 1 and 2 */
+            expect_objects_of(t, there);
+            current = lower_reads_object(t, MCS_GROUP_OBJECT);
+            parent = lower_reads_object(t, MCS_PARENT_GROUP_OBJECT);
+            if (group == 0) {
+                expect_same_object(t, current, parent);
+            } else {
+                expect_other_object(t, current, parent);
+                lower_writes_object(t, MCS_GROUP_OBJECT, parent);
+                expect_reads(t, MCS_GROUP_OBJECT, parent);
+                expect_reads(t, MCS_PARENT_GROUP_OBJECT, parent);
+            }
+        }
+    }
+}
+
 /* 4.6.2. Steps 2 and 3 lead to a third of the duration, D. The suite leaves open where the player is before: from the start, from
  * the end, and from that third itself, where the position does not change (UNMOVED_UNSENT). */
 static void valid_track_position_writes(struct tester *t)
@@ -185,23 +215,28 @@ static void goto_segment_zero(struct tester *t)
 }
 
 /* 4.8.4 and 4.8.5: in every group with tracks, from every track of it, the opcode with 0 keeps the track or the group, and no
- * Track Changed comes of Goto Track. By 001, 3.18.1.16 and 21, the position becomes 0, and Goto Group leads to the group's first
- * track; by document 01 Seeking becomes Playing. (Steps on Object IDs fall away.) */
+ * Track Changed comes of Goto Track, nor the group's Object ID of Goto Group. By 001, 3.18.1.16 and 21, the position becomes 0, and
+ * Goto Group leads to the group's first track; by document 01 Seeking becomes Playing. */
 static void goto_zero(struct tester *t)
 {
+    const uint32_t kept = t->opcode == MCS_OPCODE_GOTO_TRACK ? MCS_TRACK_OBJECT : MCS_GROUP_OBJECT;
     for (size_t c = 0; c < CATALOGUES; c++) {
         for (uint32_t group = 0, track = 0; group < catalogues[c]->group_count; group++) {
             const uint32_t first = track;
             for (; track < first + catalogues[c]->groups[group].tracks; track++) {
                 for (size_t s = 0; s < ACTIVE_STATES; s++) {
                     struct setting at = {3, group, track, catalogues[c]->tracks[track].duration / 2, active_states[s]};
+                    long long object;
                     begin(t, catalogues[c], at);
+                    object = lower_reads_object(t, kept);
                     lower_controls(t, t->opcode, 0);
                     expect_result(t, t->opcode, MCS_RESULT_SUCCESS);
                     expect_silence(t);
+                    expect_same_object(t, lower_reads_object(t, kept), object);
                     at.track = t->opcode == MCS_OPCODE_GOTO_TRACK ? track : first;
                     at.position = 0;
                     at.state = active_states[s] == MCS_SEEKING ? MCS_PLAYING : active_states[s];
+                    expect_objects_of(t, at);
                     upper_confirms(t, at);
                 }
             }
@@ -222,7 +257,7 @@ static void playing_order_ignored(struct tester *t)
             /* Steps 3 and 4: by Write Without Response nothing tells of it; a Write would bring back 0x13. */
             expect_command_ignored(t, MCS_PLAYING_ORDER, &ignored, 1);
             expect_reads(t, MCS_PLAYING_ORDER, order);
-            expect_write_refused(t, LOWER(t), MCS_PLAYING_ORDER, &ignored, 1, MCS_BAD_ORDER);
+            expect_write_refused(t, LOWER(t), MCS_PLAYING_ORDER, &ignored, 1, MCS_NOT_ALLOWED);
         }
     }
 }
@@ -251,16 +286,17 @@ static void invalid_track_position(struct tester *t)
 #define POINT_CCCD CCCD(MCS_CONTROL_POINT)
 #define CHANGED_CCCD CCCD(MCS_TRACK_CHANGED)
 
-/* Tables 4.19, 4.21, 4.22, 4.25, 4.27, 4.28, 4.29, 4.30 and 4.31 */
+/* Tables 4.19, 4.20, 4.21, 4.22, 4.25, 4.27, 4.28, 4.29, 4.30 and 4.31 */
 const struct tested_case procedure_cases[] = {
     CASE("/SR/SPN/BV-01-C", PASS, update_name_oversized, 0, 0, 0),
     CASE("/SR/SPN/BV-02-C", PASS, update_title_oversized, 0, 0, 0),
+    CASE("/SR/SP/BV-01-C", PASS, no_parent_group, 0, 0, 0),
     CASE("/SR/SP/BV-02-C", CHOICE(UNMOVED_UNSENT), valid_track_position_writes, 0, 0, POSITION_CCCD),
     CASE("/SR/SP/BV-03-C", PASS, ccid_has_not_changed, 0, 0, 0),
     CASE("/SR/SPE/BI-01-C", CHOICE(LENGTH_FIRST), opcode_not_supported, 0, 0, POINT_CCCD),
     CASE("/SR/SPE/BI-03-C", PASS, goto_segment_zero, MCS_OPCODE_GOTO_SEGMENT, 0, POSITION_CCCD | POINT_CCCD),
     CASE("/SR/SPE/BI-04-C", PASS, goto_zero, MCS_OPCODE_GOTO_TRACK, 0, CHANGED_CCCD | POINT_CCCD),
-    CASE("/SR/SPE/BI-05-C", PASS, goto_zero, MCS_OPCODE_GOTO_GROUP, 0, POINT_CCCD),
+    CASE("/SR/SPE/BI-05-C", PASS, goto_zero, MCS_OPCODE_GOTO_GROUP, 0, CCCD(MCS_GROUP_OBJECT) | POINT_CCCD),
     CASE("/SR/SPE/BI-06-C", PASS, playing_order_ignored, 0, 0, 0),
     CASE("/SR/SPE/BI-07-C", PASS, invalid_track_position, 0, 0, 0),
     END_OF_CASES,

@@ -164,21 +164,24 @@ static uint32_t started(struct tester *t, uint32_t mask)
     return number;
 }
 
-/* The players that are not tested play in the catalogue's last group with tracks. The Lower Tester subscribes when they are where
- * they stay, so that nothing of them is owed. */
+/* The players that are not tested play in the catalogue's last group with tracks, and its first track is named as the next one.
+ * The Lower Tester subscribes when they are where they stay, so that nothing of them is owed. */
 static void begin_others(struct tester *t)
 {
     static const uint8_t order = OTHERS_ORDER, speed = 0xA0, play = MCS_OPCODE_PLAY, position[4] = {77, 0, 0, 0};
     uint32_t group = t->lines->group_count - 1u;
+    uint8_t named[MCS_OBJECT_OCTETS];
     while (t->lines->groups[group].tracks == 0) {
         group--;
     }
+    mcs_put_object(named, MCS_OBJECT_OF_TRACK(group_word(&t->made, group, FIRST_TRACK)));
     for (uint32_t s = 0; s < MCS_SERVICES; s++) {
         bool done = true;
         if (s != TESTED(t)) {
             done = mcs_desk_write(&t->desk, UPPER(t), s, MCS_PLAYING_ORDER, &order, 1) == MCS_OK &&
                    mcs_desk_write(&t->desk, UPPER(t), s, MCS_PLAYBACK_SPEED, &speed, 1) == MCS_OK &&
                    mcs_desk_activate(&t->desk, s, group) == MCS_OK &&
+                   mcs_desk_write(&t->desk, UPPER(t), s, MCS_NEXT_TRACK_OBJECT, named, sizeof named) == MCS_OK &&
                    mcs_desk_write(&t->desk, UPPER(t), s, MCS_POSITION, position, sizeof position) == MCS_OK &&
                    mcs_desk_write(&t->desk, UPPER(t), s, MCS_CONTROL_POINT, &play, 1) == MCS_OK;
             for (uint32_t bit = 0; bit < SLOTS; bit++) {
@@ -232,6 +235,13 @@ void upper_writes(struct tester *t, uint32_t characteristic, const uint8_t *octe
 }
 
 void upper_controls(struct tester *t, uint8_t opcode) { upper_writes(t, MCS_CONTROL_POINT, &opcode, 1); }
+
+void upper_writes_object(struct tester *t, uint32_t characteristic, long long object)
+{
+    uint8_t octets[MCS_OBJECT_OCTETS];
+    mcs_put_object(octets, (uint64_t)object);
+    upper_writes(t, characteristic, octets, sizeof octets);
+}
 
 static bool is_at(const struct tester *t, struct setting setting)
 {
@@ -300,11 +310,18 @@ void third_connects_unencrypted(struct tester *t)
     STEP(t, "connecting unencrypted", linked(t, mcs_desk_connect(&t->desk, THIRD(t), 23, 0)));
 }
 
-/* A number as the octets of a characteristic say it, and how many there are: document 01, "6, 7, 19 four octets; 16 two; ... the
- * rest one". Durations, positions and speeds are signed (001, 3.6 to 3.9). */
-static long long number_of(uint32_t characteristic, const uint8_t *octets, uint32_t *width)
+/* A number as these octets of a characteristic say it, and how many there should be: document 01, "6, 7, 19 four octets; 16 two;
+ * ... the rest one", and W-209, "six octets, or none". Durations, positions and speeds are signed (001, 3.6 to 3.9). */
+static long long number_of(uint32_t characteristic, const uint8_t *octets, uint32_t length, uint32_t *width)
 {
     switch (characteristic) {
+    case MCS_SEGMENTS_OBJECT:
+    case MCS_TRACK_OBJECT:
+    case MCS_NEXT_TRACK_OBJECT:
+    case MCS_PARENT_GROUP_OBJECT:
+    case MCS_GROUP_OBJECT:
+        *width = length == 0 ? 0 : MCS_OBJECT_OCTETS;
+        return length == 0 ? NO_OBJECT : (long long)mcs_object_at(octets);
     case MCS_DURATION:
     case MCS_POSITION:
         *width = 4;
@@ -330,18 +347,34 @@ static void expect_number(struct tester *t, const char *how, uint32_t characteri
                           long long number)
 {
     uint32_t width;
-    long long is = number_of(characteristic, octets, &width);
+    long long is = number_of(characteristic, octets, length, &width);
     expect(t, length == width && is == number, "%s %s %lld in %u octets, expected %lld in %u", called(characteristic), how, is,
            (unsigned)length, number, (unsigned)width);
+}
+
+/* A read at 0; whether it was accepted. */
+static bool lower_reads(struct tester *t, uint32_t characteristic, uint8_t octets[MCS_OUTPUT_OCTETS], uint32_t *length)
+{
+    uint32_t answer = mcs_desk_read(&t->desk, LOWER(t), TESTED(t), characteristic, 0, octets, MCS_OUTPUT_OCTETS, length);
+    return require(t, answer == MCS_OK, "reading %s: %s", called(characteristic), meaning(answer));
 }
 
 void expect_reads(struct tester *t, uint32_t characteristic, long long number)
 {
     uint8_t octets[MCS_OUTPUT_OCTETS] = {0};
-    uint32_t length = 0, answer = mcs_desk_read(&t->desk, LOWER(t), TESTED(t), characteristic, 0, octets, sizeof octets, &length);
-    if (require(t, answer == MCS_OK, "reading %s: %s", called(characteristic), meaning(answer))) {
+    uint32_t length = 0;
+    if (lower_reads(t, characteristic, octets, &length)) {
         expect_number(t, "reads", characteristic, octets, length, number);
     }
+}
+
+long long lower_reads_object(struct tester *t, uint32_t characteristic)
+{
+    uint8_t octets[MCS_OUTPUT_OCTETS] = {0};
+    uint32_t length = 0;
+    const bool read = lower_reads(t, characteristic, octets, &length);
+    require(t, length == 0 || length == MCS_OBJECT_OCTETS, "%s reads %u octets", called(characteristic), (unsigned)length);
+    return read && length == MCS_OBJECT_OCTETS ? (long long)mcs_object_at(octets) : NO_OBJECT;
 }
 
 void expect_reads_text(struct tester *t, uint32_t characteristic, const char *text)
@@ -376,6 +409,13 @@ void lower_writes_position(struct tester *t, int64_t position)
     uint8_t octets[4];
     put_word(octets, (uint32_t)position);
     lower_writes(t, MCS_POSITION, octets, sizeof octets);
+}
+
+void lower_writes_object(struct tester *t, uint32_t characteristic, long long object)
+{
+    uint8_t octets[MCS_OBJECT_OCTETS];
+    mcs_put_object(octets, (uint64_t)object);
+    lower_writes(t, characteristic, octets, sizeof octets);
 }
 
 /* The state before a call that the core may refuse. */
@@ -441,6 +481,14 @@ void expect_subscription_refused(struct tester *t, uint32_t client, uint32_t cha
     REFUSED(t, "a subscription", characteristic, number, mcs_desk_subscribe(&t->desk, client, TESTED(t), characteristic));
 }
 
+void expect_object_refused(struct tester *t, uint32_t characteristic, long long object)
+{
+    uint8_t octets[MCS_OBJECT_OCTETS];
+    mcs_put_object(octets, (uint64_t)object);
+    expect_write_refused(t, LOWER(t), characteristic, octets, sizeof octets, MCS_NOT_ALLOWED);
+    expect_command_ignored(t, characteristic, octets, sizeof octets);
+}
+
 /* The first of this characteristic that no expectation has met yet. */
 static const struct notification *arrived(struct tester *t, uint32_t characteristic)
 {
@@ -494,6 +542,22 @@ void expect_silence(struct tester *t)
 
 /* ---- Steps that several sections of the suite share ----------------------------------------------------------------------- */
 
+void expect_objects_of(struct tester *t, struct setting setting)
+{
+    const bool segments = t->lines->tracks[setting.track].segments != 0;
+    expect_reads(t, MCS_SEGMENTS_OBJECT, segments ? MCS_OBJECT_OF_SEGMENTS(setting.track) : NO_OBJECT);
+    expect_reads(t, MCS_TRACK_OBJECT, MCS_OBJECT_OF_TRACK(setting.track));
+    expect_reads(t, MCS_PARENT_GROUP_OBJECT, MCS_OBJECT_OF_GROUP(t->lines->groups[setting.group].parent));
+    expect_reads(t, MCS_GROUP_OBJECT, MCS_OBJECT_OF_GROUP(setting.group));
+}
+
+void expect_told(struct tester *t, uint32_t characteristic, long long before, long long now)
+{
+    if (now != before && (t->cccds & CCCD(characteristic)) != 0) {
+        expect_notified(t, characteristic, now);
+    }
+}
+
 struct setting expect_moved(struct tester *t, struct setting from, uint32_t group, uint32_t track)
 {
     const track_line *left = &t->lines->tracks[from.track], *reached = &t->lines->tracks[track];
@@ -519,12 +583,15 @@ struct setting expect_moved(struct tester *t, struct setting from, uint32_t grou
     if (track != from.track || from.position != 0) {
         expect_notified(t, MCS_POSITION, 0);
     }
+    expect_told(t, MCS_TRACK_OBJECT, MCS_OBJECT_OF_TRACK(from.track), MCS_OBJECT_OF_TRACK(track));
+    expect_told(t, MCS_GROUP_OBJECT, MCS_OBJECT_OF_GROUP(from.group), MCS_OBJECT_OF_GROUP(group));
     expect_silence(t);
 
     expect_reads(t, MCS_MEDIA_STATE, to.state);
     expect_reads_text(t, MCS_TITLE, reached->title);
     expect_reads(t, MCS_DURATION, reached->duration);
     expect_reads(t, MCS_POSITION, 0);
+    expect_objects_of(t, to);
     upper_confirms(t, to);
     return to;
 }

@@ -18,6 +18,9 @@
 /* Duration and position where there is no current track: all bits set, in 32 bits and signed (001, 3.6 and 3.7). */
 #define UNAVAILABLE (-1)
 
+/* An Object ID where there is none: the characteristic has no octets (001, 3.10 to 3.14). */
+#define NO_OBJECT (-1LL)
+
 /* ---- Catalogues, beside the sample of document 01 (SAMPLE_LINES of harness/tables.h) ------------------------------------- */
 
 extern const catalogue_lines ARCHIVE_LINES;     /* many groups, tracks and segments; no two titles or durations alike */
@@ -31,8 +34,8 @@ extern const catalogue_lines LONG_TITLES_LINES; /* two groups of one track, each
  * ATT_MTU and way of seeking.
  *
  * While a case is run on one service, the other stands beside it: its player plays, at a position and a speed that no case asks
- * for, and supports Play alone; the Lower Tester is subscribed to all of its slots. After every step its octets in the state have
- * to be what they were before, and nothing of it may have been notified. */
+ * for, with a next track named, and supports Play alone; the Lower Tester is subscribed to all of its slots. After every step its
+ * octets in the state have to be what they were before, and nothing of it may have been notified. */
 struct service {
     const char *tcid; /* the front of its cases' TCIDs */
     uint32_t number;  /* among the services of the core */
@@ -132,9 +135,9 @@ void upper_lets_pass(struct tester *t, uint32_t hundredths);
 /* The panel's writes; of the Media Control Point an opcode without a number. */
 void upper_writes(struct tester *t, uint32_t characteristic, const uint8_t *octets, size_t length);
 void upper_controls(struct tester *t, uint8_t opcode);
+void upper_writes_object(struct tester *t, uint32_t characteristic, long long object);
 
-/* What the suite has the Upper Tester confirm, current group and track, no characteristic of the core tells: all is read from
- * the octets of the state. */
+/* Group, track, position, order and state, as the octets of the state have them, beside what the Lower Tester reads. */
 void upper_confirms(struct tester *t, struct setting setting);
 
 /* ---- The Lower Tester ---------------------------------------------------------------------------------------------------- */
@@ -150,8 +153,12 @@ void lower_connects(struct tester *t);
 /* A third device connects, without encryption. */
 void third_connects_unencrypted(struct tester *t);
 
-/* GATT Read Characteristic Value, of one that is a number: its length and the number. Duration, position and speeds are signed. */
+/* GATT Read Characteristic Value, of one that is a number: its length and the number. Duration, position and speeds are signed;
+ * an Object ID has 48 bits, or is NO_OBJECT. */
 void expect_reads(struct tester *t, uint32_t characteristic, long long number);
+
+/* The same of an Object ID whose value a later step needs. */
+long long lower_reads_object(struct tester *t, uint32_t characteristic);
 
 /* GATT Read Long Characteristic Values from an offset of 0: every part has ATT_MTU - 1 octets, but for the last, which has the
  * rest of the text. */
@@ -160,6 +167,7 @@ void expect_reads_text(struct tester *t, uint32_t characteristic, const char *te
 /* GATT Write Characteristic Value, which is answered: the core takes it. */
 void lower_writes(struct tester *t, uint32_t characteristic, const uint8_t *octets, size_t length);
 void lower_writes_position(struct tester *t, int64_t position);
+void lower_writes_object(struct tester *t, uint32_t characteristic, long long object);
 
 /* GATT Write Without Response: nothing is answered, so the core's number is dropped, and the case goes on by what is notified and
  * read. To the host the number still says that all is well or that the client erred; and if it erred, nothing is altered. */
@@ -177,6 +185,9 @@ void expect_write_refused(struct tester *t, uint32_t client, uint32_t characteri
                           uint32_t number);
 void expect_subscription_refused(struct tester *t, uint32_t client, uint32_t characteristic, uint32_t number);
 
+/* The core does not take this number from the Lower Tester: by Write it says so (0x13), by Write Without Response nothing does. */
+void expect_object_refused(struct tester *t, uint32_t characteristic, long long object);
+
 /* Of what the last step brought: a notification of this characteristic with this value; of a text its first ATT_MTU - 3 octets;
  * of the control point the opcode that was requested, and the result. */
 void expect_notified(struct tester *t, uint32_t characteristic, long long number);
@@ -189,11 +200,51 @@ void expect_silence(struct tester *t);
 /* The same, not counted: asked before every step and at the end of a case. */
 void nothing_else_came(struct tester *t);
 
+/* ---- Objects --------------------------------------------------------------------------------------------------------------
+ * Object transfer is the host's. Where the suite has the Lower Tester fetch an object by its number (4.2.7 and 4.2.8), the core
+ * writes the object's octets, which the host would send, and reads them back; the tester takes them apart as 001, 4.2 and 4.4,
+ * lay them out, too, and both have to come to the same. */
+
+/* A Group object: the numbers of the groups and of the tracks that it lists, in its order. */
+#define MOST_ENTRIES (MCS_MOST_GROUP_OBJECT / MCS_GROUP_ENTRY_OCTETS)
+struct group_object {
+    uint32_t group_count, track_count;
+    long long groups[MOST_ENTRIES], tracks[MOST_ENTRIES];
+};
+
+/* A Track Segments object: where the segments begin. */
+struct segments_object {
+    size_t count;
+    uint32_t positions[MCS_MOST_SEGMENTS];
+};
+
+/* An object without entries where it cannot be fetched. */
+void fetch_group(struct tester *t, long long object, struct group_object *fetched);
+void fetch_segments(struct tester *t, long long object, struct segments_object *fetched);
+
+/* The object lists these groups, and these tracks behind them. */
+void expect_lists(struct tester *t, const struct group_object *object, const uint32_t *groups, uint32_t group_count,
+                  const uint32_t *tracks, uint32_t track_count);
+
+/* The position lies in this segment of the object, counted from 1. */
+void expect_in_segment(struct tester *t, const struct segments_object *object, uint32_t position, size_t number);
+
+/* Two Object IDs of different steps, or one of a step and one of an object that lists it. */
+void expect_same_object(struct tester *t, long long object, long long other);
+void expect_other_object(struct tester *t, long long object, long long other);
+
+
 /* ---- Steps that several sections of the suite share ----------------------------------------------------------------------- */
 
+/* The Object IDs of where a player is read as they should, but for that of the next track, which follows from the order. */
+void expect_objects_of(struct tester *t, struct setting setting);
+
+/* An Object ID that has changed is notified, where the case's initial condition subscribes to it. */
+void expect_told(struct tester *t, uint32_t characteristic, long long before, long long now);
+
 /* What is expected after the case's opcode where it moves the track or the group, from a setting: result, Media State, Track
- * Title, Track Duration, Track Changed and Track Position as notified and as read, and where the Upper Tester sees the player.
- * Where the player is then is handed back. */
+ * Title, Track Duration, Track Changed, Track Position and Object IDs as notified and as read, and where the Upper Tester sees the
+ * player. Where the player is then is handed back. */
 struct setting expect_moved(struct tester *t, struct setting from, uint32_t group, uint32_t track);
 
 /* The same where the move cannot be made: a result that says so, and nothing else. */

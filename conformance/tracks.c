@@ -17,13 +17,61 @@ static const struct listing {
 };
 #define END_OF_LISTINGS (listings + sizeof listings / sizeof listings[0])
 
-/* Step 1: the Upper Tester puts the player into a track, at so many halves of it; step 2 is for Object IDs. */
-static struct setting begin(struct tester *t, const struct listing *listing, uint8_t order, uint32_t track, uint32_t halves)
+/* Where a case stands: the player, and what steps 2 and 10 read. */
+struct stand {
+    const struct listing *listing;
+    struct setting at;
+    long long track, next;     /* the Object IDs of the current and of the next track */
+    struct group_object group; /* the object of the current group, from step 2 */
+};
+
+/* The number of the track behind another in an order: document 01, "Odd is once, even repeats", and 1 and 2 "the current track
+ * alone". */
+static long long behind(const struct listing *listing, uint8_t order, uint32_t track)
 {
-    struct setting setting = {order, GROUP, track, listing->lines->tracks[track].duration * halves / 2, t->initial};
+    const bool alone = order <= 2;
+    const uint32_t *tracks = alone ? &track : listing->tracks[(order - 3) / 2], count = alone ? 1 : listing->count;
+    uint32_t place = 0;
+    while (tracks[place] != track) {
+        place++;
+    }
+    return place + 1 == count && order % 2 != 0 ? NO_OBJECT : MCS_OBJECT_OF_TRACK(tracks[(place + 1) % count]);
+}
+
+/* Step 1: the Upper Tester puts the player into a track, at so many halves of it, and names a next track, unless that is
+ * NO_OBJECT: the suite leaves open whether one is named. Step 2: the Object IDs, and the group's object, which lists the tracks by
+ * number. */
+static struct stand begin(struct tester *t, const struct listing *listing, uint8_t order, uint32_t track, uint32_t halves,
+                          long long named)
+{
+    struct stand stand = {.listing = listing,
+                          .at = {order, GROUP, track, listing->lines->tracks[track].duration * halves / 2, t->initial},
+                          .next = named == NO_OBJECT ? behind(listing, order, track) : named};
     preamble(t, listing->lines);
-    upper_orders(t, setting);
-    return setting;
+    upper_orders(t, stand.at);
+    if (named != NO_OBJECT) {
+        t->forgets = true;
+        upper_writes_object(t, MCS_NEXT_TRACK_OBJECT, named);
+        t->forgets = false;
+    }
+    expect_objects_of(t, stand.at);
+    expect_reads(t, MCS_NEXT_TRACK_OBJECT, stand.next);
+    stand.track = lower_reads_object(t, MCS_TRACK_OBJECT);
+    fetch_group(t, lower_reads_object(t, MCS_GROUP_OBJECT), &stand.group);
+    expect_lists(t, &stand.group, NULL, 0, listing->tracks[0], listing->count);
+    return stand;
+}
+
+/* Behind the opcode: the notifications; the track, and which one is the next then, by the order or as it was named. */
+static struct stand expect_track(struct tester *t, struct stand from, uint32_t track, long long next)
+{
+    struct stand to = from;
+    expect_told(t, MCS_NEXT_TRACK_OBJECT, from.next, next);
+    to.at = expect_moved(t, from.at, GROUP, track);
+    expect_reads(t, MCS_NEXT_TRACK_OBJECT, next);
+    to.track = lower_reads_object(t, MCS_TRACK_OBJECT);
+    to.next = lower_reads_object(t, MCS_NEXT_TRACK_OBJECT);
+    return to;
 }
 
 /* In the orders 1 and 2 (SINGLE_ORDERS): what leads to the track itself is made, and a step beyond it in order 2, which repeats. */
@@ -31,13 +79,46 @@ static void single_track(struct tester *t, const struct listing *listing, int64_
 {
     for (uint8_t order = 1; order <= 2; order++) {
         for (uint32_t track = 0; track < listing->count; track++) {
-            struct setting from = begin(t, listing, order, track, 1);
+            struct stand from = begin(t, listing, order, track, 1, NO_OBJECT);
             lower_controls(t, t->opcode, number);
             if (leaves && order == 1) {
-                expect_not_completed(t, from);
+                expect_not_completed(t, from.at);
             } else {
-                expect_moved(t, from, GROUP, track);
+                expect_track(t, from, track, from.next);
             }
+        }
+    }
+}
+
+/* Next Track where a track is named, in all orders and from every track, also onto the track itself: W-209, "12 names a track of
+ * the current group that Next Track ... uses once". */
+static void named_track(struct tester *t, const struct listing *listing)
+{
+    for (uint8_t order = 1; order <= 8; order++) {
+        for (uint32_t track = 0; track < listing->count; track++) {
+            for (uint32_t named = 0; named < listing->count; named++) {
+                struct stand from = begin(t, listing, order, track, 1, MCS_OBJECT_OF_TRACK(named)), to;
+                lower_controls(t, t->opcode, 0);
+                to = expect_track(t, from, named, behind(listing, order, named));
+                expect_same_object(t, to.track, from.next);
+            }
+        }
+    }
+}
+
+/* The comparison of Object IDs in Table 4.10, and what the outcome of 4.4.9 says of them: the track is the first or the last of the
+ * object's in the playing order, which in the orders 3 and 4 is the order of the object itself. */
+static void expect_verdict(struct tester *t, const struct stand *from, const struct stand *to)
+{
+    if (t->opcode == MCS_OPCODE_PREVIOUS_TRACK) {
+        expect_same_object(t, to->next, from->track);
+    } else if (t->opcode == MCS_OPCODE_NEXT_TRACK) {
+        expect_same_object(t, to->track, from->next);
+    } else {
+        expect_other_object(t, to->track, from->track);
+        if (from->at.order <= 4) {
+            const uint32_t place = t->opcode == MCS_OPCODE_FIRST_TRACK ? 0 : from->listing->count - 1;
+            expect_same_object(t, to->track, from->group.tracks[place]);
         }
     }
 }
@@ -56,34 +137,49 @@ static void track_moves(struct tester *t)
                                     : t->opcode == MCS_OPCODE_FIRST_TRACK  ? 0
                                                                            : listing->count - 1;
                 for (uint32_t halves = 0; halves <= 2; halves++) {
-                    struct setting from = begin(t, listing, order, tracks[place], halves);
-                    /* Step 3: the opcode; steps 4 to 9: the notifications; step 10 is for Object IDs. */
+                    struct stand from = begin(t, listing, order, tracks[place], halves, NO_OBJECT), reached;
+                    /* Step 3: the opcode; steps 4 to 10: the notifications */
                     lower_controls(t, t->opcode, 0);
-                    expect_moved(t, from, GROUP, tracks[to]);
+                    reached = expect_track(t, from, tracks[to], behind(listing, order, tracks[to]));
+                    expect_verdict(t, &from, &reached);
                 }
             }
         }
         single_track(t, listing, 0, neighbour);
+        if (t->opcode == MCS_OPCODE_NEXT_TRACK) {
+            named_track(t, listing);
+        }
     }
 }
 
+/* A round of 4.4.10: the track at a place of the order, which in the orders 3 and 4 is that of the object (TRACKS_BY_NUMBER). */
+static struct stand expect_place(struct tester *t, struct stand from, const uint32_t *tracks, uint32_t place)
+{
+    struct stand to = expect_track(t, from, tracks[place], behind(from.listing, from.at.order, tracks[place]));
+    if (from.at.order <= 4) {
+        expect_same_object(t, to.track, from.group.tracks[place]);
+    }
+    return to;
+}
+
 /* 4.4.10: from every track, every N of round 1 with every N of round 2, where the suite takes one of each at random. Both may
- * lead to one track (STAYING_UNSENT). */
+ * lead to one track (STAYING_UNSENT). No next track is named, or the order's last: W-209, "Goto's steps not". */
 static void goto_tracks(struct tester *t, const struct listing *listing, uint8_t order)
 {
     const uint32_t *tracks = listing->tracks[(order - 3) / 2], count = listing->count;
+    const long long names[] = {NO_OBJECT, MCS_OBJECT_OF_TRACK(tracks[count - 1])};
 
     for (uint32_t place = 0; place < count; place++) {
         for (uint32_t n1 = 1; n1 <= count; n1++) {
             for (uint32_t n2 = 1; n2 <= count; n2++) {
                 /* Round 1 leaves out the current track's number, round 2 that of round 1. */
-                if (n1 != place + 1 && n2 != n1) {
-                    struct setting from = begin(t, listing, order, tracks[place], 1);
+                for (size_t k = 0; k < 2 && n1 != place + 1 && n2 != n1; k++) {
+                    struct stand from = begin(t, listing, order, tracks[place], 1, names[k]);
                     /* Steps 3 to 10 of round 1: track N; and of round 2: track N from the end */
                     lower_controls(t, t->opcode, n1);
-                    from = expect_moved(t, from, GROUP, tracks[n1 - 1]);
+                    from = expect_place(t, from, tracks, n1 - 1);
                     lower_controls(t, t->opcode, -(int64_t)n2);
-                    expect_moved(t, from, GROUP, tracks[count - n2]);
+                    expect_place(t, from, tracks, count - n2);
                 }
             }
         }
@@ -104,16 +200,18 @@ static void goto_track(struct tester *t)
 }
 
 #define TRACK_CHOICES CHOICE(EQUAL_UNSENT "; " SINGLE_ORDERS)
-#define GOTO_TRACK_CHOICES CHOICE(EQUAL_UNSENT "; " STAYING_UNSENT "; " SINGLE_ORDERS)
+#define GOTO_TRACK_CHOICES CHOICE(EQUAL_UNSENT "; " STAYING_UNSENT "; " SINGLE_ORDERS) "; " CHOICE_OF_02(TRACKS_BY_NUMBER)
+/* Step 10b of 4.4.7 has the next track's Object ID notified, for which its initial condition does not ask. */
+#define NEXT_CCCDS (TRACK_CCCDS | CCCD(MCS_NEXT_TRACK_OBJECT))
 
 const struct tested_case track_cases[] = {
     /* Table 4.10 */
-    CASE("/SR/MCP/BV-30-C", TRACK_CHOICES, track_moves, MCS_OPCODE_PREVIOUS_TRACK, MCS_PLAYING, TRACK_CCCDS),
-    CASE("/SR/MCP/BV-31-C", TRACK_CHOICES, track_moves, MCS_OPCODE_PREVIOUS_TRACK, MCS_PAUSED, TRACK_CCCDS),
-    CASE("/SR/MCP/BV-32-C", TRACK_CHOICES, track_moves, MCS_OPCODE_PREVIOUS_TRACK, MCS_SEEKING, TRACK_CCCDS),
-    CASE("/SR/MCP/BV-34-C", TRACK_CHOICES, track_moves, MCS_OPCODE_NEXT_TRACK, MCS_PLAYING, TRACK_CCCDS),
-    CASE("/SR/MCP/BV-35-C", TRACK_CHOICES, track_moves, MCS_OPCODE_NEXT_TRACK, MCS_PAUSED, TRACK_CCCDS),
-    CASE("/SR/MCP/BV-36-C", TRACK_CHOICES, track_moves, MCS_OPCODE_NEXT_TRACK, MCS_SEEKING, TRACK_CCCDS),
+    CASE("/SR/MCP/BV-30-C", TRACK_CHOICES, track_moves, MCS_OPCODE_PREVIOUS_TRACK, MCS_PLAYING, NEXT_CCCDS),
+    CASE("/SR/MCP/BV-31-C", TRACK_CHOICES, track_moves, MCS_OPCODE_PREVIOUS_TRACK, MCS_PAUSED, NEXT_CCCDS),
+    CASE("/SR/MCP/BV-32-C", TRACK_CHOICES, track_moves, MCS_OPCODE_PREVIOUS_TRACK, MCS_SEEKING, NEXT_CCCDS),
+    CASE("/SR/MCP/BV-34-C", TRACK_CHOICES, track_moves, MCS_OPCODE_NEXT_TRACK, MCS_PLAYING, NEXT_CCCDS),
+    CASE("/SR/MCP/BV-35-C", TRACK_CHOICES, track_moves, MCS_OPCODE_NEXT_TRACK, MCS_PAUSED, NEXT_CCCDS),
+    CASE("/SR/MCP/BV-36-C", TRACK_CHOICES, track_moves, MCS_OPCODE_NEXT_TRACK, MCS_SEEKING, NEXT_CCCDS),
     /* Table 4.11 */
     INACTIVE_CASE("/SR/MCP/BV-33-C", MCS_OPCODE_PREVIOUS_TRACK, TRACK_CCCDS),
     INACTIVE_CASE("/SR/MCP/BV-37-C", MCS_OPCODE_NEXT_TRACK, TRACK_CCCDS),

@@ -24,7 +24,7 @@ static page pages[MCS_CLIENTS][MCS_SERVICES];
 typedef struct {
     uint32_t all, wrong;
 } tally;
-static tally calls, takes, agreements;
+static tally calls, takes, agreements, folders, nexts;
 
 static int count(tally *t, int right)
 {
@@ -92,6 +92,8 @@ const known_value *value_known(uint32_t who, uint32_t service, uint32_t characte
 }
 
 int book_agreement(int agrees) { return count(&agreements, agrees); }
+int book_folder(int right) { return count(&folders, right); }
+int book_next(int right) { return count(&nexts, right); }
 
 /* ---- Coming and going, and the round of the takes */
 
@@ -197,6 +199,8 @@ int print_books(void)
     others = print_tally("calls to one player", &calls, "the other, and what it owed, was the same after each");
     others += print_tally("takes", &takes, "each to the device and of the slot whose turn it was, through both players");
     others += print_tally("values compared when nothing was owed", &agreements, "each device agreed with the player it follows");
+    others += print_tally("folders drawn", &folders, "each with the folders and tracks that the catalogue has in it");
+    others += print_tally("times Next Track", &nexts, "each led to the track that the next one's object number said, or nowhere");
     printf("%u presses, %u results: ", pressed, results);
     if (wrong > 0) {
         printf("%u WENT WRONG\n", wrong);

@@ -40,13 +40,20 @@ void book_leave(uint32_t who, const uint32_t held[MCS_SERVICES]);
  * was, and left alone the player that it was not of. */
 int book_take(const uint32_t owed[MCS_CLIENTS], uint32_t who, uint32_t place, int left_alone);
 
+/* A folder that a device draws, and whether it is the catalogue's. A press of Next Track, and whether it led to the track whose
+ * object number the player had as that of the next one, once where it was named, or stayed where it had none. Each hands back what
+ * it was told. */
+int book_folder(int right);
+int book_next(int right);
+
 /* A call to one player, and whether it left the other alone. A value that a device knows, and whether its player has that value.
  * Each hands back what it was told. */
 int book_call(int left_alone);
 int book_agreement(int agrees);
 
 /* Prints the books. Whether every result went to the device that pressed, at its player, in the order of its presses, and none is
- * missing; every take was in turn; every call left the other player alone; and every device agreed with its players. */
+ * missing; every take was in turn; every call left the other player alone; every device agreed with its players; every folder was
+ * the catalogue's; and every Next Track led where it should. */
 int print_books(void);
 
 #endif

@@ -1,6 +1,6 @@
 /* An office's day on a card: four devices on one desk with two players, the generic one and a named one, over the same tables.
  * The pedals are at the generic player, the screen at the named one, and the headset at both. A person sees each result go to
- * the device that asked, and a press at one player leave the other alone.
+ * the device that asked, a press at one player leave the other alone, and the screen draw the folders and name a track in them.
  *
  *     day [CARD]      the card's file; without one, the sample card
  *
@@ -14,6 +14,7 @@
 
 #include "books.h"
 #include "file.h"
+#include "folders.h"
 #include "lines.h"
 #include "office.h"
 #include "refused_card.h"
@@ -33,6 +34,9 @@ static void morning(uint32_t first, uint32_t last)
     open_group(NAMED, last);
     tell_all();
     read_long(SCREEN, NAMED, MCS_TITLE);
+
+    print_heading("The screen asks for the folder above its player's group by the object's number, and draws it");
+    draw_folder(SCREEN, NAMED, read_object(SCREEN, NAMED, MCS_PARENT_GROUP_OBJECT));
 
     print_heading("The typist at the left pedal begins; the screen is at the other player, and hears nothing of it");
     press(LEFT_PEDAL, GENERIC, MCS_OPCODE_PLAY);
@@ -77,6 +81,37 @@ static void both_players(void)
     rename_player(NAMED, "Reading room on the second floor, window side");
     tell_all();
     read_long(SCREEN, NAMED, MCS_NAME);
+}
+
+static void folders(uint32_t first, uint32_t last, uint32_t empty)
+{
+    uint64_t folder;
+
+    print_heading("Half past nine: on the screen someone touches one folder and another; a folder without tracks is refused");
+    set_object(SCREEN, NAMED, MCS_GROUP_OBJECT, MCS_OBJECT_OF_GROUP(last));
+    tell_all();
+    set_object(SCREEN, NAMED, MCS_GROUP_OBJECT, MCS_OBJECT_OF_GROUP(empty));
+    set_object(SCREEN, NAMED, MCS_GROUP_OBJECT, MCS_OBJECT_OF_GROUP(first));
+    tell_all();
+
+    print_heading("Then the next track is picked there, by its object's number: the headset is told, and goes to it");
+    folder = read_object(SCREEN, NAMED, MCS_GROUP_OBJECT);
+    set_object(SCREEN, NAMED, MCS_NEXT_TRACK_OBJECT, tracks_in(folder).last);
+    tell_all();
+    draw_folder(SCREEN, NAMED, folder);
+    press(HEADSET, NAMED, MCS_OPCODE_NEXT_TRACK);
+    tell_all();
+    draw_folder(SCREEN, NAMED, folder);
+
+    print_heading("A track is touched; and for the typist the screen names one too: the pedal goes there once, then by the order");
+    set_object(SCREEN, NAMED, MCS_TRACK_OBJECT, tracks_in(folder).first);
+    press(LEFT_PEDAL, GENERIC, MCS_OPCODE_FIRST_TRACK);
+    folder = read_object(SCREEN, GENERIC, MCS_GROUP_OBJECT);
+    set_object(SCREEN, GENERIC, MCS_NEXT_TRACK_OBJECT, tracks_in(folder).last);
+    press(LEFT_PEDAL, GENERIC, MCS_OPCODE_NEXT_TRACK);
+    press(LEFT_PEDAL, GENERIC, MCS_OPCODE_FIRST_TRACK);
+    press(LEFT_PEDAL, GENERIC, MCS_OPCODE_NEXT_TRACK);
+    tell_all();
 }
 
 /* Results of two pedals wait at once: the case in which they once went to the neighbour. */
@@ -212,16 +247,20 @@ static void evening(void)
     leave(SCREEN);
 }
 
-/* The first and the last group with tracks. Whether there is one. */
-static int groups_with_tracks(const struct mcs_catalogue *c, uint32_t groups, uint32_t *first, uint32_t *last)
+/* The first and the last group with tracks, and the last one without, or the number behind all where each has some. Whether there
+ * is one with tracks. */
+static int groups_with_tracks(const struct mcs_catalogue *c, uint32_t groups, uint32_t *first, uint32_t *last, uint32_t *empty)
 {
     uint32_t g;
     int found = 0;
+    *empty = groups;
     for (g = 0; g < groups; g++) {
         if (c->groups[MCS_GROUP_WORDS * g + TRACK_COUNT] != 0) {
             *first = found ? *first : g;
             *last = g;
             found = 1;
+        } else {
+            *empty = g;
         }
     }
     return found;
@@ -235,7 +274,7 @@ int main(int count, char **words)
     struct mcs_room room = whole_room(&loaded);
     struct mcs_catalogue c;
     struct mcs_place place;
-    uint32_t number, block = 0, groups, first = 0, last = 0;
+    uint32_t number, block = 0, groups, first = 0, last = 0, empty;
     size_t len;
 
     if (isatty(STDOUT_FILENO) && getenv("NO_COLOR") == NULL) {
@@ -260,13 +299,14 @@ int main(int count, char **words)
     groups = (uint32_t)c.groups_len / MCS_GROUP_WORDS;
     printf("Card: %u groups, %u tracks, %u segments, %u octets of text\n", groups, (uint32_t)c.tracks_len / MCS_TRACK_WORDS,
            (uint32_t)c.segments_len, (uint32_t)c.text_len);
-    if (!groups_with_tracks(&c, groups, &first, &last)) {
+    if (!groups_with_tracks(&c, groups, &first, &last, &empty)) {
         printf("No group of the card has tracks: there is nothing to play.\n");
         return 0;
     }
     introduce();
     morning(first, last);
     both_players();
+    folders(first, last, empty);
     second_pedal();
     headset_and_screen();
     noon();

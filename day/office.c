@@ -19,6 +19,7 @@ static const uint8_t *account_at(uint32_t who, uint32_t service) { return player
 
 static int is_active(uint32_t service) { return player_at(service)[MCS_IN_MEDIA_STATE] != MCS_INACTIVE; }
 static uint32_t current_track(uint32_t service) { return word_at(player_at(service) + MCS_IN_TRACK); }
+static uint32_t named_track(uint32_t service) { return word_at(player_at(service) + MCS_IN_NEXT); } /* plus 1; 0: none */
 static const uint32_t *track_record(uint32_t service)
 {
     return desk.catalogue.tracks + (size_t)MCS_TRACK_WORDS * current_track(service);
@@ -61,6 +62,9 @@ void show_player(uint32_t service)
     if (player[MCS_IN_SEEKING] != 0) {
         printf("  seeking ");
         print_value(MCS_SEEKING_SPEED, player + MCS_IN_SEEKING, 1);
+    }
+    if (named_track(service) != 0) {
+        printf("  track %u named as the next", named_track(service) - 1u);
     }
     if (is_active(service)) {
         printf("  ");
@@ -197,6 +201,7 @@ void introduce(void)
     printf("\nFirst what is done and at which player, then a column for each device.\n"
            "press, write, read: what the device does. take: what the desk hands to it.\n"
            "'#3 Play: Success' is the result of that device's own third press at that player.\n"
+           "draw: what the device shows of the objects that it asked for; tracks are numbered from 0x1000 on, groups from 0x2000.\n"
            "The takes go round the devices, and within a device on from its last, through generic and then named.\n");
 }
 
@@ -236,6 +241,16 @@ void rename_player(uint32_t service, const char *name)
     end_line();
 }
 
+const struct mcs_catalogue *the_catalogue(void) { return &desk.catalogue; }
+
+uint32_t hand_out(uint64_t folder, uint8_t octets[MCS_MOST_GROUP_OBJECT])
+{
+    uint32_t length = 0;
+    must(mcs_desk_group_object(&desk, (uint32_t)(folder - MCS_OBJECT_OF_GROUP(0)), octets, MCS_MOST_GROUP_OBJECT, &length),
+         "a group's object");
+    return length;
+}
+
 /* ---- What a device knows */
 
 /* Whether a player can be asked for a value, to hold what a device knows against it. The position is left out: while it plays it
@@ -253,6 +268,17 @@ static uint32_t value_now(uint32_t who, uint32_t service, uint32_t characteristi
     uint32_t length = 0, most = DEVICES[who].mtu - 3u;
     must(mcs_desk_read(&asked, who, service, characteristic, 0, out, MCS_OUTPUT_OCTETS, &length), "read");
     return length < most ? length : most;
+}
+
+static uint64_t object_in(const uint8_t *octets, uint32_t length)
+{
+    return length == MCS_OBJECT_OCTETS ? mcs_object_at(octets) : NO_OBJECT;
+}
+
+static uint64_t object_now(uint32_t who, uint32_t service, uint32_t characteristic)
+{
+    uint8_t now[MCS_OUTPUT_OCTETS];
+    return object_in(now, value_now(who, service, characteristic, now));
 }
 
 /* ---- The devices */
@@ -322,8 +348,20 @@ static void print_reply(uint32_t number)
     }
 }
 
+/* Whether a Next Track has led where the object numbers before it said, and used up a name. */
+static void compare_next(uint32_t who, uint32_t service, uint64_t left, uint64_t next)
+{
+    int there = object_now(who, service, MCS_TRACK_OBJECT) == (next == NO_OBJECT ? left : next);
+    if (!book_next(there && named_track(service) == 0)) {
+        begin_desk_line("WRONG", service);
+        printf("the next track was 0x%04llX, once", (unsigned long long)next);
+        end_line();
+    }
+}
+
 static void write_control(uint32_t who, uint32_t service, const uint8_t *value, size_t len)
 {
+    uint64_t left = object_now(who, service, MCS_TRACK_OBJECT), next = object_now(who, service, MCS_NEXT_TRACK_OBJECT);
     uint32_t number = AT_PLAYER(service, mcs_desk_write(&desk, who, service, MCS_CONTROL_POINT, value, len));
     begin_line("press", service, who);
     printf("#%u ", book_press(who, service, value[0], number == MCS_OK));
@@ -334,6 +372,9 @@ static void write_control(uint32_t who, uint32_t service, const uint8_t *value, 
     print_reply(number);
     end_line();
     show_player(service);
+    if (number == MCS_OK && value[0] == MCS_OPCODE_NEXT_TRACK) {
+        compare_next(who, service, left, next);
+    }
 }
 
 void press(uint32_t who, uint32_t service, uint8_t opcode) { write_control(who, service, &opcode, 1); }
@@ -378,11 +419,18 @@ void set_position(uint32_t who, uint32_t service, int32_t position)
     write_value(who, service, MCS_POSITION, value, sizeof value);
 }
 
-uint32_t read_part(uint32_t who, uint32_t service, uint32_t characteristic, uint32_t offset)
+void set_object(uint32_t who, uint32_t service, uint32_t characteristic, uint64_t object)
 {
-    uint8_t out[MCS_OUTPUT_OCTETS];
+    uint8_t value[MCS_OBJECT_OCTETS];
+    mcs_put_object(value, object);
+    write_value(who, service, characteristic, value, sizeof value);
+}
+
+static uint32_t read_at(uint32_t who, uint32_t service, uint32_t characteristic, uint32_t offset, uint8_t out[MCS_OUTPUT_OCTETS])
+{
     uint32_t length = 0;
-    uint32_t number = AT_PLAYER(service, mcs_desk_read(&desk, who, service, characteristic, offset, out, sizeof out, &length));
+    uint32_t number =
+        AT_PLAYER(service, mcs_desk_read(&desk, who, service, characteristic, offset, out, MCS_OUTPUT_OCTETS, &length));
     begin_line("read", service, who);
     printf("%s at %u", mcs_characteristic_words(characteristic), offset);
     if (number == MCS_OK) {
@@ -393,6 +441,18 @@ uint32_t read_part(uint32_t who, uint32_t service, uint32_t characteristic, uint
     }
     end_line();
     return number == MCS_OK ? length : NOT_READ;
+}
+
+uint32_t read_part(uint32_t who, uint32_t service, uint32_t characteristic, uint32_t offset)
+{
+    uint8_t out[MCS_OUTPUT_OCTETS];
+    return read_at(who, service, characteristic, offset, out);
+}
+
+uint64_t read_object(uint32_t who, uint32_t service, uint32_t characteristic)
+{
+    uint8_t out[MCS_OUTPUT_OCTETS];
+    return object_in(out, read_at(who, service, characteristic, 0, out));
 }
 
 void read_long(uint32_t who, uint32_t service, uint32_t characteristic)

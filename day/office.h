@@ -20,6 +20,11 @@ uint32_t track_end(uint32_t service); /* 0 where there is no track */
 /* Where a player stands, when it is not it that was called. */
 void show_player(uint32_t service);
 
+/* The catalogue that the desk is lent; and the octets of a group's object, which the desk sends to a device that asks for it by its
+ * number: how many there are. */
+const struct mcs_catalogue *the_catalogue(void);
+uint32_t hand_out(uint64_t folder, uint8_t octets[MCS_MOST_GROUP_OBJECT]);
+
 /* What the devices do. They come to both players and leave both; everything else is at one. */
 void join(uint32_t who);
 void leave(uint32_t who);
@@ -28,10 +33,15 @@ void press_with(uint32_t who, uint32_t service, uint8_t opcode, int32_t number);
 void set_order(uint32_t who, uint32_t service, uint8_t order);
 void set_speed(uint32_t who, uint32_t service, int8_t speed);
 void set_position(uint32_t who, uint32_t service, int32_t position);
+void set_object(uint32_t who, uint32_t service, uint32_t characteristic, uint64_t object);
 
 /* Part of a value from an offset on. How many octets came; NOT_READ where it was refused. */
 #define NOT_READ 0xFFFFFFFFu
 uint32_t read_part(uint32_t who, uint32_t service, uint32_t characteristic, uint32_t offset);
+
+/* An object's number, or NO_OBJECT. */
+#define NO_OBJECT 0u /* which no object here has */
+uint64_t read_object(uint32_t who, uint32_t service, uint32_t characteristic);
 
 /* Part after part, until one comes empty. */
 void read_long(uint32_t who, uint32_t service, uint32_t characteristic);

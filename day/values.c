@@ -95,6 +95,17 @@ void print_value(uint32_t characteristic, const uint8_t *octets, size_t len)
     case MCS_SEEKING_SPEED:
         printf("%d", signed_octet(octets[0]));
         return;
+    case MCS_SEGMENTS_OBJECT:
+    case MCS_TRACK_OBJECT:
+    case MCS_NEXT_TRACK_OBJECT:
+    case MCS_PARENT_GROUP_OBJECT:
+    case MCS_GROUP_OBJECT:
+        if (len == MCS_OBJECT_OCTETS) {
+            printf("0x%04llX", (unsigned long long)mcs_object_at(octets));
+        } else {
+            printf("none");
+        }
+        return;
     case MCS_PLAYING_ORDER:
         printf("%s", mcs_playing_order_words(octets[0]));
         return;

@@ -1,6 +1,7 @@
 /* The smallest use of the library: one group, one track, one pedal that presses Play on the generic player and is told so, while
- * the named player, over the same track, stays as it is. It includes mcs_desk.h and nothing else, and is C as well as C++; its
- * exit status is 0, or the number of the first step that did not give what documents 01 and 02 say. */
+ * the named player, over the same track, stays as it is; and the group as the object that a screen draws. It includes mcs_desk.h and
+ * nothing else, and is C as well as C++; its exit status is 0, or the number of the first step that did not give what documents 01
+ * and 02 say. */
 #include "mcs_desk.h"
 
 /* One group, with one track of ten seconds without segments, whose title is the whole text. */
@@ -22,6 +23,8 @@ int main(void)
     const uint32_t pedal = 2;
     const uint8_t play = MCS_OPCODE_PLAY;
     uint8_t out[MCS_OUTPUT_OCTETS];
+    uint32_t words[MCS_GROUP_ENTRY_WORDS];
+    struct mcs_entries entries = {words, MCS_GROUP_ENTRY_WORDS, 0};
     struct mcs_served served;
     uint32_t length, number;
 
@@ -74,5 +77,19 @@ int main(void)
         return 15;
     if (length != 1 || out[0] != MCS_INACTIVE)
         return 16;
+
+    /* What a screen needs to draw the folder that plays: the number of its object, and the object, which the host's Object Transfer
+     * Service hands out by that number. It has one entry, the track; and the track has no segments, and so no object for them. */
+    if (mcs_desk_read(&desk, pedal, MCS_GENERIC, MCS_GROUP_OBJECT, 0, out, sizeof out, &length) != MCS_OK)
+        return 17;
+    if (length != MCS_OBJECT_OCTETS || mcs_object_at(out) != MCS_OBJECT_OF_GROUP(0))
+        return 18;
+    if (mcs_desk_group_object(&desk, 0, out, sizeof out, &length) != MCS_OK)
+        return 19;
+    if (mcs_group_entries(out, length, &entries) != MCS_OK || entries.count != 1 ||
+        mcs_entry_type(&entries, 0) != MCS_ENTRY_TRACK || mcs_entry_object(&entries, 0) != MCS_OBJECT_OF_TRACK(0))
+        return 20;
+    if (mcs_desk_segments_object(&desk, 0, out, sizeof out, &length) != MCS_NOT_ALLOWED)
+        return 21;
     return 0;
 }

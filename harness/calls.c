@@ -1,9 +1,27 @@
 #include "calls.h"
 #include "ref.h"
 
-const char *const CALL_NAME[CALLS] = {"start",   "set name",   "activate",  "deactivate",  "advance",
-                                      "connect", "disconnect", "subscribe", "unsubscribe", "read",
-                                      "write",   "take",       "card load", "cue sheet",   "card write"};
+const char *const CALL_NAME[CALLS] = {
+    [START] = "start",
+    [SET_NAME] = "set name",
+    [ACTIVATE] = "activate",
+    [DEACTIVATE] = "deactivate",
+    [ADVANCE] = "advance",
+    [CONNECT] = "connect",
+    [DISCONNECT] = "disconnect",
+    [SUBSCRIBE] = "subscribe",
+    [UNSUBSCRIBE] = "unsubscribe",
+    [READ] = "read",
+    [WRITE] = "write",
+    [TAKE] = "take",
+    [CARD_LOAD] = "card load",
+    [CUE_SHEET] = "cue sheet",
+    [CARD_WRITE] = "card write",
+    [GROUP_OBJECT_WRITE] = "group object write",
+    [SEGMENTS_OBJECT_WRITE] = "segments object write",
+    [GROUP_OBJECT_READ] = "group object read",
+    [SEGMENTS_OBJECT_READ] = "segments object read",
+};
 
 #define MAKE call_library
 #define PROGRAM(name) mcs_##name

@@ -1,4 +1,4 @@
-/* The fifteen calls, with everything that is lent to them: what any program that has the same calls is asked to do. */
+/* The nineteen calls, with everything that is lent to them: what any program that has the same calls is asked to do. */
 #ifndef CALLS_H
 #define CALLS_H
 
@@ -20,6 +20,10 @@ enum {
     CARD_LOAD,
     CUE_SHEET,
     CARD_WRITE,
+    GROUP_OBJECT_WRITE,
+    SEGMENTS_OBJECT_WRITE,
+    GROUP_OBJECT_READ,
+    SEGMENTS_OBJECT_READ,
     CALLS
 };
 
@@ -33,27 +37,31 @@ typedef struct {
     uint32_t who;     /* client */
     uint32_t service;
     uint32_t what;    /* characteristic; of connect whether encrypted */
-    uint32_t number;  /* group, hundredths, ATT_MTU, offset */
+    uint32_t number;  /* group, hundredths, ATT_MTU, offset; of an object write the group or the track */
     struct mcs_catalogue catalogue;
     struct mcs_player players[MCS_SERVICES]; /* of a start */
-    const uint8_t *octets;                   /* new name or value, card, cue sheet */
+    const uint8_t *octets;                   /* new name or value, card, cue sheet, object */
     size_t length;
     void *state; /* MCS_STATE_OCTETS octets, or the second program's struct */
     uint8_t *out;
     size_t out_len;
     struct mcs_room room; /* of a card load */
-    uint32_t *starts;     /* of a cue sheet */
-    size_t starts_len;
-    uint8_t *card;        /* of a card write */
-    size_t card_len;
-    uint32_t *word; /* the length of a read, the count of a cue sheet, the blocks of a card write */
+    uint32_t *entries;    /* the starts of a cue sheet, the words of an object that is read */
+    size_t entries_len;
+    uint8_t *written; /* card or object */
+    size_t written_len;
+    uint32_t *word; /* the length of a read or an object write, the count of a cue sheet, the blocks of a card write */
+    size_t *count;  /* of an object that is read */
     uint32_t *served, *counts, *block, *line;
     uint32_t *track, *octet; /* where a text is wrong; of every call that is lent the catalogue */
 } call;
 
-/* A card load and a cue sheet are lent neither a state nor a catalogue, a card write no state. */
+/* A card load, a cue sheet and an object read are lent neither a state nor a catalogue, a card write and an object write no
+ * state. */
 static inline int has_state(uint32_t kind) { return kind < CARD_LOAD; }
-static inline int has_catalogue(uint32_t kind) { return has_state(kind) || kind == CARD_WRITE; }
+static inline int writes_object(uint32_t kind) { return kind == GROUP_OBJECT_WRITE || kind == SEGMENTS_OBJECT_WRITE; }
+static inline int reads_object(uint32_t kind) { return kind == GROUP_OBJECT_READ || kind == SEGMENTS_OBJECT_READ; }
+static inline int has_catalogue(uint32_t kind) { return has_state(kind) || kind == CARD_WRITE || writes_object(kind); }
 
 /* Which calls name a client, and which a service: those that are calls to one. A take and a start are calls to neither service,
  * and a link is to both. */

@@ -1,18 +1,19 @@
-/* The Media Control Service core of a desk player: fifteen calls, proved (crates/mcs), for C and C++ on x86-64 and aarch64.
+/* The Media Control Service core of a desk player: nineteen calls, proved (crates/mcs), for C and C++ on x86-64 and aarch64.
  *
  * Every call takes all octets, numbers, tables and states there are, checks them itself, and ends. It returns 0, or the number of
  * the first refusal that applies, in the order of the list below. A refusal alters nothing: state, tables, card, output, length,
- * served, counts, blocks, starts and count hold what they held. The six of the list from MCS_BAD_CHECK to MCS_BAD_PADDING carry a
- * block of the card, MCS_BAD_LINE and MCS_NOT_RISING a line of the cue sheet, MCS_BAD_CATALOGUE for a title that is not UTF-8 a track
- * and an octet, MCS_BAD_NAME an octet: each writes what it carries to the words that are lent for it. Every other refusal, and every
- * call that is accepted, leaves block, line, track and octet as they were.
+ * served, counts, blocks, starts, words, positions and count hold what they held. The six of the list from MCS_BAD_CHECK to
+ * MCS_BAD_PADDING carry a block of the card, MCS_BAD_LINE and MCS_NOT_RISING a line of the cue sheet, MCS_BAD_CATALOGUE for a title
+ * that is not UTF-8 a track and an octet, MCS_BAD_NAME an octet: each writes what it carries to the words that are lent for it. Every
+ * other refusal, and every call that is accepted, leaves block, line, track and octet as they were.
  *
  * What is the caller's to see to, as for any function of C:
  * - a pointer with a length points to that many octets or words (a length of 0: it is not followed, and may be null);
- *   words are aligned as uint32_t is; state points to MCS_STATE_OCTETS octets, length, block, blocks, count, line, track and octet
- *   to 1 word each, served and counts to 4;
+ *   words are aligned as uint32_t is; state points to MCS_STATE_OCTETS octets, length, block, blocks, line, track, octet and the
+ *   count of a cue sheet to 1 word each, served and counts to 4, and the count of an object that is read to a size_t;
  * - what a call writes (state, output, length, served, track, octet, the tables, counts and block of a card load, the card and blocks
- *   of a card write, and starts, count and line of a cue sheet) overlaps nothing else lent to it;
+ *   of a card write, starts, count and line of a cue sheet, and words, positions and count of an object that is read) overlaps
+ *   nothing else lent to it;
  * - no other thread touches what is lent while the call runs. The library keeps nothing of its own and calls no function
  *   but its own and memcpy, memset, memmove.
  */
@@ -26,12 +27,13 @@
 extern "C" {
 #endif
 
-/* MCS_VERSION moves when a function of this file is added or changes its arguments or the numbers that it returns: it is 6 since
- * a desk has two services, so that start takes both players, every call to a service its number, and a take's answer names it.
+/* MCS_VERSION moves when a function of this file is added or changes its arguments or the numbers that it returns: it is 7 since
+ * groups, tracks and segments have object numbers, so that there are five more characteristics, of which three may be written, and
+ * four calls that write the objects and read them back.
  * MCS_STATE_LAYOUT moves when the octets of a state change their number, place or meaning. A state's first octet says it
  * (MCS_STATE_MARK), so a stored state of another layout is refused, and not misread. */
-#define MCS_VERSION 6u
-#define MCS_STATE_LAYOUT 2u
+#define MCS_VERSION 7u
+#define MCS_STATE_LAYOUT 3u
 
 /* ---- Numbers that a call returns ------------------------------------------------------------------------------------------ */
 
@@ -56,7 +58,7 @@ extern "C" {
 #define MCS_ALREADY_CONNECTED 204u
 /* ATT_MTU is not 23 to 517. */
 #define MCS_BAD_MTU 206u
-/* The characteristic is none of the thirteen (ATT: Invalid Handle). */
+/* The characteristic is none of the eighteen (ATT: Invalid Handle). */
 #define MCS_NO_CHARACTERISTIC 0x01u
 /* Subscribe or unsubscribe to what is no slot. */
 #define MCS_NO_SLOT 209u
@@ -72,8 +74,10 @@ extern "C" {
 #define MCS_BEYOND_END 0x07u
 /* The written value's length is wrong (ATT: Invalid Attribute Value Length). */
 #define MCS_BAD_LENGTH 0x0Du
-/* The written playing order is not 1 to 8 (ATT: Value Not Allowed). */
-#define MCS_BAD_ORDER 0x13u
+/* The written playing order is not 1 to 8; the written object number is none that may be gone to or named, which no number is while
+ * Inactive (ATT: Value Not Allowed). Of a call that writes an object: there is no such group or track, or the track has no
+ * segments. */
+#define MCS_NOT_ALLOWED 0x13u
 /* Eight results of the client wait in this service (ATT: Insufficient Resources). */
 #define MCS_TOO_MANY_RESULTS 0x11u
 /* The name has over 128 octets, and *octet is 128; or it is not UTF-8, and *octet is the offset, within the name, of the first octet
@@ -101,6 +105,10 @@ extern "C" {
 #define MCS_NO_ROOM 212u
 /* Card write: the catalogue's card has more blocks than the lent octets hold. */
 #define MCS_NO_CARD_ROOM 213u
+/* Object read: the octets are not whole entries, or one of them is none that the standard lays out. */
+#define MCS_BAD_ENTRIES 222u
+/* Object write: the object has more octets than there is room for. Object read: its entries have more words. */
+#define MCS_NO_OBJECT_ROOM 223u
 /* Cue sheet: it has over 65,536 octets. */
 #define MCS_LONG_SHEET 225u
 /* Cue sheet: a line is not understood, and the lines before it are neither 226 nor 227. */
@@ -142,6 +150,30 @@ extern "C" {
 #define MCS_MOST_DURATION 8640000u
 #define MCS_RUNNING 0xFFFFFFFFu
 
+/* ---- Objects ----------------------------------------------------------------------------------------------------------------
+ * Every track and group is an object, and so are the segments of a track that has some. Their numbers have 48 bits: a value of
+ * MCS_OBJECT_OCTETS octets, or of none where there is no such object.
+ */
+#define MCS_OBJECT_OCTETS 6u
+#define MCS_OBJECT_OF_TRACK(track) (0x1000u + (track))
+#define MCS_OBJECT_OF_GROUP(group) (0x2000u + (group))
+#define MCS_OBJECT_OF_SEGMENTS(track) (0x3000u + (track)) /* of the segments of that track */
+
+/* An entry of a Group object (section 4.4 of the Media Control Service 1.0.1): what it is, an octet, and the number of that object;
+ * read back, three words: what it is, the low 32 bits of the number, and its high 16 bits. */
+#define MCS_GROUP_ENTRY_OCTETS 7u
+#define MCS_GROUP_ENTRY_WORDS 3u
+#define MCS_ENTRY_TRACK 0u /* what it is */
+#define MCS_ENTRY_GROUP 1u
+
+/* An entry of a Track Segments object (section 4.2): the length of the segment's name, an octet, the name, and the segment's
+ * position, four octets; so many octets in all where the name is empty. Read back, one word: the position. */
+#define MCS_SEGMENT_ENTRY_OCTETS 5u
+
+/* The most octets of an object of either kind: 63 child groups and 256 tracks; 1,024 segments. */
+#define MCS_MOST_GROUP_OBJECT 2233u
+#define MCS_MOST_SEGMENTS_OBJECT 5120u
+
 /* ---- Characteristics: the last part of their section's number in the Media Control Service 1.0.1 ---------------------------- */
 
 #define MCS_NAME 1u             /* Media Player Name: text; read, notify */
@@ -151,6 +183,17 @@ extern "C" {
 #define MCS_POSITION 7u         /* Track Position: 4 octets; read, write, notify */
 #define MCS_PLAYBACK_SPEED 8u   /* 1 octet; read, write, notify */
 #define MCS_SEEKING_SPEED 9u    /* 1 octet; read, notify */
+#define MCS_SEGMENTS_OBJECT 10u /* Current Track Segments Object ID: 6 octets, or none while Inactive and of a track without
+                                 * segments; read */
+#define MCS_TRACK_OBJECT 11u    /* Current Track Object ID: 6 octets, or none while Inactive; read, write, notify. A write goes to a
+                                 * track of the current group, at 0; Seeking becomes Playing */
+#define MCS_NEXT_TRACK_OBJECT 12u /* Next Track Object ID: 6 octets, or none where no track comes next and while Inactive; read,
+                                 * write, notify. A write names a track of the current group, whatever the playing order; it comes
+                                 * next, once: Next Track or the end of a track goes to it. A call that ends on another track or
+                                 * group than it began on drops the name */
+#define MCS_PARENT_GROUP_OBJECT 13u /* Parent Group Object ID: 6 octets, or none while Inactive; in group 0 that one; read, notify */
+#define MCS_GROUP_OBJECT 14u    /* Current Group Object ID: 6 octets, or none while Inactive; read, write, notify. A write goes to
+                                 * a group with tracks: to its first track in the playing order, at 0; Seeking becomes Playing */
 #define MCS_PLAYING_ORDER 15u   /* 1 octet; read, write, notify */
 #define MCS_ORDERS_SUPPORTED 16u /* 2 octets; read */
 #define MCS_MEDIA_STATE 17u     /* 1 octet, MCS_INACTIVE to MCS_SEEKING; read, notify */
@@ -202,7 +245,7 @@ extern "C" {
  * refused. So the octets of a state that is taken, apart from those that mean nothing, are the encoding of what they mean, and
  * a call other than mcs_start that changes nothing leaves every octet as it was.
  */
-#define MCS_STATE_OCTETS 633u
+#define MCS_STATE_OCTETS 641u
 
 /* The first octet of a state. A state of layout 1 began with a name, and no UTF-8 text begins with an octet 0x80 to 0xBF. */
 #define MCS_STATE_MARK (0x80u + MCS_STATE_LAYOUT)
@@ -210,17 +253,17 @@ extern "C" {
 #define MCS_AT_LAYOUT 0u          /* 1 octet, MCS_STATE_MARK: mcs_start writes it, and every other call leaves it */
 #define MCS_AT_TURN 1u            /* 4 octets: the client that was served last, 0 to 3 */
 #define MCS_AT_LINK(client) (5u + 10u * (client))
-#define MCS_AT_SERVICE(service) (45u + 294u * (service))
+#define MCS_AT_SERVICE(service) (45u + 298u * (service))
 
 /* In the 10 octets of a client's link, which is the same to both services. */
 #define MCS_IN_CONNECTED 0u       /* 1 octet, yes or no: 1 or 0 */
 #define MCS_IN_ENCRYPTED 1u       /* 1 octet, yes or no: 1 or 0 */
 #define MCS_IN_MTU 2u             /* 4 octets; 23 while not connected */
-#define MCS_IN_MARK 6u            /* 4 octets: the place that was served last, 0 to 19, which is 10 times the service plus the
-                                   * slot; 19 while not connected and after connect. A take looks from the next place on, round
-                                   * the twenty */
+#define MCS_IN_MARK 6u            /* 4 octets: the place that was served last, 0 to 27, which is 14 times the service plus the
+                                   * slot; 27 while not connected and after connect. A take looks from the next place on, round
+                                   * the twenty-eight */
 
-/* In the 294 octets of a service: its player, and an account for each client. */
+/* In the 298 octets of a service: its player, and an account for each client. */
 #define MCS_IN_NAME 0u            /* 128 octets, of which the first MCS_IN_NAME_LENGTH says are the name. Those behind it mean
                                    * nothing: mcs_start makes them 0, and every other call leaves those that no name covers as
                                    * they were */
@@ -231,13 +274,15 @@ extern "C" {
 #define MCS_IN_SPEED 132u         /* 1 octet, signed */
 #define MCS_IN_SEEKING 133u       /* 1 octet, signed */
 #define MCS_IN_MASK 134u          /* 4 octets: bit 0 to 20 for each opcode; the others are kept and count as 0 */
-#define MCS_IN_GROUP 138u         /* 4 octets; 0 while Inactive, as are the two that follow */
+#define MCS_IN_GROUP 138u         /* 4 octets; 0 while Inactive, as are the three that follow */
 #define MCS_IN_TRACK 142u         /* 4 octets */
 #define MCS_IN_POSITION 146u      /* 4 octets, hundredths of a second */
-#define MCS_IN_ACCOUNT(client) (150u + 36u * (client))
+#define MCS_IN_NEXT 150u          /* 4 octets: 0 where no next track is named, else the number of the named one, a track of the
+                                   * current group, plus 1 */
+#define MCS_IN_ACCOUNT(client) (154u + 36u * (client))
 
-/* In the 36 octets of a client's account in a service. Slots are the bits 0 to 9 for the characteristics 1, 4, 5, 6, 7, 8, 9, 15,
- * 17, 18. */
+/* In the 36 octets of a client's account in a service. Slots are the bits 0 to 13 for the characteristics 1, 4, 5, 6, 7, 8, 9, 11, 12,
+ * 13, 14, 15, 17, 18. */
 #define MCS_IN_SUBSCRIBED 0u      /* 4 octets, a set of slots */
 #define MCS_IN_OWED 4u            /* 4 octets, a set of slots */
 #define MCS_IN_READ 8u            /* 4 octets: bit c where characteristic c was read at 0 since connecting and has not changed
@@ -249,8 +294,8 @@ extern "C" {
                                    * the last 0, 0; everything else, unsubscribing too, leaves them where they were */
 
 /* ---- Calls ------------------------------------------------------------------------------------------------------------------
- * The catalogue is lent to every call but card load and cue sheet: three tables of words and the text, lengths in words and in
- * octets. A state is lent to every call but these two and card write.
+ * The catalogue is lent to every call but card load, cue sheet and the two that read an object: three tables of words and the
+ * text, lengths in words and in octets. A state is lent to every call but these four, card write and the two that write an object.
  */
 #define MCS_CATALOGUE                                                                                                          \
     const uint32_t *groups, size_t groups_len, const uint32_t *tracks, size_t tracks_len, const uint32_t *segments,            \
@@ -283,6 +328,27 @@ uint32_t mcs_card_write(MCS_CATALOGUE, uint8_t *card, size_t card_len, uint32_t 
  * line is told, and 228 comes after both. */
 uint32_t mcs_cue_sheet(const uint8_t *sheet, size_t sheet_len, uint32_t *starts, size_t starts_len, uint32_t *count,
                        uint32_t *line);
+
+/* Group object write: fills the front of out with the Group object of a group, and *length with the number of its octets, at most
+ * MCS_MOST_GROUP_OBJECT: an entry for each group whose parent it is, by number, those without tracks too, group 0 not being its own
+ * child; and behind them one for each of its tracks, by number. A group without either has an object of no octets. The octets of out
+ * behind them stay. Refusals: 200, 0x13, 223. */
+uint32_t mcs_group_object_write(MCS_CATALOGUE, uint32_t group, uint8_t *out, size_t out_len, uint32_t *length, MCS_PLACE);
+
+/* Segments object write: the same of the Track Segments object of a track, with an entry for each of its segments, in order, whose
+ * name is empty; at most MCS_MOST_SEGMENTS_OBJECT octets. Refusals: 200, 0x13, 223. */
+uint32_t mcs_segments_object_write(MCS_CATALOGUE, uint32_t of_track, uint8_t *out, size_t out_len, uint32_t *length, MCS_PLACE);
+
+/* Group object read: fills the front of words with the entries of a Group object, MCS_GROUP_ENTRY_WORDS words each, and *count with
+ * their number. words_len is in words; those behind the entries stay as they were. What is neither a group nor a track is no entry;
+ * the numbers may be any. Reading what was written gives the entries. Refusals: 222, 223. */
+uint32_t mcs_group_object_read(const uint8_t *octets, size_t octets_len, uint32_t *words, size_t words_len, size_t *count);
+
+/* Segments object read: fills the front of positions with the position of each entry of a Track Segments object, and *count with
+ * their number. What has a name that is not UTF-8, or a negative position, is no entry; right names of any length are passed over,
+ * and the positions need not rise. The words behind them stay. Refusals: 222, 223. */
+uint32_t mcs_segments_object_read(const uint8_t *octets, size_t octets_len, uint32_t *positions, size_t positions_len,
+                                  size_t *count);
 
 /* Start: a state in which each service has this name, opcode mask and Content Control ID, and is Inactive, order 3, speed 0, and
  * no client is connected. What the state's octets held before does not matter. Service 0's name is wholly checked before service
@@ -322,7 +388,8 @@ uint32_t mcs_unsubscribe(MCS_CATALOGUE, uint8_t state[MCS_STATE_OCTETS], uint32_
 uint32_t mcs_read(MCS_CATALOGUE, uint8_t state[MCS_STATE_OCTETS], uint32_t client, uint32_t service, uint32_t characteristic,
                   uint32_t offset, uint8_t *out, size_t out_len, uint32_t *length, MCS_PLACE);
 
-/* Write. Refusals: 200, 201, 202, 219, 203, 0x01, 0x03, 0x0F, 0x0D, 0x13, 0x11. */
+/* Write. A change of 8, 11, 12, 14 or 15 is not owed to the client that wrote that one; what else changes by the write is.
+ * Refusals: 200, 201, 202, 219, 203, 0x01, 0x03, 0x0F, 0x0D, 0x13, 0x11. */
 uint32_t mcs_write(MCS_CATALOGUE, uint8_t state[MCS_STATE_OCTETS], uint32_t client, uint32_t service, uint32_t characteristic,
                    const uint8_t *value, size_t value_len, MCS_PLACE);
 

@@ -40,6 +40,12 @@
  *   and the octet within its title that MCS_BAD_CATALOGUE carries, or the octet within the name that MCS_BAD_NAME carries, and
  *   MCS_NOWHERE for what the call did not carry. Of the two names of a start it is the first bad one, by the order of the
  *   services.
+ * - The object numbers of the characteristics 10 to 14 are for an Object Transfer Service, which the host runs: it includes that in
+ *   both services, and hands out an object where a client asks for one by its number. MCS_OBJECT_OF_GROUP and its like say whose a
+ *   number is; mcs_desk_group_object and mcs_desk_segments_object give the octets of a Group and of a Track Segments object, and a
+ *   Track object is the recording itself. Both services share the catalogue, and so the objects, which are the same until the host
+ *   lends another one. By these two calls MCS_NOT_ALLOWED says that there is no such object, which is the transfer service's to
+ *   answer. mcs_group_entries and mcs_segment_positions are for a device that was handed an object and draws folders of it.
  */
 #ifndef MCS_DESK_H
 #define MCS_DESK_H
@@ -77,7 +83,7 @@ static inline int mcs_names_block(uint32_t number)
     ROW(MCS_VALUE_CHANGED, "the value changed during the long read")                                                           \
     ROW(MCS_BEYOND_END, "the offset is above the value's length")                                                              \
     ROW(MCS_BAD_LENGTH, "the value's length is wrong")                                                                         \
-    ROW(MCS_BAD_ORDER, "the playing order is not 1 to 8")                                                                      \
+    ROW(MCS_NOT_ALLOWED, "the playing order is not 1 to 8, or there is no such object")                                        \
     ROW(MCS_TOO_MANY_RESULTS, "eight results wait already")                                                                    \
     ROW(MCS_BAD_NAME, "the name has over 128 octets or is not UTF-8")                                                          \
     ROW(MCS_BAD_GROUP, "the group is absent or has no tracks")                                                                 \
@@ -90,6 +96,8 @@ static inline int mcs_names_block(uint32_t number)
     ROW(MCS_BAD_PADDING, "an octet behind the records of a block is not 0")                                                    \
     ROW(MCS_NO_ROOM, "the card holds more than a catalogue, or the lent tables, may")                                          \
     ROW(MCS_NO_CARD_ROOM, "the card has more blocks than there is room for")                                                   \
+    ROW(MCS_BAD_ENTRIES, "the octets of an object are not whole entries of its kind")                                          \
+    ROW(MCS_NO_OBJECT_ROOM, "there is too little room for an object or its entries")                                           \
     ROW(MCS_LONG_SHEET, "the cue sheet has over 65,536 octets")                                                                \
     ROW(MCS_BAD_LINE, "a line of the cue sheet is not understood")                                                             \
     ROW(MCS_NOT_RISING, "the first start is not 0, or a start is not above the one before")                                    \
@@ -113,6 +121,11 @@ static inline int mcs_names_block(uint32_t number)
     ROW(MCS_POSITION, MCS_MAY_READ | MCS_MAY_WRITE | MCS_MAY_NOTIFY, "Track Position")                                         \
     ROW(MCS_PLAYBACK_SPEED, MCS_MAY_READ | MCS_MAY_WRITE | MCS_MAY_NOTIFY, "Playback Speed")                                   \
     ROW(MCS_SEEKING_SPEED, MCS_MAY_READ | MCS_MAY_NOTIFY, "Seeking Speed")                                                     \
+    ROW(MCS_SEGMENTS_OBJECT, MCS_MAY_READ, "Current Track Segments Object ID")                                                 \
+    ROW(MCS_TRACK_OBJECT, MCS_MAY_READ | MCS_MAY_WRITE | MCS_MAY_NOTIFY, "Current Track Object ID")                            \
+    ROW(MCS_NEXT_TRACK_OBJECT, MCS_MAY_READ | MCS_MAY_WRITE | MCS_MAY_NOTIFY, "Next Track Object ID")                          \
+    ROW(MCS_PARENT_GROUP_OBJECT, MCS_MAY_READ | MCS_MAY_NOTIFY, "Parent Group Object ID")                                      \
+    ROW(MCS_GROUP_OBJECT, MCS_MAY_READ | MCS_MAY_WRITE | MCS_MAY_NOTIFY, "Current Group Object ID")                            \
     ROW(MCS_PLAYING_ORDER, MCS_MAY_READ | MCS_MAY_WRITE | MCS_MAY_NOTIFY, "Playing Order")                                     \
     ROW(MCS_ORDERS_SUPPORTED, MCS_MAY_READ, "Playing Orders Supported")                                                        \
     ROW(MCS_MEDIA_STATE, MCS_MAY_READ | MCS_MAY_NOTIFY, "Media State")                                                         \
@@ -271,6 +284,52 @@ struct mcs_cue {
     uint32_t count, line;
 };
 
+/* Words that the entries of a Group object are read into, with their room, and the number of entries that were. */
+struct mcs_entries {
+    uint32_t *words;
+    size_t words_len;
+    size_t count;
+};
+
+/* Of one of them, counted from 0: MCS_ENTRY_GROUP or MCS_ENTRY_TRACK, and the number of that object. */
+static inline uint32_t mcs_entry_type(const struct mcs_entries *entries, size_t entry)
+{
+    return entries->words[MCS_GROUP_ENTRY_WORDS * entry];
+}
+
+static inline uint64_t mcs_entry_object(const struct mcs_entries *entries, size_t entry)
+{
+    const uint32_t *words = entries->words + MCS_GROUP_ENTRY_WORDS * entry;
+    uint64_t high = words[2];
+    return high << 32 | words[1];
+}
+
+/* The same of a Track Segments object, whose words are the positions. */
+struct mcs_positions {
+    uint32_t *positions;
+    size_t positions_len;
+    size_t count;
+};
+
+/* The object number that a value of MCS_OBJECT_OCTETS octets is; and the value of a number. */
+static inline uint64_t mcs_object_at(const uint8_t *value)
+{
+    uint64_t number = 0;
+    for (unsigned k = MCS_OBJECT_OCTETS; k > 0; k--) {
+        number = number << 8 | value[k - 1u];
+    }
+    return number;
+}
+
+static inline void mcs_put_object(uint8_t *value, uint64_t number)
+{
+    for (unsigned k = 0; k < MCS_OBJECT_OCTETS; k++) {
+        const uint8_t octet = number & 0xFFu;
+        value[k] = octet;
+        number >>= 8;
+    }
+}
+
 /* ---- Calls: what each does, and its refusals, stands in mcs.h ---------------------------------------------------------------- */
 
 /* Card load; where it is accepted, the catalogue is what was loaded, and lies in the room's tables. *block is the bad block where
@@ -379,6 +438,29 @@ static inline uint32_t mcs_desk_take(struct mcs_desk *desk, uint8_t *out, size_t
         served->length = words[3];
     }
     return number;
+}
+
+/* The Group object of a group of the desk's catalogue, and the Track Segments object of one of its tracks. */
+static inline uint32_t mcs_desk_group_object(struct mcs_desk *desk, uint32_t group, uint8_t *out, size_t out_len, uint32_t *length)
+{
+    return mcs_group_object_write(MCS_LENT(desk->catalogue), group, out, out_len, length, MCS_CARRIED(&desk->place));
+}
+
+static inline uint32_t mcs_desk_segments_object(struct mcs_desk *desk, uint32_t track, uint8_t *out, size_t out_len,
+                                                uint32_t *length)
+{
+    return mcs_segments_object_write(MCS_LENT(desk->catalogue), track, out, out_len, length, MCS_CARRIED(&desk->place));
+}
+
+/* An object that was handed out, back into its entries: of a Group object, of a Track Segments object. */
+static inline uint32_t mcs_group_entries(const uint8_t *octets, size_t octets_len, struct mcs_entries *entries)
+{
+    return mcs_group_object_read(octets, octets_len, entries->words, entries->words_len, &entries->count);
+}
+
+static inline uint32_t mcs_segment_positions(const uint8_t *octets, size_t octets_len, struct mcs_positions *segments)
+{
+    return mcs_segments_object_read(octets, octets_len, segments->positions, segments->positions_len, &segments->count);
 }
 
 #endif

@@ -1,4 +1,4 @@
-/* The desk player core, written along document 01 and the requests of document 02 that have landed: W-201 to W-208, and W-212 for
+/* The desk player core, written along document 01 and the requests of document 02 that have landed: W-201 to W-209, and W-212 for
  * the cue sheet. A comment in quotation marks is a sentence of document 01; where a request is named, and in the cue sheet's
  * part, it is one of document 02. */
 #include "ref.h"
@@ -26,6 +26,8 @@ enum {
     COUNT_WRONG = 217,
     PADDING_WRONG = 218,
     SERVICE_OVER_1 = 219,
+    ENTRIES_WRONG = 222,
+    OBJECT_SMALL = 223,
     SHEET_LONG = 225,
     LINE_WRONG = 226,
     NOT_RISING = 227,
@@ -49,6 +51,11 @@ enum {
     C_POSITION = 7,
     C_SPEED = 8,
     C_SEEKING = 9,
+    C_SEGMENTS_OBJECT = 10,
+    C_TRACK_OBJECT = 11,
+    C_NEXT_OBJECT = 12,
+    C_PARENT_OBJECT = 13,
+    C_GROUP_OBJECT = 14,
     C_ORDER = 15,
     C_ORDERS = 16,
     C_STATE = 17,
@@ -57,14 +64,15 @@ enum {
     C_CCID = 22
 };
 
-/* "The ten slots 1, 4, 5, 6, 7, 8, 9, 15, 17, 18 may be subscribed to." */
-static const uint32_t SLOT[REF_SLOTS] = {1, 4, 5, 6, 7, 8, 9, 15, 17, 18};
-#define ALL_SLOTS 0x3FFu
-#define CONTROL_SLOT 9u
+/* "1, 4, 5, 6, 7, 8, 9, 15, 17, 18 may be subscribed to", W-209: "Slots 11 to 14 are owed on change" */
+static const uint32_t SLOT[REF_SLOTS] = {1, 4, 5, 6, 7, 8, 9, 11, 12, 13, 14, 15, 17, 18};
+#define ALL_SLOTS 0x3FFFu
+#define CONTROL_SLOT 13u
 #define NO_SUCH_SLOT REF_SLOTS
 
-/* "1 name, 4 Track Changed, 5 title, ... 22 Content Control ID" */
-static const uint32_t THIRTEEN[13] = {1, 4, 5, 6, 7, 8, 9, 15, 16, 17, 18, 19, 22};
+/* "1 name, 4 Track Changed, 5 title, ... 22 Content Control ID", and W-209: "10 to 14 of source 001" */
+#define CHARACTERISTICS 18u
+static const uint32_t CHARACTERISTIC[CHARACTERISTICS] = {1, 4, 5, 6, 7, 8, 9, 10, 11, 12, 13, 14, 15, 16, 17, 18, 19, 22};
 
 #define VALUE_ROOM 128u
 #define LOWEST_MTU 23u
@@ -102,6 +110,15 @@ static int is_running(const catalogue *c, uint32_t t) { return track_duration_wo
 static uint32_t track_d(const catalogue *c, uint32_t t)
 {
     return is_running(c, t) ? LONGEST_DURATION : track_duration_word(c, t);
+}
+
+/* A "group absent or without tracks" is refused by Activate, and where it is written to 14. */
+static int has_tracks(const catalogue *c, uint32_t g) { return g < c->group_count && group_tracks(c, g) > 0; }
+
+/* "track in it", of a group that there is */
+static int is_in_group(const catalogue *c, uint32_t g, uint32_t t)
+{
+    return t >= group_first(c, g) && t - group_first(c, g) < group_tracks(c, g);
 }
 
 /* UTF8-tail of RFC 3629: each octet of a character but its first. */
@@ -582,7 +599,185 @@ uint32_t ref_cue_sheet(const uint8_t *sheet, size_t sheet_len, uint32_t *starts,
     return 0;
 }
 
+/* ---- Objects */
+
+/* W-209: "Track t is object 0x1000 + t, group g 0x2000 + g, segments of t 0x3000 + t." */
+#define TRACK_OBJECTS 0x1000u
+#define GROUP_OBJECTS 0x2000u
+#define SEGMENTS_OBJECTS 0x3000u
+/* 001, 3.10 to 3.14: a uint48. */
+#define OBJECT_OCTETS 6u
+
+static uint32_t put_object(uint8_t *out, uint32_t object)
+{
+    (void)put_32(out, object);
+    put_16(out + 4, 0);
+    return OBJECT_OCTETS;
+}
+
+#define NO_SUCH_OBJECT 0xFFFFFFFFu
+
+/* What the object number at `value` is the number of among those that begin at `from`, or NO_SUCH_OBJECT, which is more than any. */
+static uint32_t object_at(const uint8_t value[OBJECT_OCTETS], uint32_t from)
+{
+    uint32_t low = octets_32(value), high = octets_16(value + 4);
+    return high == 0 && low >= from ? low - from : NO_SUCH_OBJECT;
+}
+
+/* 001, 4.4: the type, 0 of a track and 1 of a group, and then the object number. */
+#define GROUP_ENTRY (1u + OBJECT_OCTETS)
+#define TRACK_TYPE 0u
+#define GROUP_TYPE 1u
+#define GROUP_ENTRY_WORDS 3u
+/* 001, 4.2: the length of the name, the name, and then the position. The octets without those of the name. */
+#define SEGMENT_ENTRY 5u
+
+static int is_child(const catalogue *c, uint32_t g, uint32_t of)
+{
+    /* W-209: "group 0 is not its own child" */
+    return g > 0 && group_parent(c, g) == of;
+}
+
+static uint8_t *put_entry(uint8_t *out, uint8_t type, uint32_t object)
+{
+    out[0] = type;
+    return out + 1 + put_object(out + 1, object);
+}
+
+uint32_t ref_group_object_write(REF_CATALOGUE, uint32_t group, uint8_t *out, size_t out_len, uint32_t *length, REF_PLACE)
+{
+    catalogue c;
+    uint32_t entries, g, k;
+
+    if (!LEND(c)) {
+        return CATALOGUE_WRONG;
+    }
+    /* W-209: "Asking for the object of a group or track that is absent, or of a track without segments, gives 0x13." */
+    if (group >= c.group_count) {
+        return ATT_VALUE;
+    }
+    entries = group_tracks(&c, group);
+    for (g = 0; g < c.group_count; g++) {
+        entries += is_child(&c, g, group) ? 1u : 0u;
+    }
+    /* W-209: "223 for too little room" */
+    if (out_len < GROUP_ENTRY * entries) {
+        return OBJECT_SMALL;
+    }
+    /* W-209: "a group's child groups by number (group 0 is not its own child), then its tracks by number" */
+    for (g = 0; g < c.group_count; g++) {
+        if (is_child(&c, g, group)) {
+            out = put_entry(out, GROUP_TYPE, GROUP_OBJECTS + g);
+        }
+    }
+    for (k = 0; k < group_tracks(&c, group); k++) {
+        out = put_entry(out, TRACK_TYPE, TRACK_OBJECTS + group_first(&c, group) + k);
+    }
+    *length = GROUP_ENTRY * entries;
+    return 0;
+}
+
+uint32_t ref_segments_object_write(REF_CATALOGUE, uint32_t track, uint8_t *out, size_t out_len, uint32_t *length, REF_PLACE)
+{
+    catalogue c;
+    uint32_t k;
+
+    if (!LEND(c)) {
+        return CATALOGUE_WRONG;
+    }
+    if (track >= c.track_count || track_segments(&c, track) == 0) {
+        return ATT_VALUE;
+    }
+    if (out_len < SEGMENT_ENTRY * track_segments(&c, track)) {
+        return OBJECT_SMALL;
+    }
+    /* W-209: "a track's segments in order, names of length 0" */
+    for (k = 0; k < track_segments(&c, track); k++) {
+        out[SEGMENT_ENTRY * k] = 0;
+        (void)put_32(out + SEGMENT_ENTRY * k + 1u, c.segments[track_first(&c, track) + k]);
+    }
+    *length = SEGMENT_ENTRY * track_segments(&c, track);
+    return 0;
+}
+
+/* W-209: "222 for octets that are not whole entries of 4.4 or 4.2", which all octets are asked before the room is. */
+uint32_t ref_group_object_read(const uint8_t *octets, size_t octets_len, uint32_t *words, size_t words_len, size_t *count)
+{
+    size_t entries = octets_len / GROUP_ENTRY, k;
+
+    if (octets_len % GROUP_ENTRY != 0) {
+        return ENTRIES_WRONG;
+    }
+    for (k = 0; k < entries; k++) {
+        if (octets[GROUP_ENTRY * k] > GROUP_TYPE) {
+            return ENTRIES_WRONG;
+        }
+    }
+    if (words_len / GROUP_ENTRY_WORDS < entries) {
+        return OBJECT_SMALL;
+    }
+    for (k = 0; k < entries; k++) {
+        const uint8_t *entry = octets + GROUP_ENTRY * k;
+        uint32_t *to = words + GROUP_ENTRY_WORDS * k;
+        to[0] = entry[0];
+        to[1] = octets_32(entry + 1);
+        to[2] = octets_16(entry + 5);
+    }
+    *count = entries;
+    return 0;
+}
+
+/* The octets of the whole entry of 4.2 that these begin with, and its position; 0 where they begin with none. 001, 4.2.2: the name is
+ * UTF-8; 4.2.3: the position is 0 or more. */
+static size_t segment_entry(const uint8_t *octets, size_t len, uint32_t *position)
+{
+    size_t name_len;
+
+    if (len < SEGMENT_ENTRY) {
+        return 0;
+    }
+    name_len = octets[0];
+    if (len - SEGMENT_ENTRY < name_len || valid_front(octets + 1, name_len) < name_len) {
+        return 0;
+    }
+    *position = octets_32(octets + 1 + name_len);
+    return *position < 0x80000000u ? SEGMENT_ENTRY + name_len : 0;
+}
+
+uint32_t ref_segments_object_read(const uint8_t *octets, size_t octets_len, uint32_t *positions, size_t positions_len,
+                                  size_t *count)
+{
+    size_t entries = 0, at, step, k;
+    uint32_t position;
+
+    for (at = 0; at < octets_len; at += step) {
+        step = segment_entry(octets + at, octets_len - at, &position);
+        if (step == 0) {
+            return ENTRIES_WRONG;
+        }
+        entries++;
+    }
+    if (positions_len < entries) {
+        return OBJECT_SMALL;
+    }
+    for (at = 0, k = 0; k < entries; k++) {
+        at += segment_entry(octets + at, octets_len - at, &positions[k]);
+    }
+    *count = entries;
+    return 0;
+}
+
 /* ---- The player */
+
+/* "3, 4 by number; 5, 6 by rising stamp; 7, 8 by falling stamp; ties by lower number in all." */
+static int comes_before(const catalogue *c, uint32_t order, uint32_t track, uint32_t other)
+{
+    uint32_t stamp = track_stamp(c, track), other_stamp = track_stamp(c, other);
+    if (order <= 4u || stamp == other_stamp) {
+        return track < other;
+    }
+    return order <= 6u ? stamp < other_stamp : stamp > other_stamp;
+}
 
 /* The tracks of the order, in its order; how many. `current` is the current track, for orders 1 and 2. */
 static uint32_t order_list(const catalogue *c, uint32_t order, uint32_t group, uint32_t current, uint32_t list[256])
@@ -594,21 +789,22 @@ static uint32_t order_list(const catalogue *c, uint32_t order, uint32_t group, u
         list[0] = current;
         return 1;
     }
-    /* "3, 4 by number; 5, 6 by rising stamp; 7, 8 by falling stamp; ties by lower number in all." Each track is put
-     * behind those that it does not come before, so that equal ones stay as they were: by number. */
+    /* Each track is put behind those that it does not come before. */
     for (k = 0; k < count; k++) {
         uint32_t track = group_first(c, group) + k;
-        for (j = k; j > 0; j--) {
-            uint32_t other = track_stamp(c, list[j - 1u]);
-            int before = order <= 4u ? 0 : order <= 6u ? track_stamp(c, track) < other : track_stamp(c, track) > other;
-            if (!before) {
-                break;
-            }
+        for (j = k; j > 0 && comes_before(c, order, track, list[j - 1u]); j--) {
             list[j] = list[j - 1u];
         }
         list[j] = track;
     }
     return count;
+}
+
+static void go_to_track(ref_player *p, uint32_t track)
+{
+    p->track = track;
+    /* "Position becomes 0." */
+    p->position = 0;
 }
 
 /* "Activate: the group's first track in the order" and, of orders 1 and 2, "when a group is activated or moved to, its
@@ -618,11 +814,10 @@ static void enter_group(const catalogue *c, ref_player *p, uint32_t group)
     uint32_t list[256];
     (void)order_list(c, p->order, group, group_first(c, group), list);
     p->group = group;
-    p->track = list[0];
-    p->position = 0;
+    go_to_track(p, list[0]);
 }
 
-/* "Inactive exactly when there is no current track"; group, track and position are then those of start. */
+/* "Inactive exactly when there is no current track"; group, track, position and the named next track are then those of start. */
 static void leave_group(ref_player *p)
 {
     p->media = REF_INACTIVE;
@@ -630,6 +825,7 @@ static void leave_group(ref_player *p)
     p->group = 0;
     p->track = 0;
     p->position = 0;
+    p->next = 0;
 }
 
 static void set_media(ref_player *p, uint8_t media)
@@ -637,6 +833,15 @@ static void set_media(ref_player *p, uint8_t media)
     /* "Outside Seeking the speed is 0." */
     p->media = media;
     p->seeking = 0;
+}
+
+/* "Track and group moves turn Seeking into Playing.", W-209, of 14: "keeping the state (Seeking becomes Playing)", and of 11, which
+ * 001, 3.11.1 has act as Goto Track does. */
+static void leave_seeking(ref_player *p)
+{
+    if (p->media == REF_SEEKING) {
+        set_media(p, REF_PLAYING);
+    }
 }
 
 static uint32_t held(int64_t to, uint32_t most)
@@ -665,7 +870,8 @@ static uint32_t list_move(uint32_t count, uint32_t at, int repeats, int move, in
         /* "the neighbour; past an end, the other end in a repeat order, else result 4" */
         return at > 0 ? at - 1u : repeats ? count - 1u : count;
     case NEXT:
-        return at + 1u < count ? at + 1u : repeats ? 0 : count;
+        /* Of groups, which have "no repeat"; that of tracks is next_in_order. Behind the last it is `count`. */
+        return at + 1u;
     case FIRST:
         return 0;
     case LAST:
@@ -689,7 +895,10 @@ static uint32_t list_move(uint32_t count, uint32_t at, int repeats, int move, in
     return n > 0 ? (uint32_t)steps : count - 1u - (uint32_t)steps;
 }
 
-static int track_move(const catalogue *c, ref_player *p, int move, int64_t n)
+#define NO_TRACK 0xFFFFFFFFu
+
+/* The track to which a move but Next leads in the order, or NO_TRACK where it cannot be made. */
+static uint32_t track_in_order(const catalogue *c, const ref_player *p, int move, int64_t n)
 {
     uint32_t list[256];
     uint32_t count = order_list(c, p->order, p->group, p->track, list), at = 0, to;
@@ -699,12 +908,47 @@ static int track_move(const catalogue *c, ref_player *p, int move, int64_t n)
     }
     /* "Odd is once, even repeats." */
     to = list_move(count, at, p->order % 2u == 0, move, n);
-    if (to == count) {
+    return to == count ? NO_TRACK : list[to];
+}
+
+/* Where Next leads in the order, or NO_TRACK. It is asked before and after every call, as a value, and therefore without the list. */
+static uint32_t next_in_order(const catalogue *c, const ref_player *p)
+{
+    uint32_t first = p->track, behind = NO_TRACK, k;
+
+    /* "1, 2 the current track alone" */
+    for (k = 0; p->order > 2u && k < group_tracks(c, p->group); k++) {
+        uint32_t track = group_first(c, p->group) + k;
+        if (comes_before(c, p->order, track, first)) {
+            first = track;
+        }
+        if (comes_before(c, p->order, p->track, track) && (behind == NO_TRACK || comes_before(c, p->order, track, behind))) {
+            behind = track;
+        }
+    }
+    /* "the neighbour; past an end, the other end in a repeat order, else result 4" */
+    return behind != NO_TRACK ? behind : p->order % 2u == 0 ? first : NO_TRACK;
+}
+
+/* W-209: "12 names a track of the current group that Next Track or the end of a track uses"; where none is named, the order's. */
+static uint32_t next_track(const catalogue *c, const ref_player *p)
+{
+    return p->next != 0 ? p->next - 1u : next_in_order(c, p);
+}
+
+static int track_move(const catalogue *c, ref_player *p, int move, int64_t n)
+{
+    /* W-209: "Goto's steps not" */
+    uint32_t to = move == NEXT ? next_track(c, p) : track_in_order(c, p, move, n);
+
+    if (to == NO_TRACK) {
         return 0;
     }
-    p->track = list[to];
-    /* "Position becomes 0." */
-    p->position = 0;
+    /* W-209: "uses once", also where it leads to the track that it began on. */
+    if (move == NEXT) {
+        p->next = 0;
+    }
+    go_to_track(p, to);
     return 1;
 }
 
@@ -926,10 +1170,7 @@ static uint8_t control(const catalogue *c, ref_player *p, uint8_t opcode, int64_
         if (!made) {
             return 4;
         }
-        /* "Track and group moves turn Seeking into Playing." */
-        if (p->media == REF_SEEKING) {
-            set_media(p, REF_PLAYING);
-        }
+        leave_seeking(p);
         break;
     }
     return 1;
@@ -947,10 +1188,68 @@ static void write_position(const catalogue *c, ref_player *p, int64_t v)
     p->position = held(v >= 0 ? v : (int64_t)d + v, d);
 }
 
+/* W-209: "11, 12, 14 may be written" */
+static int carries_object(uint32_t characteristic)
+{
+    return characteristic == C_TRACK_OBJECT || characteristic == C_NEXT_OBJECT || characteristic == C_GROUP_OBJECT;
+}
+
+/* W-209: "0x13 for any other number, a group without tracks in 14 and while Inactive" */
+static int object_may_be_written(const catalogue *c, const ref_player *p, uint32_t characteristic,
+                                 const uint8_t value[OBJECT_OCTETS])
+{
+    if (p->media == REF_INACTIVE) {
+        return 0;
+    }
+    return characteristic == C_GROUP_OBJECT ? has_tracks(c, object_at(value, GROUP_OBJECTS))
+                                            : is_in_group(c, p->group, object_at(value, TRACK_OBJECTS));
+}
+
+/* W-209: "11 goes to a track of the current group at 0, 14 to a group as Activate does but keeping the state (Seeking becomes
+ * Playing), 12 names a track of the current group" */
+static void write_object(const catalogue *c, ref_player *p, uint32_t characteristic, const uint8_t value[OBJECT_OCTETS])
+{
+    if (characteristic == C_NEXT_OBJECT) {
+        p->next = object_at(value, TRACK_OBJECTS) + 1u;
+        return;
+    }
+    if (characteristic == C_TRACK_OBJECT) {
+        go_to_track(p, object_at(value, TRACK_OBJECTS));
+    } else {
+        enter_group(c, p, object_at(value, GROUP_OBJECTS));
+    }
+    leave_seeking(p);
+}
+
 /* ---- Values */
 
-/* "Values: 1 and 5 text; 4 empty; 6, 7, 19 four octets; 16 two; 18 two; the rest one." The length; 18 has no value apart
- * from its results and comes out empty here. */
+/* The value of 10 to 14. W-209: "Reads are six octets, or none while Inactive, for 10 where the track has no segments, and for 12
+ * where no next track exists." */
+static uint32_t object_value(const catalogue *c, const ref_player *p, uint32_t characteristic, uint8_t out[OBJECT_OCTETS])
+{
+    uint32_t next;
+
+    if (p->media == REF_INACTIVE) {
+        return 0;
+    }
+    switch (characteristic) {
+    case C_SEGMENTS_OBJECT:
+        return track_segments(c, p->track) == 0 ? 0 : put_object(out, SEGMENTS_OBJECTS + p->track);
+    case C_TRACK_OBJECT:
+        return put_object(out, TRACK_OBJECTS + p->track);
+    case C_NEXT_OBJECT:
+        next = next_track(c, p);
+        return next == NO_TRACK ? 0 : put_object(out, TRACK_OBJECTS + next);
+    case C_PARENT_OBJECT:
+        /* "Group 0, if any, is its own parent", as 001, 3.13 has it of a group that has none. */
+        return put_object(out, GROUP_OBJECTS + group_parent(c, p->group));
+    default:
+        return put_object(out, GROUP_OBJECTS + p->group);
+    }
+}
+
+/* "Values: 1 and 5 text; 4 empty; 6, 7, 19 four octets; 16 two; 18 two; the rest one.", and 10 to 14 above. The length; 18 has no
+ * value apart from its results and comes out empty here. */
 static uint32_t value_of(const catalogue *c, const ref_player *p, uint32_t characteristic, uint8_t out[VALUE_ROOM])
 {
     int inactive = p->media == REF_INACTIVE;
@@ -977,6 +1276,12 @@ static uint32_t value_of(const catalogue *c, const ref_player *p, uint32_t chara
     case C_SEEKING:
         out[0] = (uint8_t)p->seeking;
         return 1;
+    case C_SEGMENTS_OBJECT:
+    case C_TRACK_OBJECT:
+    case C_NEXT_OBJECT:
+    case C_PARENT_OBJECT:
+    case C_GROUP_OBJECT:
+        return object_value(c, p, characteristic, out);
     case C_ORDER:
         out[0] = p->order;
         return 1;
@@ -1001,15 +1306,15 @@ static uint32_t value_of(const catalogue *c, const ref_player *p, uint32_t chara
 static int is_characteristic(uint32_t characteristic)
 {
     uint32_t k;
-    for (k = 0; k < 13u; k++) {
-        if (THIRTEEN[k] == characteristic) {
+    for (k = 0; k < CHARACTERISTICS; k++) {
+        if (CHARACTERISTIC[k] == characteristic) {
             return 1;
         }
     }
     return 0;
 }
 
-/* "All but 4 and 18 may be read; 7, 8, 15, 18 may be written." */
+/* "All but 4 and 18 may be read; 7, 8, 15, 18 may be written.", and those of W-209. */
 static int may_be_read(uint32_t characteristic)
 {
     return is_characteristic(characteristic) && characteristic != C_TRACK_CHANGED && characteristic != C_CONTROL;
@@ -1018,7 +1323,7 @@ static int may_be_read(uint32_t characteristic)
 static int may_be_written(uint32_t characteristic)
 {
     return characteristic == C_POSITION || characteristic == C_SPEED || characteristic == C_ORDER ||
-           characteristic == C_CONTROL;
+           characteristic == C_CONTROL || carries_object(characteristic);
 }
 
 static uint32_t slot_of(uint32_t characteristic)
@@ -1063,10 +1368,13 @@ static int player_stands(const catalogue *c, const ref_player *p)
     }
     /* "Inactive exactly when there is no current track" */
     if (p->media == REF_INACTIVE) {
-        return p->group == 0 && p->track == 0 && p->position == 0;
+        return p->group == 0 && p->track == 0 && p->position == 0 && p->next == 0;
     }
-    if (p->group >= c->group_count || p->track < group_first(c, p->group) ||
-        p->track - group_first(c, p->group) >= group_tracks(c, p->group)) {
+    if (p->group >= c->group_count || !is_in_group(c, p->group, p->track)) {
+        return 0;
+    }
+    /* W-209: "201 also for a named next track while Inactive or not of the current group" */
+    if (p->next != 0 && !is_in_group(c, p->group, p->next - 1u)) {
         return 0;
     }
     /* "Otherwise the position is 0 to the duration, D." */
@@ -1105,7 +1413,7 @@ static int account_stands(const ref_link *link, const ref_account *a)
             return 0;
         }
     }
-    /* Bits outside the ten slots, and of what may not be read. */
+    /* Bits outside the slots, and of what may not be read. */
     if ((a->subscribed & ~ALL_SLOTS) != 0 || (a->owed & ~ALL_SLOTS) != 0) {
         return 0;
     }
@@ -1152,12 +1460,20 @@ static int state_stands(const catalogue *c, const ref_state *s)
 /* ---- What is owed */
 
 #define NO_CLIENT REF_CLIENTS
+#define NOTHING 0u
+
+/* "8 and 15 to the client that wrote them" are not owed, W-209: "11, 12 and 14 not to their writer". But "the writer of 7 is owed a
+ * change of it". */
+static int spares_writer(uint32_t characteristic)
+{
+    return characteristic == C_SPEED || characteristic == C_ORDER || carries_object(characteristic);
+}
 
 /* W-208: "Calls to one never alter replies, state or owed values of the other", so this is about one service: the values before
- * the call are those of `before`, after it those of its player. `writer` is who wrote 8 or 15 there, or nobody; `quiet` says that
- * it was "an advance in Playing" that "stays below D". */
+ * the call are those of `before`, after it those of its player. `writer` is the client that wrote `written` there, or nobody; `quiet`
+ * says that it was "an advance in Playing" that "stays below D". */
 static void make_owed(const catalogue *c, const ref_player *before, ref_service *service, const ref_link links[REF_CLIENTS],
-                      uint32_t writer, int quiet)
+                      uint32_t writer, uint32_t written, int quiet)
 {
     const ref_player *after = &service->player;
     uint8_t was[VALUE_ROOM], is[VALUE_ROOM];
@@ -1165,8 +1481,8 @@ static void make_owed(const catalogue *c, const ref_player *before, ref_service 
     int track_changed = before->media == REF_INACTIVE ? after->media != REF_INACTIVE
                                                       : after->media == REF_INACTIVE || after->track != before->track;
 
-    for (k = 0; k < 13u; k++) {
-        uint32_t characteristic = THIRTEEN[k], slot = slot_of(characteristic);
+    for (k = 0; k < CHARACTERISTICS; k++) {
+        uint32_t characteristic = CHARACTERISTIC[k], slot = slot_of(characteristic);
         uint32_t was_len, is_len;
         int changed, owed;
 
@@ -1195,8 +1511,8 @@ static void make_owed(const catalogue *c, const ref_player *before, ref_service 
             if (changed) {
                 a->fresh &= ~(1u << characteristic);
             }
-            /* "8 and 15 to the client that wrote them"; "What is already owed stays owed" */
-            if ((characteristic == C_SPEED || characteristic == C_ORDER) && j == writer) {
+            /* "What is already owed stays owed" */
+            if (j == writer && characteristic == written && spares_writer(characteristic)) {
                 continue;
             }
             if (owed && slot != NO_SUCH_SLOT && (a->subscribed >> slot & 1u) != 0) {
@@ -1204,6 +1520,19 @@ static void make_owed(const catalogue *c, const ref_player *before, ref_service 
             }
         }
     }
+}
+
+/* What every call to a service ends with that may have changed its player. */
+static void end_call(const catalogue *c, const ref_player *before, ref_service *service, const ref_link links[REF_CLIENTS],
+                     uint32_t writer, uint32_t written, int quiet)
+{
+    ref_player *p = &service->player;
+
+    /* W-209: "any call that ends on another track or group than it began on drops it, what lies between does not" */
+    if (p->group != before->group || p->track != before->track) {
+        p->next = 0;
+    }
+    make_owed(c, before, service, links, writer, written, quiet);
 }
 
 /* ---- The calls */
@@ -1288,7 +1617,7 @@ uint32_t ref_set_name(REF_CATALOGUE, ref_state *state, uint32_t service, const u
         memcpy(p->name, name, name_len);
     }
     p->name_len = (uint32_t)name_len;
-    make_owed(&c, &before, &state->services[service], state->links, NO_CLIENT, 0);
+    end_call(&c, &before, &state->services[service], state->links, NO_CLIENT, NOTHING, 0);
     return 0;
 }
 
@@ -1306,7 +1635,7 @@ uint32_t ref_activate(REF_CATALOGUE, ref_state *state, uint32_t service, uint32_
         return refusal;
     }
     /* "group absent or without tracks" */
-    if (group >= c.group_count || group_tracks(&c, group) == 0) {
+    if (!has_tracks(&c, group)) {
         return GROUP_WRONG;
     }
     p = &state->services[service].player;
@@ -1314,7 +1643,7 @@ uint32_t ref_activate(REF_CATALOGUE, ref_state *state, uint32_t service, uint32_
     /* "Activate: the group's first track in the order, position 0, Paused, seeking speed 0." */
     enter_group(&c, p, group);
     set_media(p, REF_PAUSED);
-    make_owed(&c, &before, &state->services[service], state->links, NO_CLIENT, 0);
+    end_call(&c, &before, &state->services[service], state->links, NO_CLIENT, NOTHING, 0);
     return 0;
 }
 
@@ -1335,7 +1664,7 @@ uint32_t ref_deactivate(REF_CATALOGUE, ref_state *state, uint32_t service, REF_P
     before = *p;
     /* "Deactivate leaves Inactive, order and playback speed kept." */
     leave_group(p);
-    make_owed(&c, &before, &state->services[service], state->links, NO_CLIENT, 0);
+    end_call(&c, &before, &state->services[service], state->links, NO_CLIENT, NOTHING, 0);
     return 0;
 }
 
@@ -1373,7 +1702,7 @@ uint32_t ref_advance(REF_CATALOGUE, ref_state *state, uint32_t service, uint32_t
         /* "Seeking adds d times the seeking speed, held to 0..D." */
         p->position = held((int64_t)p->position + (int64_t)d * p->seeking, track_d(&c, p->track));
     }
-    make_owed(&c, &before, &state->services[service], state->links, NO_CLIENT, quiet);
+    end_call(&c, &before, &state->services[service], state->links, NO_CLIENT, NOTHING, quiet);
     return 0;
 }
 
@@ -1565,7 +1894,7 @@ uint32_t ref_write(REF_CATALOGUE, ref_state *state, uint32_t client, uint32_t se
     catalogue c;
     ref_player before, *p;
     ref_account *a;
-    uint32_t refusal, spared = NO_CLIENT;
+    uint32_t refusal;
 
     if (!LEND(c)) {
         return CATALOGUE_WRONG;
@@ -1583,9 +1912,14 @@ uint32_t ref_write(REF_CATALOGUE, ref_state *state, uint32_t client, uint32_t se
     if (!state->links[client].encrypted) {
         return ATT_NOT_ENCRYPTED;
     }
-    /* "length not 4 for 7, 1 for 8 and 15; for 18: 0, over 5, or not 1 or 5 as a known opcode asks" */
+    /* "length not 4 for 7, 1 for 8 and 15; for 18: 0, over 5, or not 1 or 5 as a known opcode asks", W-209: "0x0D for a length other
+     * than 6" */
     if (characteristic == C_POSITION) {
         if (value_len != 4) {
+            return ATT_LENGTH;
+        }
+    } else if (carries_object(characteristic)) {
+        if (value_len != OBJECT_OCTETS) {
             return ATT_LENGTH;
         }
     } else if (characteristic == C_CONTROL) {
@@ -1602,22 +1936,24 @@ uint32_t ref_write(REF_CATALOGUE, ref_state *state, uint32_t client, uint32_t se
     if (characteristic == C_ORDER && (value[0] < 1 || value[0] > 8)) {
         return ATT_VALUE;
     }
+    p = &state->services[service].player;
+    if (carries_object(characteristic) && !object_may_be_written(&c, p, characteristic, value)) {
+        return ATT_VALUE;
+    }
     /* "write to 18 by a client with 8 results waiting", in the service that is written to */
     a = &state->services[service].accounts[client];
     if (characteristic == C_CONTROL && a->waiting == REF_RESULTS) {
         return ATT_FULL;
     }
-    p = &state->services[service].player;
     before = *p;
     if (characteristic == C_POSITION) {
-        /* "The writer of 7 is owed a change of it" */
         write_position(&c, p, signed_32(octets_32(value)));
     } else if (characteristic == C_SPEED) {
         p->speed = (int8_t)(value[0] < 128 ? value[0] : value[0] - 256);
-        spared = client;
     } else if (characteristic == C_ORDER) {
         p->order = value[0];
-        spared = client;
+    } else if (carries_object(characteristic)) {
+        write_object(&c, p, characteristic, value);
     } else {
         uint8_t code = control(&c, p, value[0], value_len == 5 ? signed_32(octets_32(value + 1)) : 0);
         /* "Slot 18 holds up to 8 results, oldest first: requested opcode and result, one for each accepted control write
@@ -1629,7 +1965,7 @@ uint32_t ref_write(REF_CATALOGUE, ref_state *state, uint32_t client, uint32_t se
             a->owed |= 1u << CONTROL_SLOT;
         }
     }
-    make_owed(&c, &before, &state->services[service], state->links, spared, 0);
+    end_call(&c, &before, &state->services[service], state->links, client, characteristic, 0);
     return 0;
 }
 
@@ -1668,7 +2004,7 @@ uint32_t ref_take(REF_CATALOGUE, ref_state *state, uint8_t *out, size_t out_len,
         if (owed == 0) {
             continue;
         }
-        /* "within it, the first owed slot after its last served", W-208: "twenty in all" */
+        /* "within it, the first owed slot after its last served", W-209: "per client there are now 28 slots" */
         place = (link->mark + 1u) % REF_PLACES;
         while ((owed >> place & 1u) == 0) {
             place = (place + 1u) % REF_PLACES;

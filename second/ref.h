@@ -1,8 +1,9 @@
-/* The desk player core: card reader and writer, cue sheet reader, catalogue check, and two players, the generic service's and the
- * named one's, below one layer of four clients.
+/* The desk player core: card reader and writer, cue sheet reader, catalogue check, writer and reader of objects, and two players, the
+ * generic service's and the named one's, below one layer of four clients.
  *
- * Every call returns 0, or the refusal number of document 01's table (ATT codes as 0x01 to 0x80), of a card load, a card write
- * and a cue sheet those of document 02's requests W-205 and W-206, W-204, and W-212; a call to a service also the 219 of W-208.
+ * Every call returns 0, or the refusal number of document 01's table (ATT codes as 0x01 to 0x80), of a card load, a card write,
+ * a cue sheet and an object those of document 02's requests W-205 and W-206, W-204, W-212, and W-209; a call to a service also the
+ * 219 of W-208.
  * "A refusal returns its number alone and alters nothing." W-205, of a bad block: "Demand 1 reads the number and the block as the
  * whole refusal." W-207 lets 200 and 207 carry the place of a bad text as well.
  */
@@ -16,15 +17,15 @@
 #define REF_CLIENTS 4u
 /* W-208: "the generic service and one named player", 0 and 1. */
 #define REF_SERVICES 2u
-#define REF_SLOTS 10u
-/* W-208: "a client's slots running through the generic service and then the other, twenty in all", the places 0 to 19: slot s of
- * service v is place 10 v + s. */
+#define REF_SLOTS 14u
+/* W-208: "a client's slots running through the generic service and then the other", W-209: "per client there are now 28 slots", the
+ * places 0 to 27: slot s of service v is place 14 v + s. */
 #define REF_PLACES (REF_SERVICES * REF_SLOTS)
 #define REF_RESULTS 8u
 
 /* The first octet of a state, which tells the layout of those behind it. No UTF-8 text begins with such an octet, so that octets
  * which begin with a name are not taken for a state. */
-#define REF_STATE_LAYOUT 2u
+#define REF_STATE_LAYOUT 3u
 #define REF_STATE_MARK (0x80u + REF_STATE_LAYOUT)
 
 /* "State: 0 Inactive, 1 Playing, 2 Paused, 3 Seeking." */
@@ -52,14 +53,15 @@ typedef struct {
     uint8_t order;
     int8_t speed;
     int8_t seeking;
-    uint32_t group;    /* 0 while Inactive, as are the two that follow */
+    uint32_t group;    /* 0 while Inactive, as are the three that follow */
     uint32_t track;
     uint32_t position;
+    uint32_t next;     /* W-209: 12 "names a track": its number plus 1, or 0 where none is named */
 } ref_player;
 
 /* What is a client's in one service. */
 typedef struct {
-    uint32_t subscribed; /* bit s: slot s of 1, 4, 5, 6, 7, 8, 9, 15, 17, 18 */
+    uint32_t subscribed; /* bit s: slot s of 1, 4, 5, 6, 7, 8, 9, 11, 12, 13, 14, 15, 17, 18 */
     uint32_t owed;       /* likewise */
     uint32_t fresh;      /* bit c: characteristic c was read at 0 since connecting, and no call changed it since */
     uint32_t waiting;    /* results that wait, oldest first */
@@ -101,6 +103,17 @@ uint32_t ref_card_write(REF_CATALOGUE, uint8_t *card, size_t card_len, uint32_t 
 /* The starts fill the front of the table; line is written by 226 and 227 alone, count where the sheet is accepted. */
 uint32_t ref_cue_sheet(const uint8_t *sheet, size_t sheet_len, uint32_t *starts, size_t starts_len, uint32_t *count,
                        uint32_t *line);
+
+/* W-209: "The Group and Track Segments objects are written as sections 4.4 and 4.2 of 001 lay them out and read back". The octets of
+ * the object of a group, and of the segments of a track, over the front of the lent ones; length is how many. */
+uint32_t ref_group_object_write(REF_CATALOGUE, uint32_t group, uint8_t *out, size_t out_len, uint32_t *length, REF_PLACE);
+uint32_t ref_segments_object_write(REF_CATALOGUE, uint32_t track, uint8_t *out, size_t out_len, uint32_t *length, REF_PLACE);
+/* Three words for each entry over the front of the lent ones: its type, 1 of a group and 0 of a track, the low 32 bits of its object
+ * number, and the high 16; count is the number of entries. */
+uint32_t ref_group_object_read(const uint8_t *octets, size_t octets_len, uint32_t *words, size_t words_len, size_t *count);
+/* One word for each entry, its position; its name is passed over. */
+uint32_t ref_segments_object_read(const uint8_t *octets, size_t octets_len, uint32_t *positions, size_t positions_len,
+                                  size_t *count);
 
 /* W-208: "Start names both players at once, generic (0) checked first". */
 uint32_t ref_start(REF_CATALOGUE, const uint8_t *name0, size_t name0_len, uint32_t mask0, uint8_t ccid0, const uint8_t *name1,

@@ -1,6 +1,6 @@
 /* Tests of the second program: cases whose answers were worked out by hand from the documents, then random calls, which are
- * made for the sanitizers, and whose 200, 207 and order of takes are worked out a second time. That it gives the library's
- * answers is not tried here; the comparison does that.
+ * made for the sanitizers, and whose 200, 207, order of takes and object numbers are worked out a second time. That it gives the
+ * library's answers is not tried here; the comparison does that.
  *
  * Usage: test [histories [seed]]. A comment in quotation marks is a sentence of document 01; among the cue sheets, and where it
  * names a request, one of document 02. */
@@ -48,6 +48,13 @@ static void lend_sample(void)
                                    {6000, 30, 0, 3, 0, 10, 300, 10, 3, 0, 10, 4, 0, 10, 3, 0, 14, 0, 900, 5, 3, 0, 14, 4},
                                    {0, 1500, 4000}}, "\xC3\x9C" "berfahrtRastZiel", {12, 24, 3, 18}};
     lent = SAMPLE;
+}
+
+/* Each group of the sample has the track of its number; 2 is a child of 1, and 1 and 3 are of 0. */
+static void nest_groups(void)
+{
+    static const uint32_t NESTED[12] = {0, 0, 1, 0, 1, 1, 1, 2, 1, 0, 3, 1};
+    memcpy(lent.words[GROUPS], NESTED, sizeof NESTED);
 }
 
 /* "At most 64 groups, 256 tracks, 1,024 segments, 32,768 text octets.": group 0 has so many tracks, 193 or 256, and each other
@@ -123,14 +130,29 @@ static int leaves_others(int call, uint32_t client, const ref_state *before)
     return right;
 }
 
-#define LENT(t) t##0, lent.len[0], t##1, lent.len[1], t##2, lent.len[2], t##3, lent.len[3]
+/* Exact copies of what is lent, for one call. */
+typedef struct { uint32_t *words[3]; uint8_t *text; } copies;
+static copies copy_lent(void)
+{
+    copies t;
+    EACH(0, 3) t.words[k] = exact(lent.words[k], 4 * lent.len[k]);
+    t.text = exact(lent.text, lent.len[TEXT]);
+    return t;
+}
+static void free_copies(copies t)
+{
+    EACH(0, 3) free(t.words[k]);
+    free(t.text);
+}
+#define LENT(t) t.words[0], lent.len[0], t.words[1], lent.len[1], t.words[2], lent.len[2], t.text, lent.len[3]
+
 /* A call to `service`. `what` is a characteristic, the Content Control ID of a start, or whether a connect is encrypted; `number`
  * a mask, group, time, ATT_MTU or offset; the octets are a name or a value; `room` is that of the output. */
 static uint32_t makes(int call, uint32_t client, uint32_t what, uint32_t number, const void *octets, size_t len, size_t room)
 {
-    uint32_t *t0 = exact(lent.words[0], 4 * lent.len[0]), *t1 = exact(lent.words[1], 4 * lent.len[1]);
-    uint32_t *t2 = exact(lent.words[2], 4 * lent.len[2]), refusal, answer = 0;
-    uint8_t *t3 = exact(lent.text, lent.len[3]), *in = exact(octets, len), *other_in = exact(other.name, other.len), *out;
+    copies t = copy_lent();
+    uint32_t refusal, answer = 0;
+    uint8_t *in = exact(octets, len), *other_in = exact(other.name, other.len), *out;
     ref_state before;
 
     memset(&said, FILL, sizeof said);
@@ -167,7 +189,32 @@ static uint32_t makes(int call, uint32_t client, uint32_t what, uint32_t number,
     CHECK(refusal != 0 || (answer <= room && all_are(said.out + answer, FILL, sizeof said.out - answer)));
     CHECK(refusal != 0 || ref_disconnect(LENT(t), &s, 4, PLACE) == 202);
     CHECK(place_fits(refusal));
-    free(t0); free(t1); free(t2); free(t3); free(in); free(other_in); free(out);
+    free_copies(t); free(in); free(other_in); free(out);
+    return refusal;
+}
+
+/* What the lent catalogue is written as, into that room, and into `to` where it is: a card, or the object of a group or of the segments
+ * of a track. A refusal leaves room and count as they were, a success what lies behind the octets written. W-207: its 200 carries what
+ * every 200 does. */
+enum { CARD, GROUP_OBJECT, SEGMENTS_OBJECT };
+static uint32_t writes_as(int as, uint32_t number, uint8_t *to, size_t most, size_t room, size_t *len)
+{
+    copies t = copy_lent();
+    uint32_t refusal, count;
+    uint8_t *out;
+    memset(to, FILL, most);
+    memset(&count, FILL, sizeof count);
+    memset(&place, FILL, sizeof place);
+    out = exact(to, room);
+    refusal = as == CARD ? ref_card_write(LENT(t), out, room, &count, PLACE)
+            : as == GROUP_OBJECT ? ref_group_object_write(LENT(t), number, out, room, &count, PLACE)
+                                 : ref_segments_object_write(LENT(t), number, out, room, &count, PLACE);
+    *len = refusal != 0 ? 0 : as == CARD ? 512 * (size_t)count : count;
+    CHECK(refusal == 0 || count == UNTOUCHED);
+    CHECK(place_fits(refusal));
+    CHECK(*len <= room && (room == 0 || all_are(out + *len, FILL, room - *len)));
+    memcpy(to, room == 0 ? to : out, *len);
+    free_copies(t); free(out);
     return refusal;
 }
 
@@ -180,7 +227,13 @@ enum { PREVIOUS, NEXT, FIRST, LAST, GOTO }; /* added to SEGMENT, TRACK or GROUP 
 static const uint8_t OPCODE[21] = {0x01, 0x02, 0x03, 0x04, 0x05, 0x10, 0x20, 0x21, 0x22, 0x23, 0x24,
                                    0x30, 0x31, 0x32, 0x33, 0x34, 0x40, 0x41, 0x42, 0x43, 0x44};
 #define CARRIES_NUMBER(opcode) (memchr("\x10\x24\x34\x44", opcode, 4) != NULL)
-static const uint32_t SLOT[10] = {1, 4, 5, 6, 7, 8, 9, 15, 17, 18};
+/* W-209: "per client there are now 28 slots" */
+#define SLOTS 14u
+#define ROUND 28u
+static const uint32_t SLOT[SLOTS] = {1, 4, 5, 6, 7, 8, 9, 11, 12, 13, 14, 15, 17, 18};
+/* Their bits, and those that come together: of the track's number, and of the group's, to or from none. */
+enum { B1 = 1, B4 = 2, B5 = 4, B6 = 8, B7 = 16, B8 = 32, B9 = 64, B11 = 128, B12 = 256, B13 = 512, B14 = 1024, B15 = 2048, B17 = 4096,
+       B18 = 8192, TRACK_BITS = B4 | B7 | B11, NONE_BITS = TRACK_BITS | B13 | B14 | B17 };
 
 static void put_number(uint8_t out[4], long n)
 {
@@ -220,7 +273,7 @@ static int result(int opcode, long n)
     ref_account kept = ACCOUNT(3), *r = &ACCOUNT(3);
     int code;
     s.links[3] = (ref_link){.connected = 1, .encrypted = 1, .mtu = 23};
-    *r = (ref_account){.subscribed = 1u << 9};
+    *r = (ref_account){.subscribed = B18};
     EQUAL(commands(3, opcode, n), 0);
     CHECK(r->waiting == 1 && r->results[0].opcode == opcode);
     code = r->results[0].code;
@@ -240,6 +293,21 @@ static int reads_as(uint32_t client, uint32_t what, uint32_t offset, const void 
 {
     return reads(client, what, offset) == 0 && said.length == len && memcmp(said.out, octets, len) == 0;
 }
+
+/* W-209: an object number, of six octets; NO_OBJECT is that of no octets. */
+#define NO_OBJECT 0u
+static const uint8_t *object(uint64_t number)
+{
+    static uint8_t octets[6];
+    EACH(0, 6) octets[k] = (uint8_t)(number >> (8 * k));
+    return octets;
+}
+static uint32_t sets(uint32_t client, uint32_t what, uint64_t number) { return makes(WRITE, client, what, 0, object(number), 6, 0); }
+static int takes_object(uint32_t client, uint32_t what, uint64_t number)
+{
+    return takes(client, what, object(number), number == NO_OBJECT ? 0 : 6);
+}
+static int shows(uint32_t what, uint64_t number) { return reads_as(0, what, 0, object(number), number == NO_OBJECT ? 0 : 6); }
 
 /* The lent catalogue's group 1 in that order, Paused on that track at that position; client 0 is connected. */
 static void stand(uint8_t order, uint32_t track, uint32_t position)
@@ -308,9 +376,8 @@ static void move_cases(void)
     /* "the group's first track": activated and moved to, in orders 5 and 1; "0 keeps the group". */
     stand(5, 0, 55); EQUAL(activate(1), 0); PAUSES(1, 1, 0); EQUAL(result(TRACK + NEXT, 0), 1); GOES(GOTO, 0, 1, 1, 1);
     stand(1, 2, 0); EQUAL(activate(1), 0); PAUSES(1, 0, 0); stand(1, 2, 0); GOES(GOTO, 0, 1, 1, 0);
-    /* "for group 0 over itself alone"; group 2 is now a child of 1, and 3 of 0. */
-    static const uint32_t NESTED[12] = {0, 0, 1, 0, 1, 1, 1, 2, 1, 0, 3, 1};
-    memcpy(lent.words[GROUPS], NESTED, sizeof NESTED); EQUAL(start(ALL_OPCODES) + activate(0), 0);
+    /* "for group 0 over itself alone" */
+    nest_groups(); EQUAL(start(ALL_OPCODES) + activate(0), 0);
     GOES(NEXT, 0, 4, 0, 0); GOES(PREVIOUS, 0, 4, 0, 0); GOES(GOTO, 2, 4, 0, 0); GOES(LAST, 0, 1, 0, 0); EQUAL(activate(1), 0);
     GOES(PREVIOUS, 0, 4, 1, 1); GOES(NEXT, 0, 1, 3, 3); EQUAL(activate(2), 0); GOES(NEXT, 0, 4, 2, 2); GOES(GOTO, -1, 1, 2, 2);
 }
@@ -419,7 +486,6 @@ static void media_cases(void)
 
 /* ---- What is owed, rounds, cuts */
 
-enum { B4 = 2, B5 = 4, B6 = 8, B7 = 16, B8 = 32, B9 = 64, B15 = 128, B17 = 256, B18 = 512 }; /* of the slots */
 #define OWES(client, slots) EQUAL(ACCOUNT(client).owed, slots)
 #define FORGIVE() EACH(0, 4) ACCOUNT(k).owed = ACCOUNT(k).waiting = 0
 /* The client has start's record, as one that was never connected has. */
@@ -427,7 +493,7 @@ static int starts_record(uint32_t client)
 {
     static const ref_account NONE;
     const ref_link *link = &s.links[client];
-    int right = !link->connected && !link->encrypted && link->mtu == 23 && link->mark == 19;
+    int right = !link->connected && !link->encrypted && link->mtu == 23 && link->mark == ROUND - 1;
     EACH(0, REF_SERVICES) right &= memcmp(&s.services[k].accounts[client], &NONE, sizeof NONE) == 0;
     return right;
 }
@@ -435,9 +501,10 @@ static int starts_record(uint32_t client)
 static void owed_cases(void)
 {
     lend_sample(); stand(3, 0, 0); EQUAL(connects(1, 64), 0);
-    EACH(0, 10) EQUAL(subscribes(0, SLOT[k]) + subscribes(1, SLOT[k]), 0);
-    /* "4 and 7 whenever the track number changes"; 18 to whoever wrote it; "The writer of 7 is owed a change of it" */
-    EQUAL(commands(0, TRACK + NEXT, 0), 0); OWES(0, B4 | B5 | B6 | B7 | B18); OWES(1, B4 | B5 | B6 | B7); FORGIVE();
+    EACH(0, SLOTS) EQUAL(subscribes(0, SLOT[k]) + subscribes(1, SLOT[k]), 0);
+    /* "4 and 7 whenever the track number changes"; 18 to whoever wrote it; "The writer of 7 is owed a change of it". The next track
+     * is 2 and no longer 1. */
+    EQUAL(commands(0, TRACK + NEXT, 0), 0); OWES(0, TRACK_BITS | B5 | B6 | B12 | B18); OWES(1, TRACK_BITS | B5 | B6 | B12); FORGIVE();
     EQUAL(moves_to(0, 20), 0); OWES(0, B7); OWES(1, B7); FORGIVE(); EQUAL(moves_to(0, 20), 0); OWES(0, 0); OWES(1, 0);
     /* "8 and 15 to the client that wrote them"; "What is already owed stays owed", also "or the client writes it" */
     EQUAL(writes(0, 8, 5), 0); OWES(0, 0); OWES(1, B8); EQUAL(writes(1, 8, 6), 0); OWES(0, B8); OWES(1, B8); FORGIVE();
@@ -445,22 +512,24 @@ static void owed_cases(void)
     /* Seeking owes 7; Playing not while it "stays below D", and yet the value has changed (0x80). */
     EQUAL(commands(0, FORWARD, 0), 0); OWES(1, B9 | B17); FORGIVE(); EQUAL(advance(1), 0); OWES(0, B7);
     EQUAL(commands(0, PLAY, 0), 0); FORGIVE(); EQUAL(reads(0, 7, 0) + reads(0, 7, 1) + advance(1), 0); OWES(0, 0);
-    EQUAL(reads(0, 7, 1), 0x80); EQUAL(advance(1000), 0); OWES(0, B4 | B5 | B6 | B7); FORGIVE(); EQUAL(advance(0), 0); OWES(0, B17); FORGIVE();
-    /* "to or from none too"; the title of track 2 is empty, and so is none's. In order 2 the track number stays. */
-    EQUAL(deactivate(), 0); OWES(0, B4 | B6 | B7 | B17); FORGIVE(); EQUAL(deactivate(), 0); OWES(0, 0);
-    EQUAL(activate(1), 0); OWES(0, B4 | B5 | B6 | B7 | B17); EQUAL(writes(0, 15, 2) + commands(1, PLAY, 0), 0); FORGIVE();
+    EQUAL(reads(0, 7, 1), 0x80); EQUAL(advance(1000), 0); OWES(0, TRACK_BITS | B5 | B6 | B12); FORGIVE(); EQUAL(advance(0), 0);
+    OWES(0, B17); FORGIVE();
+    /* "to or from none too"; the title of track 2 is empty, and so is none's, and neither has a next track. In order 2 the track
+     * number stays. */
+    EQUAL(deactivate(), 0); OWES(0, NONE_BITS | B6); FORGIVE(); EQUAL(deactivate(), 0); OWES(0, 0);
+    EQUAL(activate(1), 0); OWES(0, NONE_BITS | B5 | B6 | B12); EQUAL(writes(0, 15, 2) + commands(1, PLAY, 0), 0); FORGIVE();
     EQUAL(advance(6000), 0); OWES(0, 0); EQUAL(advance(5) + advance(6000), 0); OWES(0, B7); EQUAL(writes(0, 15, 3), 0); FORGIVE();
     /* W-202: "what is owed reads D so too": 7 when the step reaches 8,640,000, and no more then. A negative write owes nothing. */
     lent.words[TRACKS][0] = UNKNOWN; EQUAL(moves_to(0, 8639998) + commands(0, PLAY, 0), 0); FORGIVE();
     EQUAL(advance(1) + moves_to(0, -5), 0); OWES(0, 0); EQUAL(advance(1), 0); OWES(0, B7); FORGIVE(); EQUAL(advance(1), 0); OWES(0, 0);
     /* 6 is −1 before and after: to and from none, and from one such track to another. From a duration of 300 it changes. */
-    EQUAL(deactivate(), 0); OWES(0, B4 | B5 | B7 | B17); FORGIVE(); EQUAL(activate(1), 0); OWES(0, B4 | B5 | B7 | B17); FORGIVE();
-    EQUAL(commands(1, TRACK + NEXT, 0), 0); OWES(0, B4 | B5 | B6 | B7); FORGIVE(); EQUAL(commands(1, TRACK + PREVIOUS, 0), 0);
-    OWES(0, B4 | B5 | B6 | B7); FORGIVE(); lent.words[TRACKS][6] = UNKNOWN; EQUAL(commands(1, TRACK + NEXT, 0), 0);
-    OWES(0, B4 | B5 | B7); lend_sample(); EQUAL(activate(1) + advance(0), 0); FORGIVE();
+    EQUAL(deactivate(), 0); OWES(0, NONE_BITS | B5 | B12); FORGIVE(); EQUAL(activate(1), 0); OWES(0, NONE_BITS | B5 | B12); FORGIVE();
+    EQUAL(commands(1, TRACK + NEXT, 0), 0); OWES(0, TRACK_BITS | B5 | B6 | B12); FORGIVE(); EQUAL(commands(1, TRACK + PREVIOUS, 0), 0);
+    OWES(0, TRACK_BITS | B5 | B6 | B12); FORGIVE(); lent.words[TRACKS][6] = UNKNOWN; EQUAL(commands(1, TRACK + NEXT, 0), 0);
+    OWES(0, TRACK_BITS | B5 | B12); lend_sample(); EQUAL(activate(1) + advance(0), 0); FORGIVE();
     /* An equal title on another track is no change of 5. 7 is owed with its value as it was, and 0x80 is about values. */
     lent.words[TRACKS][6 + 4] = 0; lent.words[TRACKS][6 + 5] = 10;
-    EQUAL(reads(0, 5, 0) + reads(0, 7, 0) + reads(0, 6, 0) + commands(1, TRACK + NEXT, 0), 0); OWES(0, B4 | B6 | B7);
+    EQUAL(reads(0, 5, 0) + reads(0, 7, 0) + reads(0, 6, 0) + commands(1, TRACK + NEXT, 0), 0); OWES(0, TRACK_BITS | B6 | B12);
     EQUAL(reads(0, 5, 1), 0); EQUAL(reads(0, 7, 1), 0); EQUAL(reads(0, 6, 1), 0x80);
     /* "Unsubscribing drops what the slot owes"; "disconnecting gives start's record" */
     stand(3, 0, 0); EQUAL(commands(0, PLAY, 0), 0); EQUAL(ACCOUNT(0).waiting, 0); OWES(0, 0);
@@ -479,12 +548,13 @@ static void take_cases(void)
     EACH(0, 4) EQUAL(connects(k, 23) + subscribes(k, 1), 0);
     EQUAL(set_name("B"), 0); CHECK(takes(0, 1, "B", 1) && takes(1, 1, "B", 1)); EQUAL(set_name("C") + disconnects(0), 0);
     CHECK(takes(2, 1, "C", 1) && takes(3, 1, "C", 1) && takes(1, 1, "C", 1) && takes(0, 0, "", 0));
-    /* "the first owed slot after its last served, round the ten"; one result for each take, oldest first. */
+    /* "the first owed slot after its last served"; one result for each take, oldest first. */
     EQUAL(start(ALL_OPCODES) + activate(1) + connects(3, 23), 0);
-    EACH(0, 10) EQUAL(subscribes(3, SLOT[k]), 0);
+    EACH(0, SLOTS) EQUAL(subscribes(3, SLOT[k]), 0);
     EQUAL(commands(3, FORWARD, 0) + commands(3, TRACK + PREVIOUS, 0) + commands(3, TRACK + NEXT, 0) + set_name("D"), 0);
     CHECK(takes(3, 1, "D", 1) && takes(3, 4, "", 0) && takes(3, 5, "Rast", 4) && takes(3, 6, "\x2C\x01\x00\x00", 4));
-    EQUAL(set_name("E"), 0); CHECK(takes(3, 7, "\x00\x00\x00\x00", 4) && takes(3, 9, "\x00", 1) && takes(3, 17, "\x01", 1));
+    EQUAL(set_name("E"), 0); CHECK(takes(3, 7, "\x00\x00\x00\x00", 4) && takes(3, 9, "\x00", 1));
+    CHECK(takes_object(3, 11, 0x1001) && takes_object(3, 12, 0x1002) && takes(3, 17, "\x01", 1));
     CHECK(takes(3, 18, "\x04\x01", 2) && takes(3, 1, "E", 1) && takes(3, 18, "\x30\x04", 2) && takes(3, 18, "\x31\x01", 2));
     /* "its first ATT_MTU − 3"; "A read hands out up to ATT_MTU − 1 octets" */
     EACH(0, 128) name[k] = (uint8_t)(' ' + k % 90);
@@ -512,10 +582,10 @@ static int is_character(uint32_t row, const uint8_t *p, uint32_t left)
     return 1;
 }
 
-/* Marks the offsets to which whole valid characters lead; the farthest is the length, or where none starts. At most 128 octets. */
+/* Marks the offsets to which whole valid characters lead; the farthest is the length, or where none starts. At most 255 octets. */
 static uint32_t farthest(const uint8_t *p, uint32_t len)
 {
-    uint8_t reached[129] = {1};
+    uint8_t reached[256] = {1};
     uint32_t far = 0;
     for (uint32_t at = 0; at <= len; at++) {
         if (!reached[at]) continue;
@@ -577,13 +647,25 @@ static void judge(void)
 /* Service numbers over 1. */
 static const uint32_t OVER[6] = {2, 3, 10, 255, 256, 0xFFFFFFFFu};
 
-static uint32_t writes_card(size_t room);
+/* W-204: the lent catalogue into that room, and into `card`. */
+static uint8_t card[129 * 512];
+static size_t card_len;
+static uint32_t writes_card(size_t room) { return writes_as(CARD, 0, card, sizeof card, room, &card_len); }
 
-/* W-207: every call that is lent the catalogue gives 200 with that place, the card writer too. */
+/* W-209: the object of that group, or of the segments of that track, likewise. */
+static uint8_t made[5200];
+static size_t made_len;
+static uint32_t writes_object(int of, uint32_t number, size_t room) { return writes_as(of, number, made, sizeof made, room, &made_len); }
+
+/* W-207: every call that is lent the catalogue gives 200 with that place, those that write cards and objects too. W-209: an absent
+ * group or track, and no room, come behind it. */
 static void all_give_200(int line, uint32_t track, uint32_t offset)
 {
-    EACH(0, CALLS + 1) {
-        equal_at(line, k < CALLS ? makes((int)k, 0, 1, 0, "a", 1, ROOM) : writes_card(65536), 200, "the refusal");
+    EACH(0, CALLS + 5) {
+        int as = (int)(k + 1 - CALLS) / 2;
+        equal_at(line, k < CALLS ? makes((int)k, 0, 1, 0, "a", 1, ROOM)
+                       : as == CARD ? writes_card(65536) : writes_object(as, k % 2 == 0 ? 0 : 256, k % 2 == 0 ? sizeof made : 0),
+                 200, "the refusal");
         equal_at(line, place.track, track, "the track"); equal_at(line, place.offset, offset, "the offset");
     }
 }
@@ -783,6 +865,12 @@ static void order_cases(void)
         {WRITE, 1, 15, 0, 0, 0x0F}, {WRITE, 0, 15, 0, 0, 0x0D}, {WRITE, 0, 15, 0, 2, 0x0D}, {WRITE, 0, 15, 0, 1, 0x13},
         {WRITE, 0, 8, 0, 2, 0x0D}, {WRITE, 0, 7, 0, 3, 0x0D}, {WRITE, 0, 7, 0, 5, 0x0D}, {WRITE, 0, 18, 0, 6, 0x0D},
         {WRITE, 0, 18, 0, 1, 0x11}, {WRITE, 0, 18, 0, 5, 0x11},
+        {SUBSCRIBE, 1, 10, 0, 0, 209}, {UNSUBSCRIBE, 1, 10, 0, 0, 209}, {SUBSCRIBE, 1, 13, 0, 0, 0x0F}, {SUBSCRIBE, 0, 13, 0, 0, 0},
+        {READ, 1, 10, 9, 0, 0x0F}, {READ, 0, 10, 9, 0, 0x80}, {READ, 0, 14, 6, 0, 0x80}, {WRITE, 1, 10, 0, 0, 0x03},
+        {WRITE, 1, 13, 0, 0, 0x03}, {WRITE, 0, 10, 0, 6, 0x03}, {WRITE, 0, 13, 0, 6, 0x03}, {WRITE, 1, 11, 0, 0, 0x0F},
+        {WRITE, 1, 12, 0, 6, 0x0F}, {WRITE, 1, 14, 0, 6, 0x0F}, {WRITE, 0, 11, 0, 0, 0x0D}, {WRITE, 0, 11, 0, 5, 0x0D},
+        {WRITE, 0, 11, 0, 7, 0x0D}, {WRITE, 0, 12, 0, 5, 0x0D}, {WRITE, 0, 12, 0, 7, 0x0D}, {WRITE, 0, 14, 0, 1, 0x0D},
+        {WRITE, 0, 14, 0, 8, 0x0D}, {WRITE, 0, 11, 0, 6, 0x13}, {WRITE, 0, 12, 0, 6, 0x13}, {WRITE, 0, 14, 0, 6, 0x13},
     };
     static const uint8_t ZEROS[129];
     uint32_t right = service;
@@ -809,6 +897,12 @@ static void order_cases(void)
     }
     EQUAL(start(0), 0); /* it is lent no state to look at */
     EQUAL(connects(2, 517), 0); EQUAL(writes(2, 15, 9), 0x13); EQUAL(writes(2, 15, 8) + writes(2, 15, 1), 0);
+    /* 0x0D "for 18: 0, over 5, or not 1 or 5 as a known opcode asks", though none is in the mask; an unknown one has any of 1 to 5. */
+    EACH(0, 22 * 6) {
+        uint32_t len = k % 6;
+        int known = k / 6 < 21, opcode = known ? OPCODE[k / 6] : 0x77, right = known ? len == (CARRIES_NUMBER(opcode) ? 5 : 1) : len > 0;
+        EQUAL(makes(WRITE, 2, 18, 0, numbered(opcode, 0), len, 0), right ? 0 : 0x0D);
+    }
 }
 
 #define BROKEN(edit) do { s = good; edit; EQUAL(disconnects(4), 201); } while (0)
@@ -829,6 +923,11 @@ static void state_cases(void)
     BROKEN(p->group = 2); BROKEN(p->group = 3); BROKEN(p->group = 4); STANDS(p->track = 2); BROKEN(p->track = 3);
     STANDS(p->group = p->track = 3);
     STANDS(p->position = 6000); BROKEN(p->position = 6001); BROKEN(p->track = 2; p->position = 1); BROKEN(s.turn = 4);
+    /* W-209: "201 also for a named next track while Inactive or not of the current group": its number plus 1, whatever the order. */
+    EACH(0, 8) { s = good; p->next = k; EQUAL(disconnects(4), k <= 3 ? 202 : 201); }
+    EACH(0, 8) { s = good; p->group = p->track = 3; p->next = k; EQUAL(disconnects(4), k == 0 || k == 4 ? 202 : 201); }
+    STANDS(p->order = 1; p->next = 3); STANDS(p->track = 2; p->next = 1); BROKEN(p->next = 0x1001); BROKEN(p->next = 0xFFFFFFFFu);
+    BROKEN(p->next = 257); BROKEN(p->next = 0x80000001u);
     /* W-202: "The position is 0 to 8,640,000" */
     lent.words[TRACKS][0] = UNKNOWN; STANDS(p->position = END); BROKEN(p->position = END + 1); lend_sample();
     /* "connected with over 8 results or a result code not 1..4": two wait, PLAY and PAUSE. The octets behind eight results are
@@ -839,20 +938,20 @@ static void state_cases(void)
     BROKEN(r->results[0].code = 0); BROKEN(r->results[1].code = 5); STANDS(r->results[2].code = 5);
     /* "a slot owed but not subscribed, 18 owed otherwise than when results wait" */
     BROKEN(r->owed |= B7); BROKEN(r->subscribed = B18); BROKEN(r->subscribed = B17); BROKEN(r->owed = B17); STANDS(r->owed = B18);
-    BROKEN(r->subscribed |= 1u << 10); BROKEN(r->subscribed |= 1u << 31); BROKEN(r->subscribed |= 1u << 10; r->owed |= 1u << 10);
+    BROKEN(r->subscribed |= 1u << 14); BROKEN(r->subscribed |= 1u << 31); BROKEN(r->subscribed |= 1u << 14; r->owed |= 1u << 14);
     /* "an ATT_MTU against 206, a round mark out of range, a subscription while unencrypted"; a yes or no is 1 or 0. */
-    BROKEN(l->mtu = 22); BROKEN(l->mtu = 518); STANDS(l->mtu = 517); STANDS(l->mark = 0); STANDS(l->mark = 19);
-    BROKEN(l->mark = 20);
+    BROKEN(l->mtu = 22); BROKEN(l->mtu = 518); STANDS(l->mtu = 517); STANDS(l->mark = 0); STANDS(l->mark = 27);
+    BROKEN(l->mark = 28);
     BROKEN(l->encrypted = 0); BROKEN(l->encrypted = 2); BROKEN(l->connected = 0); BROKEN(l->connected = 2);
-    /* What may be read: 1, 5, 6, 7, 8, 9, 15, 16, 17, 19, 22. */
-    EACH(0, 32) { s = good; r->fresh = 1u << k; EQUAL(disconnects(4), (0x4B83E2u >> k & 1u) != 0 ? 202 : 201); }
+    /* What may be read: 1, 5 to 17, 19, 22. */
+    EACH(0, 32) { s = good; r->fresh = 1u << k; EQUAL(disconnects(4), (0x4BFFE2u >> k & 1u) != 0 ? 202 : 201); }
     /* "unconnected and not start's" */
     r = &ACCOUNT(3); l = &s.links[3]; BROKEN(l->encrypted = 1); BROKEN(l->mtu = 24); BROKEN(r->subscribed = 1);
     BROKEN(r->owed = 1);
     BROKEN(r->fresh = 2); BROKEN(l->mark = 0); BROKEN(r->waiting = 1); STANDS(r->results[0].code = 7);
     /* While Inactive group, track and position are those of start. */
     s = good; EQUAL(deactivate(), 0); good = s; BROKEN(p->group = 1); BROKEN(p->track = 1); BROKEN(p->position = 1);
-    BROKEN(p->media = 2);
+    BROKEN(p->media = 2); BROKEN(p->next = 1); BROKEN(p->next = 4); BROKEN(p->next = 0xFFFFFFFFu); STANDS(p->next = 0);
 }
 
 /* ---- W-208: two services */
@@ -883,7 +982,7 @@ static void start_cases(void)
     /* Good in both. */
     STARTS("", 0, "", 0, 0, UNTOUCHED); STARTS(x, 128, x, 128, 0, UNTOUCHED); STARTS("Desk", 4, "Player", 6, 0, UNTOUCHED);
     /* "Start leaves Inactive, order 3, speed 0"; octets behind the names are zeros; the rounds begin at client 0 and place 0. */
-    EQUAL(s.layout, 0x82); EQUAL(s.turn, 3);
+    EQUAL(s.layout, 0x83); EQUAL(s.turn, 3);
     EACH(0, 4) CHECK(starts_record(k));
     for (service = 0; service < 2; service++) {
         IS(0, 0, 0, REF_INACTIVE, 0); EQUAL(PLAYER.order, 3); EQUAL(PLAYER.speed, 0);
@@ -921,7 +1020,7 @@ static void number_cases(void)
         service = OVER[k]; EQUAL(set_name("\xFF"), 219); EQUAL(set_name("Desk"), 219); EQUAL(activate(2), 219);
         EQUAL(activate(1), 219);
         EQUAL(deactivate(), 219); EQUAL(advance(1), 219); s.layout = 0; EQUAL(set_name("\xFF"), 201); EQUAL(activate(2), 201);
-        EQUAL(deactivate(), 201); EQUAL(advance(1), 201); s.layout = 0x82;
+        EQUAL(deactivate(), 201); EQUAL(advance(1), 201); s.layout = 0x83;
     }
     for (service = 0; service < 2; service++) { EQUAL(set_name("\xFF"), 207); EQUAL(activate(2), 208); }
 }
@@ -952,7 +1051,7 @@ static void apart_cases(void)
     /* Every call to one, while the other has subscriptions, owed values, changed marks and results: its octets stay. */
     for (uint32_t to = 0; to < 2; to++) {
         service = 1 - to; EQUAL(start(ALL_OPCODES) || connects(0, 23) || connects(1, 64) || activate(1), 0);
-        EACH(0, 10) EQUAL(subscribes(0, SLOT[k]) || subscribes(1, SLOT[k]), 0);
+        EACH(0, SLOTS) EQUAL(subscribes(0, SLOT[k]) || subscribes(1, SLOT[k]), 0);
         EQUAL(reads(0, 1, 0) || reads(1, 7, 0) || commands(0, FORWARD, 0) || commands(1, 0x77, 0) || writes(0, 8, 3), 0);
         OWES(0, B9 | B17 | B18); OWES(1, B8 | B9 | B17 | B18); EQUAL(ACCOUNT(0).fresh, 1u << 1); EQUAL(ACCOUNT(1).fresh, 1u << 7);
         memcpy(&kept, &s.services[service], sizeof kept); service = to;
@@ -960,7 +1059,7 @@ static void apart_cases(void)
         STAYS(subscribes(0, 8)); STAYS(subscribes(1, 18)); STAYS(set_name("Other")); STAYS(activate(1)); STAYS(writes(0, 8, 9));
         STAYS(writes(1, 15, 4)); STAYS(moves_to(0, 50)); STAYS(commands(1, PLAY, 0)); STAYS(advance(3)); STAYS(advance(6000));
         STAYS(reads(0, 7, 0)); STAYS(reads(1, 1, 0)); STAYS(reads(1, 1, 2)); STAYS(commands(1, TRACK + NEXT, 0));
-        STAYS(deactivate());
+        STAYS(sets(0, 12, 0x1002)); STAYS(sets(1, 11, 0x1000)); STAYS(sets(0, 14, 0x2003)); STAYS(deactivate());
         OWES(0, 0); OWES(1, B18); STAYS(unsubscribes(1, 18)); STAYS(unsubscribes(0, 8)); STAYS(unsubscribes(0, 17));
         /* Another client's coming and going is nothing to it either. */
         STAYS(connects(2, 99)); STAYS(subscribes(2, 1)); STAYS(disconnects(2));
@@ -1005,13 +1104,13 @@ static void both_owed_cases(void)
     EACH(0, 8) EQUAL(IN(1, commands(2, GIVEN[k], 0)), 0);
     EQUAL(IN(1, commands(2, PLAY, 0)), 0x11); EQUAL(IN(0, commands(2, 0x99, 0)), 0x11); OWES_IN(0, 2, B18); OWES_IN(1, 2, B18);
     EQUAL(s.services[0].accounts[2].waiting, 8); EQUAL(s.services[1].accounts[2].waiting, 8);
-    /* 17 takes: places 9 and 19 by turns, each the oldest result of its service, and then nothing. */
+    /* 17 takes: places 13 and 27 by turns, each the oldest result of its service, and then nothing. */
     EACH(0, 16) {
         const uint8_t is[2] = {GIVEN[k / 2], CODE[k % 2][k / 2]};
-        CHECK(IN(k % 2, takes(2, 18, is, 2))); EQUAL(s.links[2].mark, k % 2 == 0 ? 9 : 19);
+        CHECK(IN(k % 2, takes(2, 18, is, 2))); EQUAL(s.links[2].mark, k % 2 == 0 ? 13 : 27);
         EQUAL(s.services[0].accounts[2].waiting, 7 - k / 2); EQUAL(s.services[1].accounts[2].waiting, 8 - (k + 1) / 2);
     }
-    CHECK(takes(0, 0, "", 0)); EQUAL(s.links[2].mark, 19); OWES_IN(0, 2, 0); OWES_IN(1, 2, 0);
+    CHECK(takes(0, 0, "", 0)); EQUAL(s.links[2].mark, 27); OWES_IN(0, 2, 0); OWES_IN(1, 2, 0);
 
     /* Unsubscribing in one service only: the same slot of the other is still subscribed to, owed, and has its results. */
     EQUAL(IN(0, subscribes(2, 17)) || IN(1, subscribes(2, 17)) || IN(0, commands(2, PAUSE, 0)) || IN(1, activate(3)), 0);
@@ -1048,59 +1147,62 @@ static void mark_cases(void)
     EQUAL(IN(1, reads(0, 7, 1)), 0x80);
 }
 
-/* After these calls every client is owed all its twenty places, with one result in each service: 4, 5, 6, 7 and 17 by the
- * activation, 8 and 15 by what two of the clients write, 9 by the first Fast Forward. */
+/* After these calls every client is owed all its 28 places, with one result in each service: 4, 5, 6, 7, 11, 13, 14 and 17 by the
+ * activation, 8 and 15 by what two of the clients write, 9 by the first Fast Forward. 12 is owed by the activation of group 1, and in
+ * group 3, of one track, by order 8, in which that track is the next one. */
 static void owe_everything(void)
 {
     EQUAL(IN(0, start(ALL_OPCODES)), 0);
     EACH(0, 4) EQUAL(connects(k, 23), 0);
-    EACH(0, 80) EQUAL(IN(k / 40, subscribes(k % 4, SLOT[k / 4 % 10])), 0);
+    EACH(0, 4 * ROUND) EQUAL(IN(k / 4 / SLOTS, subscribes(k % 4, SLOT[k / 4 % SLOTS])), 0);
     for (service = 0; service < 2; service++) {
         EQUAL(set_name(service == 0 ? "Zero" : "One") || activate(service == 0 ? 1 : 3), 0);
         EQUAL(writes(0, 8, 1) || writes(1, 8, service == 0 ? 2 : 3), 0);
-        EQUAL(writes(2, 15, 5) || writes(3, 15, service == 0 ? 6 : 7), 0);
+        EQUAL(writes(2, 15, 5) || writes(3, 15, service == 0 ? 6 : 8), 0);
         EACH(0, 4) EQUAL(commands(k, FORWARD, 0), 0);
     }
-    EACH(0, 8) OWES_IN(k % 2, k / 2, 1023);
+    EACH(0, 8) OWES_IN(k % 2, k / 2, 0x3FFF);
 }
 
-/* W-208: "only the order of takes is shared, a client's slots running through the generic service and then the other, twenty in
- * all" */
+/* W-208: "only the order of takes is shared, a client's slots running through the generic service and then the other", W-209: "per
+ * client there are now 28 slots and the bound is 112" */
 static void round_cases(void)
 {
-    static const struct { const char *octets; uint32_t len; } VALUE[20] = {
+    static const struct { const char *octets; uint32_t len; } VALUE[ROUND] = {
         {"Zero", 4}, {"", 0}, {"\xC3\x9C" "berfahrt", 10}, {"\x70\x17\x00\x00", 4}, {"\x00\x00\x00\x00", 4},
-        {"\x02", 1}, {"\x20", 1}, {"\x06", 1}, {"\x03", 1}, {"\x04\x01", 2},
+        {"\x02", 1}, {"\x20", 1}, {"\x00\x10\x00\x00\x00\x00", 6}, {"\x01\x10\x00\x00\x00\x00", 6},
+        {"\x00\x20\x00\x00\x00\x00", 6}, {"\x01\x20\x00\x00\x00\x00", 6}, {"\x06", 1}, {"\x03", 1}, {"\x04\x01", 2},
         {"One", 3}, {"", 0}, {"Ziel", 4}, {"\x84\x03\x00\x00", 4}, {"\x00\x00\x00\x00", 4},
-        {"\x03", 1}, {"\x20", 1}, {"\x07", 1}, {"\x03", 1}, {"\x04\x01", 2}};
-    /* "Demand 3's 40 becomes 80": the clients by turns, and each client's places in order. */
+        {"\x03", 1}, {"\x20", 1}, {"\x03\x10\x00\x00\x00\x00", 6}, {"\x03\x10\x00\x00\x00\x00", 6},
+        {"\x00\x20\x00\x00\x00\x00", 6}, {"\x03\x20\x00\x00\x00\x00", 6}, {"\x08", 1}, {"\x03", 1}, {"\x04\x01", 2}};
+    /* 112 takes, of which none answers that nothing is owed: the clients by turns, and each client's places in order. */
     lend_sample(); owe_everything();
-    EACH(0, 80) {
-        CHECK(IN(k / 40, takes(k % 4, SLOT[k / 4 % 10], VALUE[k / 4].octets, VALUE[k / 4].len)));
+    EACH(0, 4 * ROUND) {
+        CHECK(IN(k / 4 / SLOTS, takes(k % 4, SLOT[k / 4 % SLOTS], VALUE[k / 4].octets, VALUE[k / 4].len)));
         EQUAL(s.links[k % 4].mark, k / 4);
     }
     CHECK(takes(0, 0, "", 0)); EQUAL(s.turn, 3);
-    EACH(0, 4) EQUAL(s.links[k].mark, 19);
-    /* From every mark: the places behind it, round the twenty. */
+    EACH(0, 4) EQUAL(s.links[k].mark, 27);
+    /* From every mark: the places behind it, round the 28. */
     owe_everything(); EQUAL(disconnects(1) || disconnects(2) || disconnects(3), 0);
-    for (uint32_t mark = 0; mark < 20; mark++) {
+    for (uint32_t mark = 0; mark < ROUND; mark++) {
         ref_state owes_all = s;
         s.links[0].mark = mark;
-        EACH(1, 21) {
-            uint32_t next = (mark + k) % 20;
-            CHECK(IN(next / 10, takes(0, SLOT[next % 10], VALUE[next].octets, VALUE[next].len))); EQUAL(s.links[0].mark, next);
+        EACH(1, ROUND + 1) {
+            uint32_t next = (mark + k) % ROUND;
+            CHECK(IN(next / SLOTS, takes(0, SLOT[next % SLOTS], VALUE[next].octets, VALUE[next].len))); EQUAL(s.links[0].mark, next);
         }
         CHECK(takes(0, 0, "", 0)); s = owes_all;
     }
     /* Every pair of a mark and one place that is owed: it is served, the mark's own place too. */
-    EACH(0, 400) {
-        uint32_t next = k / 20;
-        EQUAL(IN(next / 10, start(ALL_OPCODES)) || connects(3, 23) || subscribes(3, SLOT[next % 10]), 0);
-        s.links[3].mark = k % 20;
-        ACCOUNT(3).owed = 1u << next % 10;
-        if (next % 10 == 9) { ACCOUNT(3).waiting = 1; ACCOUNT(3).results[0] = (ref_result){1, 1}; }
+    EACH(0, ROUND * ROUND) {
+        uint32_t next = k / ROUND;
+        EQUAL(IN(next / SLOTS, start(ALL_OPCODES)) || connects(3, 23) || subscribes(3, SLOT[next % SLOTS]), 0);
+        s.links[3].mark = k % ROUND;
+        ACCOUNT(3).owed = 1u << next % SLOTS;
+        if (SLOT[next % SLOTS] == 18) { ACCOUNT(3).waiting = 1; ACCOUNT(3).results[0] = (ref_result){1, 1}; }
         EQUAL(makes(TAKE, 0, 0, 0, NULL, 0, ROOM), 0); EQUAL(said.served[0], 3); EQUAL(said.served[1], service);
-        EQUAL(said.served[2], SLOT[next % 10]);
+        EQUAL(said.served[2], SLOT[next % SLOTS]);
         EQUAL(s.links[3].mark, next); EQUAL(s.turn, 3); OWES_IN(0, 3, 0); OWES_IN(1, 3, 0);
     }
 
@@ -1111,7 +1213,7 @@ static void round_cases(void)
     /* What becomes owed behind the mark comes before what is owed in front of it, though that is of service 0. */
     EQUAL(IN(0, subscribes(0, 1)) || subscribes(0, 8) || IN(1, subscribes(0, 1)) || deactivate() || IN(0, set_name("B")), 0);
     EQUAL(IN(1, writes(1, 15, 4)) || subscribes(0, 18) || commands(0, PLAY, 0) || IN(0, writes(1, 8, 9)), 0);
-    EQUAL(s.links[0].mark, 18); EQUAL(disconnects(1), 0); OWES_IN(0, 0, 1 | B8); OWES_IN(1, 0, B17 | B18);
+    EQUAL(s.links[0].mark, 26); EQUAL(disconnects(1), 0); OWES_IN(0, 0, B1 | B8); OWES_IN(1, 0, B17 | B18);
     CHECK(IN(1, takes(0, 18, "\x01\x03", 2)) && IN(0, takes(0, 1, "B", 1)));
     EQUAL(IN(1, set_name("C")) || IN(0, set_name("D")), 0);
     CHECK(IN(0, takes(0, 8, "\x09", 1)) && IN(1, takes(0, 1, "C", 1)) && takes(0, 17, "\x00", 1) && IN(0, takes(0, 1, "D", 1)));
@@ -1124,10 +1226,10 @@ static void round_cases(void)
 
     /* Reconnecting: the round begins at service 0's lowest slot, and both accounts are start's. */
     EQUAL(IN(1, subscribes(0, 8)) || connects(1, 23) || IN(1, writes(1, 8, 1)), 0); CHECK(takes(0, 8, "\x01", 1));
-    EQUAL(s.links[0].mark, 15);
+    EQUAL(s.links[0].mark, 19);
     for (service = 0; service < 2; service++) EQUAL(set_name("F") || reads(0, 1, 0) || commands(0, PLAY, 0), 0);
-    OWES_IN(0, 0, 1 | B18); OWES_IN(1, 0, 1 | B18); EQUAL(disconnects(0), 0); CHECK(starts_record(0));
-    CHECK(takes(0, 0, "", 0)); EQUAL(connects(0, 64), 0); EQUAL(s.links[0].mark, 19); EQUAL(s.links[0].mtu, 64); EQUAL(s.turn, 0);
+    OWES_IN(0, 0, B1 | B18); OWES_IN(1, 0, B1 | B18); EQUAL(disconnects(0), 0); CHECK(starts_record(0));
+    CHECK(takes(0, 0, "", 0)); EQUAL(connects(0, 64), 0); EQUAL(s.links[0].mark, 27); EQUAL(s.links[0].mtu, 64); EQUAL(s.turn, 0);
     EACH(0, 2) { EQUAL(s.services[k].accounts[0].subscribed, 0); OWES_IN(k, 0, 0); EQUAL(s.services[k].accounts[0].waiting, 0); }
     EQUAL(IN(0, reads(0, 1, 1)), 0x80); EQUAL(IN(1, reads(0, 1, 1)), 0x80);
     EQUAL(IN(0, set_name("H")) || IN(1, set_name("I")), 0); CHECK(takes(0, 0, "", 0));
@@ -1149,21 +1251,22 @@ static void both_states_cases(void)
     ref_service *one = &s.services[1], *zero = &s.services[0];
     lend_sample(); EQUAL(IN(0, start(ALL_OPCODES)) || connects(0, 23) || IN(0, activate(1)) || IN(1, activate(3)), 0);
     EQUAL(IN(1, subscribes(0, 17)) || subscribes(0, 18) || commands(0, PLAY, 0), 0); memcpy(&good, &s, sizeof s);
-    /* The first octet of the state is 0x80 and the layout's number, 2. */
-    EACH(0, 256) { s = good; s.layout = (uint8_t)k; EQUAL(disconnects(4), k == 0x82 ? 202 : 201); }
-    ALL_GIVE_201(s.layout = 0); ALL_GIVE_201(s.layout = 0x81); ALL_GIVE_201(s.layout = 0x83); ALL_GIVE_201(s.layout = 'D');
+    /* The first octet of the state is 0x80 and the layout's number, 3. */
+    EACH(0, 256) { s = good; s.layout = (uint8_t)k; EQUAL(disconnects(4), k == 0x83 ? 202 : 201); }
+    ALL_GIVE_201(s.layout = 0); ALL_GIVE_201(s.layout = 0x82); ALL_GIVE_201(s.layout = 0x84); ALL_GIVE_201(s.layout = 'D');
     ALL_GIVE_201(s.turn = 4);
-    /* A mark of 19 stands and one of 20 does not; unconnected it is 19. */
-    EACH(0, 40) {
-        s = good; s.links[0].mark = k; EQUAL(disconnects(4), k < 20 ? 202 : 201);
-        s = good; s.links[2].mark = k; EQUAL(disconnects(4), k == 19 ? 202 : 201);
+    /* A mark of 27 stands and one of 28 does not; unconnected it is 27. */
+    EACH(0, 56) {
+        s = good; s.links[0].mark = k; EQUAL(disconnects(4), k < 28 ? 202 : 201);
+        s = good; s.links[2].mark = k; EQUAL(disconnects(4), k == 27 ? 202 : 201);
     }
-    BROKEN(s.links[0].mark = 0xFFFFFFFFu); ALL_GIVE_201(s.links[0].mark = 20); ALL_GIVE_201(s.links[2].mark = 9);
+    BROKEN(s.links[0].mark = 0xFFFFFFFFu); ALL_GIVE_201(s.links[0].mark = 28); ALL_GIVE_201(s.links[2].mark = 13);
     /* A player of either that breaks a rule. In service 1 it is track 3 of group 3, of 900; the other is in group 1. */
     ALL_GIVE_201(one->player.position = 901); STANDS(one->player.position = 900); ALL_GIVE_201(zero->player.position = 6001);
     ALL_GIVE_201(one->player.group = 1); ALL_GIVE_201(one->player.track = 0); ALL_GIVE_201(one->player.name[5] = 0xC3);
     ALL_GIVE_201(zero->player.name_len = 129); ALL_GIVE_201(one->player.name_len = 129); ALL_GIVE_201(one->player.order = 0);
     ALL_GIVE_201(one->player.media = 0); ALL_GIVE_201(one->player.seeking = 4);
+    ALL_GIVE_201(one->player.next = 1); STANDS(one->player.next = 4); ALL_GIVE_201(zero->player.next = 4); STANDS(zero->player.next = 1);
     /* An unconnected client with a leftover in either service; the results that do not wait mean nothing. */
     ALL_GIVE_201(one->accounts[2].subscribed = 1); ALL_GIVE_201(one->accounts[2].subscribed = one->accounts[2].owed = 1);
     ALL_GIVE_201(one->accounts[2].owed = 1); ALL_GIVE_201(one->accounts[2].fresh = 2); ALL_GIVE_201(one->accounts[2].waiting = 1);
@@ -1172,7 +1275,7 @@ static void both_states_cases(void)
     /* A connected client's account in either: client 0 has a result, and 17 and 18, in service 1 alone. */
     ALL_GIVE_201(one->accounts[0].results[0].code = 5); ALL_GIVE_201(one->accounts[0].waiting = 9);
     ALL_GIVE_201(one->accounts[0].waiting = 0);
-    ALL_GIVE_201(one->accounts[0].owed |= B7); ALL_GIVE_201(one->accounts[0].subscribed |= 1u << 10);
+    ALL_GIVE_201(one->accounts[0].owed |= B7); ALL_GIVE_201(one->accounts[0].subscribed |= 1u << 14);
     ALL_GIVE_201(one->accounts[0].fresh = 1u << 18); ALL_GIVE_201(s.links[0].encrypted = 0);
     ALL_GIVE_201(s.links[0].connected = 0);
     /* A slot that is subscribed to in one is not in the other, and a result that waits in one does not in the other. */
@@ -1184,13 +1287,521 @@ static void both_states_cases(void)
     BROKEN(s.links[0].encrypted = 0; memset(&one->accounts[0], 0, sizeof one->accounts[0]); one->accounts[0].subscribed = 1);
     BROKEN(s.links[0].encrypted = 0; memset(&one->accounts[0], 0, sizeof one->accounts[0]); zero->accounts[0].subscribed = 1);
     /* Every call leaves the layout's octet, and disconnecting the other client's records. */
-    s = good; EQUAL(IN(0, disconnects(0)), 0); EQUAL(s.layout, 0x82); CHECK(starts_record(0));
+    s = good; EQUAL(IN(0, disconnects(0)), 0); EQUAL(s.layout, 0x83); CHECK(starts_record(0));
+}
+
+/* ---- W-209: object numbers */
+
+/* The next track of tracks 0, 1 and 2 in each order of the sample's group 1; "-" is none. By number it is 0, 1, 2, by rising stamp 1, 2,
+ * 0, and by falling stamp 0, 1, 2. */
+static const char *const NEXT_OF[9] = {"", "---", "012", "12-", "120", "-20", "120", "12-", "120"};
+static uint64_t next_object(uint32_t order, uint32_t track)
+{
+    return NEXT_OF[order][track] == '-' ? NO_OBJECT : 0x1000u + (uint64_t)(NEXT_OF[order][track] - '0');
+}
+#define SHOW(segments, track, next, parent, group)                                                                         \
+    CHECK(shows(10, segments) && shows(11, track) && shows(12, next) && shows(13, parent) && shows(14, group))
+
+/* W-209: "Reads are six octets, or none while Inactive, for 10 where the track has no segments, and for 12 where no next track exists." */
+static void value_cases(void)
+{
+    static const int INTO[3] = {PAUSE, PLAY, REWIND};
+    static const char *const STATE[3] = {"\x02\x00", "\x01\x00", "\x03\xFC"}; /* and the seeking speed */
+    lend_sample();
+    /* Every value that may be read, in each state. */
+    EACH(0, 3) {
+        stand(3, 0, 1500); EQUAL(result(INTO[k], 0), 1); SHOW(0x3000, 0x1000, 0x1001, 0x2000, 0x2001);
+        CHECK(reads_as(0, 1, 0, "Desk", 4) && reads_as(0, 5, 0, "\xC3\x9C" "berfahrt", 10) && reads_as(0, 6, 0, "\x70\x17\x00\x00", 4));
+        CHECK(reads_as(0, 7, 0, "\xDC\x05\x00\x00", 4) && reads_as(0, 8, 0, "\x00", 1) && reads_as(0, 9, 0, STATE[k] + 1, 1));
+        CHECK(reads_as(0, 15, 0, "\x03", 1) && reads_as(0, 16, 0, "\xFF\x00", 2) && reads_as(0, 17, 0, STATE[k], 1));
+        CHECK(reads_as(0, 19, 0, "\xFF\xFF\x1F\x00", 4) && reads_as(0, 22, 0, "\x07", 1));
+    }
+    EQUAL(start(ALL_OPCODES) || connects(0, 23), 0); SHOW(NO_OBJECT, NO_OBJECT, NO_OBJECT, NO_OBJECT, NO_OBJECT);
+    CHECK(reads_as(0, 1, 0, "Desk", 4) && reads_as(0, 5, 0, "", 0) && reads_as(0, 6, 0, "\xFF\xFF\xFF\xFF", 4));
+    CHECK(reads_as(0, 7, 0, "\xFF\xFF\xFF\xFF", 4) && reads_as(0, 8, 0, "\x00", 1) && reads_as(0, 9, 0, "\x00", 1));
+    CHECK(reads_as(0, 15, 0, "\x03", 1) && reads_as(0, 16, 0, "\xFF\x00", 2) && reads_as(0, 17, 0, "\x00", 1));
+    /* Tracks without segments, without a next one, alone in their group; and Inactive again. */
+    EQUAL(activate(1), 0); EQUAL(result(TRACK + NEXT, 0), 1); SHOW(NO_OBJECT, 0x1001, 0x1002, 0x2000, 0x2001);
+    EQUAL(result(TRACK + NEXT, 0), 1); SHOW(NO_OBJECT, 0x1002, NO_OBJECT, 0x2000, 0x2001);
+    EQUAL(activate(3), 0); SHOW(NO_OBJECT, 0x1003, NO_OBJECT, 0x2000, 0x2003);
+    EQUAL(writes(0, 15, 4), 0); SHOW(NO_OBJECT, 0x1003, 0x1003, 0x2000, 0x2003);
+    EQUAL(deactivate(), 0); SHOW(NO_OBJECT, NO_OBJECT, NO_OBJECT, NO_OBJECT, NO_OBJECT);
+    /* 12 is where Next Track then leads. */
+    for (uint8_t order = 1; order <= 8; order++) {
+        EACH(0, 3) {
+            uint64_t next = next_object(order, k);
+            stand(order, k, 0); CHECK(shows(12, next)); EQUAL(result(TRACK + NEXT, 0), next == NO_OBJECT ? 4 : 1);
+            EQUAL(PLAYER.track, next == NO_OBJECT ? k : next - 0x1000);
+        }
+    }
+    /* A recording that still runs has a next track as any other. */
+    lent.words[TRACKS][0] = UNKNOWN; stand(3, 0, END); SHOW(0x3000, 0x1000, 0x1001, 0x2000, 0x2001);
+    /* 001, 3.13: a group without a parent is shown as its own. */
+    lend_sample(); nest_groups(); EQUAL(start(ALL_OPCODES) || connects(0, 23) || writes(0, 15, 2) || activate(0), 0);
+    SHOW(0x3000, 0x1000, 0x1000, 0x2000, 0x2000); EQUAL(activate(1), 0); SHOW(NO_OBJECT, 0x1001, 0x1001, 0x2000, 0x2001);
+    EQUAL(activate(2), 0); SHOW(NO_OBJECT, 0x1002, 0x1002, 0x2001, 0x2002); EQUAL(activate(3), 0);
+    SHOW(NO_OBJECT, 0x1003, 0x1003, 0x2000, 0x2003);
+    /* The highest numbers. */
+    lend_full(256); EQUAL(start(ALL_OPCODES) || connects(0, 23) || writes(0, 15, 4) || activate(0), 0);
+    EQUAL(result(TRACK + LAST, 0), 1); SHOW(0x30FF, 0x10FF, 0x1000, 0x2000, 0x2000);
+    lend_full(193); lent.words[GROUPS][3 * 63] = 62; EQUAL(start(ALL_OPCODES) || connects(0, 23) || activate(63), 0);
+    SHOW(0x30FF, 0x10FF, NO_OBJECT, 0x203E, 0x203F);
+    /* Read in parts, and beyond the end, also of none. */
+    lend_sample(); stand(3, 0, 0);
+    EACH(10, 15) {
+        EQUAL(reads(0, k, 1), 0x80); EQUAL(reads(0, k, 0), 0); EQUAL(said.length, 6);
+        CHECK(reads_as(0, k, 1, k < 11 ? "\x30\0\0\0\0" : k < 13 ? "\x10\0\0\0\0" : "\x20\0\0\0\0", 5) && reads_as(0, k, 6, "", 0));
+        EQUAL(reads(0, k, 7), 0x07);
+    }
+    EQUAL(deactivate(), 0);
+    EACH(10, 15) { EQUAL(reads(0, k, 1), 0x80); EQUAL(reads(0, k, 0), 0); EQUAL(said.length, 0); EQUAL(reads(0, k, 1), 0x07); }
+}
+
+/* The changed marks (0x80) of 10 to 14, bit by bit: all are read at 0, and then the call changes those. */
+#define CHANGES(call, changed)                                                                                             \
+    do {                                                                                                                   \
+        EACH(10, 15) EQUAL(reads(0, k, 0), 0);                                                                             \
+        EQUAL(ACCOUNT(0).fresh >> 10 & 31, 31); EQUAL(call, 0); EQUAL(~ACCOUNT(0).fresh >> 10 & 31, changed);              \
+    } while (0)
+enum { M10 = 1, M11 = 2, M12 = 4, M13 = 8, M14 = 16 };
+static void object_mark_cases(void)
+{
+    lend_sample(); stand(3, 0, 0); EQUAL(connects(1, 23), 0);
+    CHANGES(commands(1, PLAY, 0), 0); CHANGES(advance(5), 0); CHANGES(set_name("N"), 0); CHANGES(writes(1, 8, 3), 0); CHANGES(moves_to(1, 9), 0);
+    CHANGES(commands(1, TRACK + NEXT, 0), M10 | M11 | M12);     /* to track 1, which has no segments */
+    CHANGES(commands(1, TRACK + NEXT, 0), M11 | M12);           /* to track 2, the last; 10 is none before and after */
+    CHANGES(commands(1, TRACK + NEXT, 0), 0);                   /* result 4 */
+    CHANGES(writes(1, 15, 4), M12); CHANGES(writes(0, 15, 6), 0); /* next is none, 0, and 0 */
+    CHANGES(sets(0, 12, 0x1000), 0); CHANGES(sets(0, 12, 0x1001), M12); CHANGES(sets(1, 12, 0x1001), 0);
+    CHANGES(sets(0, 11, 0x1000), M10 | M11);                    /* 12 was 1 by name and is 1 by order 6 */
+    CHANGES(sets(0, 14, 0x2003), M10 | M11 | M12 | M14);        /* of the same parent */
+    CHANGES(deactivate(), M11 | M12 | M13 | M14); CHANGES(deactivate(), 0); CHANGES(activate(1), M11 | M12 | M13 | M14);
+    /* One that is changed back is changed. */
+    EQUAL(reads(0, 12, 0) || sets(0, 12, 0x1001) || sets(0, 12, 0x1002), 0); EQUAL(reads(0, 12, 1), 0x80);
+    nest_groups(); EQUAL(start(ALL_OPCODES) || connects(0, 23) || connects(1, 23) || activate(1), 0);
+    CHANGES(sets(1, 14, 0x2002), M11 | M13 | M14); CHANGES(sets(1, 14, 0x2000), M10 | M11 | M13 | M14);
+    CHANGES(sets(1, 14, 0x2003), M10 | M11 | M14);
+}
+
+#define NOT_AN_OBJECT(what, number) EQUAL(sets(0, what, number), 0x13)
+/* A number that is right gives 0x13 with any of its high bits set. */
+static void high_octets(uint32_t what, uint64_t number)
+{
+    EACH(16, 48) NOT_AN_OBJECT(what, number | (uint64_t)1 << k);
+    NOT_AN_OBJECT(what, number | 0xFFFF00000000u); NOT_AN_OBJECT(what, number | 0xFFFFFFFF0000u); EQUAL(sets(0, what, number), 0);
+}
+
+/* W-209: "11 goes to a track of the current group at 0, 14 to a group as Activate does but keeping the state (Seeking becomes Playing),
+ * 12 names a track of the current group" */
+static void object_write_cases(void)
+{
+    static const uint8_t EIGHT[8] = {0x01, 0x10, 0, 0, 0, 0, 0, 0};
+    static const uint32_t WRITTEN[3] = {11, 12, 14};
+    lend_sample();
+    for (uint8_t order = 1; order <= 8; order++) {
+        EACH(0, 3) {
+            uint32_t first = order == 5 || order == 6 ? 1 : 0;
+            stand(order, 0, 1500); EQUAL(sets(0, 11, 0x1000 + k), 0); PAUSES(1, k, 0);
+            stand(order, 0, 1500); EQUAL(commands(0, PLAY, 0) || sets(0, 11, 0x1000 + k), 0); PLAYS(1, k, 0);
+            stand(order, 0, 1500); EQUAL(commands(0, REWIND, 0) || sets(0, 11, 0x1000 + k), 0); PLAYS(1, k, 0);
+            stand(order, 0, 1500); EQUAL(commands(0, REWIND, 0) || sets(0, 12, 0x1000 + k), 0); SEEKS(1500, -4); EQUAL(PLAYER.next, k + 1);
+            stand(order, k, 0); EQUAL(sets(0, 14, 0x2001), 0); PAUSES(1, first, 0);
+            stand(order, k, 0); EQUAL(commands(0, PLAY, 0) || sets(0, 14, 0x2003), 0); PLAYS(3, 3, 0);
+            EQUAL(commands(0, FORWARD, 0) || sets(0, 14, 0x2001), 0); PLAYS(1, first, 0);
+            EQUAL(commands(0, PAUSE, 0) || moves_to(0, 9) || sets(0, 14, 0x2001), 0); PAUSES(1, first, 0);
+        }
+    }
+    /* "0x13 for any other number, a group without tracks in 14": track 3 is of group 3, groups 0 and 2 have no tracks. */
+    stand(3, 0, 1500);
+    EACH(11, 13) {
+        NOT_AN_OBJECT(k, 0x1003); NOT_AN_OBJECT(k, 0x1004); NOT_AN_OBJECT(k, 0x0FFF); NOT_AN_OBJECT(k, 0); NOT_AN_OBJECT(k, 1);
+        NOT_AN_OBJECT(k, 0x2001); NOT_AN_OBJECT(k, 0x3000); NOT_AN_OBJECT(k, 0xFFFFFFFFFFFFu); NOT_AN_OBJECT(k, 0xFFFFFFFFu);
+        NOT_AN_OBJECT(k, 0x1100); NOT_AN_OBJECT(k, 0x0110); NOT_AN_OBJECT(k, 0x10FF);
+        PAUSES(1, 0, 1500); EQUAL(PLAYER.next, 0);
+    }
+    NOT_AN_OBJECT(14, 0x2000); NOT_AN_OBJECT(14, 0x2002); NOT_AN_OBJECT(14, 0x2004); NOT_AN_OBJECT(14, 0x1FFF); NOT_AN_OBJECT(14, 0);
+    NOT_AN_OBJECT(14, 1); NOT_AN_OBJECT(14, 3); NOT_AN_OBJECT(14, 0x1001); NOT_AN_OBJECT(14, 0x3001); NOT_AN_OBJECT(14, 0xFFFFFFFFFFFFu);
+    NOT_AN_OBJECT(14, 0xFFFFFFFFu); NOT_AN_OBJECT(14, 0x203F); NOT_AN_OBJECT(14, 0x2040); PAUSES(1, 0, 1500);
+    /* All 48 bits count. */
+    high_octets(12, 0x1001); PAUSES(1, 0, 1500); high_octets(11, 0x1001); PAUSES(1, 1, 0); high_octets(14, 0x2003); PAUSES(3, 3, 0);
+    EACH(11, 13) { NOT_AN_OBJECT(k, 0x1000); NOT_AN_OBJECT(k, 0x1002); EQUAL(sets(0, k, 0x1003), 0); }
+    /* Group 0 may be gone to where it has tracks. */
+    nest_groups(); EQUAL(start(ALL_OPCODES) || connects(0, 23) || activate(1) || sets(0, 14, 0x2000), 0); PAUSES(0, 0, 0);
+    EQUAL(sets(0, 14, 0x2002), 0); PAUSES(2, 2, 0); lend_sample();
+    /* "0x0D for a length other than 6", before 0x13; a name is not taken back by no octets. "and while Inactive" */
+    for (uint32_t len = 0; len <= 8; len++) {
+        EACH(0, 3) {
+            stand(3, 0, 5); EQUAL(sets(0, 12, 0x1002), 0);
+            EQUAL(makes(WRITE, 0, WRITTEN[k], 0, EIGHT, len, 0), len != 6 ? 0x0D : k == 2 ? 0x13 : 0);
+            EQUAL(PLAYER.next, len != 6 || k == 2 ? 3 : k == 1 ? 2 : 0); EQUAL(deactivate(), 0);
+            EQUAL(makes(WRITE, 0, WRITTEN[k], 0, EIGHT, len, 0), len != 6 ? 0x0D : 0x13);
+        }
+    }
+    EACH(0, 5) { NOT_AN_OBJECT(11, 0x1000 + k); NOT_AN_OBJECT(12, 0x1000 + k); NOT_AN_OBJECT(14, 0x2000 + k); }
+    /* 10 and 13 may not be written, 10 not be subscribed to; 16 has no slot either. */
+    stand(3, 0, 5); EQUAL(sets(0, 10, 0x3000), 0x03); EQUAL(sets(0, 13, 0x2000), 0x03); EQUAL(subscribes(0, 10), 209);
+    EQUAL(unsubscribes(0, 10), 209); EQUAL(subscribes(0, 13) || subscribes(0, 11) || subscribes(0, 12) || subscribes(0, 14), 0);
+    EQUAL(ACCOUNT(0).subscribed, B11 | B12 | B13 | B14);
+    /* The opcode mask plays no part, no result goes to 18, and eight that wait are in nobody's way. */
+    EQUAL(start(0) || connects(0, 23) || activate(1) || subscribes(0, 18), 0);
+    EACH(0, 9) {
+        EQUAL(sets(0, 12, 0x1001) || sets(0, 11, 0x1002) || sets(0, 14, 0x2003) || sets(0, 14, 0x2001), 0); PAUSES(1, 0, 0);
+        EQUAL(ACCOUNT(0).waiting, k); OWES(0, k == 0 ? 0 : B18); EQUAL(commands(0, TRACK + NEXT, 0), k < 8 ? 0 : 0x11);
+    }
+}
+
+/* A name in the sample's group 1, in order 3 on track 0 at 100: that of track 2, which is not the next one of the order. */
+static void name_track_2(void)
+{
+    lend_sample(); stand(3, 0, 100); EQUAL(sets(0, 12, 0x1002), 0); EQUAL(PLAYER.next, 3);
+}
+#define LEAVES(call, gives, on, name, then)                                                                                \
+    do { name_track_2(); EQUAL(call, gives); EQUAL(PLAYER.track, on); EQUAL(PLAYER.next, name); CHECK(shows(12, then)); } while (0)
+#define NAME_KEPT(call) LEAVES(call, 0, 0, 3, 0x1002)
+#define KEPT_BY(opcode, n, code) LEAVES(result(opcode, n), code, 0, 3, 0x1002)
+/* The call ends on that track, and 12 is the order's again. */
+#define NAME_DROPPED(call, to, then) LEAVES(call, 0, to, 0, then)
+#define DROPPED_BY(opcode, n, to, then) NAME_DROPPED(commands(0, opcode, n), to, then)
+
+/* W-209: "any call that ends on another track or group than it began on drops it, what lies between does not" */
+static void name_kept_cases(void)
+{
+    NAME_KEPT(0); NAME_KEPT(set_name("Other")); NAME_KEPT(connects(1, 23)); NAME_KEPT(connects(1, 23) || disconnects(1));
+    NAME_KEPT(disconnects(0) || connects(0, 23)); NAME_KEPT(subscribes(0, 12)); NAME_KEPT(subscribes(0, 12) || unsubscribes(0, 12));
+    NAME_KEPT(reads(0, 12, 0) || reads(0, 11, 0) || reads(0, 12, 3)); NAME_KEPT(makes(TAKE, 0, 0, 0, NULL, 0, ROOM));
+    NAME_KEPT(subscribes(0, 1) || set_name("X") || !takes(0, 1, "X", 1)); NAME_KEPT(activate(1)); PAUSES(1, 0, 0);
+    /* Advance: Paused, Playing below D, Seeking, and at the end of a recording that still runs. */
+    NAME_KEPT(advance(9999)); NAME_KEPT(commands(0, PLAY, 0) || advance(5899)); PLAYS(1, 0, 5999);
+    NAME_KEPT(commands(0, FORWARD, 0) || advance(9999)); SEEKS(6000, 4); NAME_KEPT(commands(0, REWIND, 0) || advance(9999)); SEEKS(0, -4);
+    name_track_2(); lent.words[TRACKS][0] = UNKNOWN; EQUAL(commands(0, PLAY, 0) || advance(0xFFFFFFFFu) || advance(1), 0); PLAYS(1, 0, END);
+    EQUAL(PLAYER.next, 3); EQUAL(result(TRACK + NEXT, 0), 1); PLAYS(1, 2, 0); EQUAL(PLAYER.next, 0);
+    /* Writes: of all that does not move, and of 11 and 14 onto the same track. 12 itself takes another name, or the same. */
+    NAME_KEPT(writes(0, 8, 7)); NAME_KEPT(moves_to(0, 5) || moves_to(0, -1)); NAME_KEPT(sets(0, 12, 0x1002)); NAME_KEPT(sets(0, 11, 0x1000));
+    PAUSES(1, 0, 0); NAME_KEPT(sets(0, 14, 0x2001)); PAUSES(1, 0, 0); NAME_KEPT(sets(0, 12, 0x1001) || sets(0, 12, 0x1002));
+    EACH(1, 9) NAME_KEPT(writes(0, 15, (uint8_t)k));
+    NAME_KEPT(commands(0, FORWARD, 0) || sets(0, 11, 0x1000)); PLAYS(1, 0, 0);
+    NAME_KEPT(commands(0, FORWARD, 0) || sets(0, 14, 0x2001)); PLAYS(1, 0, 0);
+    /* Refusals, and commands that are refused as results. */
+    NAME_KEPT(sets(0, 11, 0x1003) != 0x13); NAME_KEPT(sets(0, 12, 0x1003) != 0x13); NAME_KEPT(sets(0, 14, 0x2002) != 0x13);
+    NAME_KEPT(activate(2) != 208); NAME_KEPT(set_name("\xFF") != 207); NAME_KEPT(writes(0, 15, 9) != 0x13); NAME_KEPT(writes(0, 12, 0) != 0x0D);
+    KEPT_BY(0x77, 0, 2); KEPT_BY(TRACK + PREVIOUS, 0, 4); KEPT_BY(TRACK + GOTO, 4, 4); KEPT_BY(TRACK + GOTO, -4, 4);
+    KEPT_BY(GROUP + PREVIOUS, 0, 4); KEPT_BY(GROUP + GOTO, 3, 4); KEPT_BY(GROUP + GOTO, -3, 4); KEPT_BY(TRACK + GOTO, LEAST, 4);
+    name_track_2(); PLAYER.mask = ALL_OPCODES & ~(1u << 12); EQUAL(result(TRACK + NEXT, 0), 2); EQUAL(PLAYER.next, 3); CHECK(shows(12, 0x1002));
+    EQUAL(commands(0, PLAY, 0) || advance(6000), 0); PLAYS(1, 2, 0); EQUAL(PLAYER.next, 0); /* the mask is not asked at an end */
+    /* Every command that stays on the track, or comes back to it. */
+    KEPT_BY(PLAY, 0, 1); KEPT_BY(PAUSE, 0, 1); KEPT_BY(REWIND, 0, 1); KEPT_BY(FORWARD, 0, 1); KEPT_BY(STOP, 0, 1); KEPT_BY(RELATIVE, 50, 1);
+    KEPT_BY(SEGMENT + PREVIOUS, 0, 1); KEPT_BY(SEGMENT + NEXT, 0, 1); KEPT_BY(SEGMENT + FIRST, 0, 1); KEPT_BY(SEGMENT + LAST, 0, 1);
+    KEPT_BY(SEGMENT + GOTO, 2, 1); KEPT_BY(SEGMENT + GOTO, 0, 1); KEPT_BY(TRACK + FIRST, 0, 1); KEPT_BY(TRACK + GOTO, 0, 1);
+    KEPT_BY(TRACK + GOTO, 1, 1); KEPT_BY(TRACK + GOTO, -3, 1); KEPT_BY(GROUP + FIRST, 0, 1); KEPT_BY(GROUP + GOTO, 0, 1);
+    KEPT_BY(GROUP + GOTO, 1, 1); KEPT_BY(GROUP + GOTO, -2, 1);
+    /* "what lies between does not": in order 4 the steps of Goto 4 are over 1 and 2, and back to 0. */
+    NAME_KEPT(writes(0, 15, 4) || commands(0, TRACK + GOTO, 4)); NAME_KEPT(writes(0, 15, 1) || commands(0, TRACK + LAST, 0));
+    NAME_KEPT(writes(0, 15, 2) || commands(0, TRACK + PREVIOUS, 0)); NAME_KEPT(writes(0, 15, 2) || commands(0, TRACK + GOTO, MOST));
+    /* Those that end on another track or group, the named one too. */
+    DROPPED_BY(TRACK + LAST, 0, 2, NO_OBJECT); DROPPED_BY(TRACK + GOTO, 2, 1, 0x1002); DROPPED_BY(TRACK + GOTO, 3, 2, NO_OBJECT);
+    DROPPED_BY(TRACK + GOTO, -2, 1, 0x1002); DROPPED_BY(GROUP + NEXT, 0, 3, NO_OBJECT); DROPPED_BY(GROUP + LAST, 0, 3, NO_OBJECT);
+    DROPPED_BY(GROUP + GOTO, 2, 3, NO_OBJECT); DROPPED_BY(GROUP + GOTO, -1, 3, NO_OBJECT);
+    NAME_DROPPED(writes(0, 15, 4) || commands(0, TRACK + PREVIOUS, 0), 2, 0x1000); NAME_DROPPED(activate(3), 3, NO_OBJECT);
+    NAME_DROPPED(sets(0, 11, 0x1001), 1, 0x1002); NAME_DROPPED(sets(0, 11, 0x1002), 2, NO_OBJECT);
+    NAME_DROPPED(sets(0, 14, 0x2003), 3, NO_OBJECT);
+    NAME_DROPPED(deactivate(), 0, NO_OBJECT); NAME_DROPPED(deactivate() || activate(1), 0, 0x1001);
+    /* In order 5 the group's first track is 1: Activate, 14 and Goto Group 0 end there, and Goto Track 0 does not. */
+    NAME_DROPPED(writes(0, 15, 5) || activate(1), 1, 0x1002); NAME_DROPPED(writes(0, 15, 5) || sets(0, 14, 0x2001), 1, 0x1002);
+    NAME_DROPPED(writes(0, 15, 5) || commands(0, GROUP + GOTO, 0), 1, 0x1002); NAME_KEPT(writes(0, 15, 5) || commands(0, TRACK + GOTO, 0));
+    /* Away and back again: it is gone. */
+    NAME_DROPPED(sets(0, 11, 0x1001) || sets(0, 11, 0x1000), 0, 0x1001); NAME_DROPPED(activate(3) || activate(1), 0, 0x1001);
+    /* Deactivate drops it on track 0 of group 0 as well, which are the numbers that it leaves. */
+    nest_groups(); EQUAL(start(ALL_OPCODES) || connects(0, 23) || activate(0) || sets(0, 12, 0x1000) || deactivate(), 0); EQUAL(PLAYER.next, 0);
+    EQUAL(activate(0), 0); CHECK(shows(12, NO_OBJECT));
+}
+
+/* W-209: a name "that Next Track or the end of a track uses once, Goto's steps not" */
+static void name_used_cases(void)
+{
+    static const struct { int opcode; long n; } OTHERS[] = {
+        {TRACK + PREVIOUS, 0}, {TRACK + FIRST, 0}, {TRACK + LAST, 0}, {TRACK + GOTO, 0}, {TRACK + GOTO, 1}, {TRACK + GOTO, 2},
+        {TRACK + GOTO, 3}, {TRACK + GOTO, 4}, {TRACK + GOTO, -1}, {TRACK + GOTO, -2}, {TRACK + GOTO, -3}, {TRACK + GOTO, LEAST},
+        {GROUP + PREVIOUS, 0}, {GROUP + NEXT, 0}, {GROUP + FIRST, 0}, {GROUP + LAST, 0}, {GROUP + GOTO, 0}, {GROUP + GOTO, 2}};
+    lend_sample();
+    /* In every order, on every track, every name: the current track too, in orders 1 and 2, and at the end of a once order. */
+    EACH(0, 72) {
+        uint8_t order = (uint8_t)(1 + k / 9);
+        uint32_t track = k / 3 % 3, named = k % 3, at = track == 2 ? 0 : 55;
+        uint64_t then = next_object(order, named);
+        ref_state has_name;
+        stand(order, track, at); EQUAL(sets(0, 12, 0x1000 + named), 0); PAUSES(1, track, at); CHECK(shows(12, 0x1000 + named)); has_name = s;
+        EQUAL(result(TRACK + NEXT, 0), 1); PAUSES(1, named, 0); EQUAL(PLAYER.next, 0); CHECK(shows(12, then));
+        /* Once: the order's next track comes then. */
+        EQUAL(result(TRACK + NEXT, 0), then == NO_OBJECT ? 4 : 1); PAUSES(1, then == NO_OBJECT ? named : then - 0x1000, 0);
+        s = has_name; EQUAL(result(REWIND, 0), 1); EQUAL(PLAYER.next, named + 1); EQUAL(result(TRACK + NEXT, 0), 1); PLAYS(1, named, 0);
+        /* The end of the track, of which each is at most 6000; "One move per call." */
+        s = has_name; EQUAL(commands(0, PLAY, 0) || advance(6000 - at), 0); PLAYS(1, named, 0); EQUAL(PLAYER.next, 0); CHECK(shows(12, then));
+        EQUAL(advance(6000), 0); IS(1, then == NO_OBJECT ? named : then - 0x1000, then != NO_OBJECT || named == 2 ? 0 : named == 0 ? 6000 : 300,
+                                    then == NO_OBJECT ? REF_PAUSED : REF_PLAYING, 0);
+        s = has_name; EQUAL(commands(0, PLAY, 0) || advance(0xFFFFFFFFu), 0); PLAYS(1, named, 0); EQUAL(PLAYER.next, 0);
+        /* All others do what they do without a name. */
+        for (uint32_t j = 0; j < sizeof OTHERS / sizeof OTHERS[0]; j++) {
+            ref_player with;
+            int code;
+            s = has_name; code = result(OTHERS[j].opcode, OTHERS[j].n); with = PLAYER;
+            s = has_name; PLAYER.next = 0; EQUAL(result(OTHERS[j].opcode, OTHERS[j].n), code);
+            IS(with.group, with.track, with.position, with.media, with.seeking); EQUAL(PLAYER.next, 0);
+            EQUAL(with.next, with.track == track ? named + 1 : 0);
+        }
+    }
+    /* A track alone in its group; the newest name counts; a name that is the order's is one all the same. */
+    stand(3, 0, 0); EQUAL(activate(3) || sets(0, 12, 0x1003), 0); CHECK(shows(12, 0x1003)); EQUAL(result(TRACK + NEXT, 0), 1); PAUSES(3, 3, 0);
+    CHECK(shows(12, NO_OBJECT)); EQUAL(result(TRACK + NEXT, 0), 4);
+    stand(3, 0, 0); EQUAL(sets(0, 12, 0x1001) || sets(0, 12, 0x1002), 0); EQUAL(result(TRACK + NEXT, 0), 1); PAUSES(1, 2, 0);
+    stand(3, 0, 0); EQUAL(sets(0, 12, 0x1001) || writes(0, 15, 1), 0); EQUAL(result(TRACK + NEXT, 0), 1); PAUSES(1, 1, 0);
+}
+
+/* Two clients with all slots, in the state that `stand` leaves; nothing is owed. */
+static void stand_with_two(uint8_t order, uint32_t track, uint32_t position)
+{
+    stand(order, track, position); EQUAL(connects(1, 64), 0);
+    EACH(0, SLOTS) EQUAL(subscribes(0, SLOT[k]) || subscribes(1, SLOT[k]), 0);
+}
+#define TOLD(call, slots0, slots1) do { EQUAL(call, 0); OWES(0, slots0); OWES(1, slots1); FORGIVE(); } while (0)
+
+/* W-209: "Slots 11 to 14 are owed on change, 11, 12 and 14 not to their writer". TRACK_BITS has 11 in it. */
+static void told_cases(void)
+{
+    lend_sample(); stand_with_two(3, 0, 0);
+    /* 12: the writer is spared, the other is told what changed; the order's next track by name is no change. */
+    TOLD(sets(0, 12, 0x1001), 0, 0); EQUAL(PLAYER.next, 2); TOLD(sets(0, 12, 0x1002), 0, B12); TOLD(sets(0, 12, 0x1002), 0, 0);
+    TOLD(sets(1, 12, 0x1002), 0, 0); TOLD(sets(1, 12, 0x1001), B12, 0); TOLD(sets(1, 12, 0x1000), B12, 0);
+    /* 11: to track 1, whose next is 2; the writer is told all the others. Onto itself it changes the position alone. */
+    stand_with_two(3, 0, 50); TOLD(sets(0, 11, 0x1000), B7, B7); TOLD(sets(0, 11, 0x1000), 0, 0);
+    TOLD(sets(0, 11, 0x1001), B4 | B5 | B6 | B7 | B12, TRACK_BITS | B5 | B6 | B12);
+    TOLD(sets(1, 11, 0x1000), TRACK_BITS | B5 | B6 | B12, B4 | B5 | B6 | B7 | B12);
+    EQUAL(sets(0, 12, 0x1002), 0); FORGIVE(); TOLD(sets(1, 11, 0x1001), TRACK_BITS | B5 | B6, B4 | B5 | B6 | B7); /* 12 is 2, then and now */
+    TOLD(commands(0, FORWARD, 0), B9 | B17 | B18, B9 | B17); TOLD(sets(0, 11, 0x1001), B9 | B17, B9 | B17);
+    /* 14: to group 3, of the same parent, whose track has no next one; and back. */
+    TOLD(sets(1, 14, 0x2003), TRACK_BITS | B5 | B6 | B12 | B14, TRACK_BITS | B5 | B6 | B12);
+    TOLD(sets(0, 14, 0x2001), TRACK_BITS | B5 | B6 | B12, TRACK_BITS | B5 | B6 | B12 | B14); TOLD(sets(0, 14, 0x2001), 0, 0);
+    /* One who moves by 18 is told all, and so is everybody of a call that no client makes. */
+    TOLD(commands(0, GROUP + NEXT, 0), TRACK_BITS | B5 | B6 | B12 | B14 | B18, TRACK_BITS | B5 | B6 | B12 | B14);
+    TOLD(activate(1), TRACK_BITS | B5 | B6 | B12 | B14 | B17, TRACK_BITS | B5 | B6 | B12 | B14 | B17);
+    TOLD(commands(1, TRACK + NEXT, 0), TRACK_BITS | B5 | B6 | B12, TRACK_BITS | B5 | B6 | B12 | B18);
+    TOLD(commands(1, TRACK + NEXT, 0), TRACK_BITS | B5 | B6 | B12, TRACK_BITS | B5 | B6 | B12 | B18);
+    /* 15: on the last track order 4 has a next one; its writer is told that. In order 8 it is the same one, in order 3 none. */
+    TOLD(writes(0, 15, 4), B12, B12 | B15); TOLD(writes(1, 15, 8), B15, 0); TOLD(writes(1, 15, 3), B12 | B15, B12);
+    /* A name hides the order's: an order that is written changes nothing of it. */
+    TOLD(sets(0, 12, 0x1001), 0, B12); TOLD(writes(0, 15, 4), 0, B15); TOLD(writes(0, 15, 1), 0, B15);
+    TOLD(deactivate(), NONE_BITS | B6 | B12, NONE_BITS | B6 | B12); TOLD(activate(1), NONE_BITS | B5 | B6, NONE_BITS | B5 | B6);
+    /* The name of the current track is used: 12 is the order's again, and the track is the same. */
+    stand_with_two(3, 0, 0); TOLD(sets(0, 12, 0x1000), 0, B12); TOLD(commands(1, TRACK + NEXT, 0), B12, B12 | B18); PAUSES(1, 0, 0);
+    EQUAL(sets(0, 12, 0x1000) || moves_to(0, 9), 0); FORGIVE(); TOLD(commands(0, TRACK + NEXT, 0), B7 | B12 | B18, B7 | B12);
+    EQUAL(sets(0, 12, 0x1000) || commands(0, PLAY, 0) || advance(5), 0); FORGIVE(); TOLD(advance(6000), B7 | B12, B7 | B12); PLAYS(1, 0, 0);
+    /* The end of a once order, with a name and without: 12 is 0 by name, then 1 by order. */
+    stand_with_two(3, 2, 0); EQUAL(sets(0, 12, 0x1000) || commands(0, PLAY, 0), 0); FORGIVE();
+    TOLD(advance(0), TRACK_BITS | B5 | B6 | B12, TRACK_BITS | B5 | B6 | B12); PLAYS(1, 0, 0);
+    /* 13 changes with the parent: group 2's is 1, those of the others are 0. In order 2 the next track is the current one. */
+    nest_groups(); EQUAL(start(ALL_OPCODES) || connects(0, 23) || connects(1, 23) || writes(0, 15, 2) || activate(1), 0);
+    EACH(0, SLOTS) EQUAL(subscribes(0, SLOT[k]) || subscribes(1, SLOT[k]), 0);
+    TOLD(sets(0, 14, 0x2002), TRACK_BITS | B5 | B6 | B12 | B13, TRACK_BITS | B5 | B6 | B12 | B13 | B14);
+    TOLD(sets(1, 14, 0x2003), TRACK_BITS | B5 | B6 | B12 | B13 | B14, TRACK_BITS | B5 | B6 | B12 | B13);
+    TOLD(sets(1, 14, 0x2000), TRACK_BITS | B5 | B6 | B12 | B14, TRACK_BITS | B5 | B6 | B12);
+    TOLD(deactivate(), NONE_BITS | B5 | B6 | B12, NONE_BITS | B5 | B6 | B12);
+    TOLD(activate(0), NONE_BITS | B5 | B6 | B12, NONE_BITS | B5 | B6 | B12);
+    /* "What is already owed stays owed", also when the client writes it; what is handed out is the present value. */
+    lend_sample(); stand_with_two(3, 0, 0); EQUAL(sets(0, 12, 0x1002) || sets(1, 12, 0x1001), 0); OWES(0, B12); OWES(1, B12);
+    EQUAL(sets(0, 12, 0x1000), 0); CHECK(takes_object(0, 12, 0x1000) && takes_object(1, 12, 0x1000) && takes(0, 0, "", 0));
+    /* In their order behind the lowest place, of group 3, which has no next track: that is handed out as no octets. */
+    EQUAL(sets(1, 14, 0x2003), 0); ACCOUNT(0).owed &= B11 | B12 | B14; ACCOUNT(1).owed &= B11 | B12 | B14;
+    s.links[0].mark = s.links[1].mark = service * SLOTS; s.turn = 3;
+    CHECK(takes_object(0, 11, 0x1003) && takes_object(1, 11, 0x1003) && takes_object(0, 12, NO_OBJECT) && takes_object(1, 12, NO_OBJECT));
+    CHECK(takes_object(0, 14, 0x2003) && takes(0, 0, "", 0));
+    /* A client without a subscription is told nothing, and one with a subscription to 13 alone of a change of 13. */
+    EQUAL(deactivate() || unsubscribes(1, 11) || unsubscribes(1, 12) || unsubscribes(1, 14), 0); FORGIVE();
+    TOLD(activate(1), NONE_BITS | B5 | B6 | B12, (NONE_BITS | B5 | B6) & ~(B11 | B14));
+}
+
+/* ---- W-209: objects */
+
+static struct { uint32_t words[21000]; size_t count; } back;
+/* Into that many words. A refusal leaves them and the count, a success the words behind the entries. */
+static uint32_t reads_object(int of, const void *octets, size_t len, size_t room)
+{
+    uint8_t *in = exact(octets, len);
+    uint32_t *words, refusal;
+    size_t filled;
+    memset(back.words, FILL, 4 * room);
+    memset(&back.count, FILL, sizeof back.count);
+    words = exact(back.words, 4 * room);
+    refusal = (of == GROUP_OBJECT ? ref_group_object_read : ref_segments_object_read)(in, len, words, room, &back.count);
+    filled = refusal != 0 ? 0 : of == GROUP_OBJECT ? 3 * back.count : back.count;
+    CHECK(all_are(&back.count, FILL, sizeof back.count) == (refusal != 0));
+    CHECK(filled <= room && (room == 0 || all_are(words + filled, FILL, 4 * (room - filled))));
+    memcpy(back.words, room == 0 ? back.words : words, 4 * filled);
+    free(in); free(words);
+    return refusal;
+}
+
+/* What an object of the lent catalogue is to be, entry by entry, and what it is to be read back as; whether there is one. */
+static struct { uint8_t octets[5120]; size_t len; uint32_t words[1024]; size_t count; } entries;
+static void add_entry(int of, uint32_t type, uint64_t number)
+{
+    uint32_t *word = entries.words + (of == GROUP_OBJECT ? 3 : 1) * entries.count++;
+    uint8_t *at = entries.octets + entries.len;
+    at[0] = (uint8_t)type; /* of a segment the length of its name, 0 */
+    EACH(0, of == GROUP_OBJECT ? 6 : 4) at[1 + k] = (uint8_t)(number >> (8 * k));
+    if (of == GROUP_OBJECT) { word[0] = type; word[1] = (uint32_t)number; word[2] = 0; } else { word[0] = (uint32_t)number; }
+    entries.len += of == GROUP_OBJECT ? 7 : 5;
+}
+static int has_object(int of, uint32_t number)
+{
+    const uint32_t *g = lent.words[GROUPS], *t = lent.words[TRACKS];
+    entries.len = entries.count = 0;
+    if (of == GROUP_OBJECT) {
+        if (number >= lent.len[GROUPS] / 3) return 0;
+        /* A child's number is above its parent's. */
+        EACH(number + 1, lent.len[GROUPS] / 3) if (g[3 * k] == number) add_entry(of, 1, 0x2000 + k);
+        EACH(g[3 * number + 1], g[3 * number + 1] + g[3 * number + 2]) add_entry(of, 0, 0x1000 + k);
+        return 1;
+    }
+    if (number >= lent.len[TRACKS] / 6 || t[6 * number + 3] == 0) return 0;
+    EACH(t[6 * number + 2], t[6 * number + 2] + t[6 * number + 3]) add_entry(of, 0, lent.words[SEGMENTS][k]);
+    return 1;
+}
+
+/* The object of that number, or 0x13; an octet too few, exactly enough, and more; and what was written, read back. */
+static void goes_round(int of, uint32_t number)
+{
+    size_t words;
+    if (!has_object(of, number)) { EQUAL(writes_object(of, number, 0), 0x13); EQUAL(writes_object(of, number, sizeof made), 0x13); return; }
+    words = (of == GROUP_OBJECT ? 3 : 1) * entries.count;
+    if (entries.len > 0) { EQUAL(writes_object(of, number, entries.len - 1), 223); EQUAL(writes_object(of, number, 0), 223); }
+    EQUAL(writes_object(of, number, entries.len + 9), 0); EQUAL(made_len, entries.len);
+    EQUAL(writes_object(of, number, entries.len), 0); EQUAL(made_len, entries.len); CHECK(memcmp(made, entries.octets, made_len) == 0);
+    if (words > 0) { EQUAL(reads_object(of, made, made_len, words - 1), 223); EQUAL(reads_object(of, made, made_len, 0), 223); }
+    EQUAL(reads_object(of, made, made_len, words + 5), 0); EQUAL(reads_object(of, made, made_len, words), 0);
+    EQUAL(back.count, entries.count); CHECK(memcmp(back.words, entries.words, 4 * words) == 0);
+}
+static void all_go_round(void)
+{
+    EACH(0, lent.len[GROUPS] / 3 + 2) goes_round(GROUP_OBJECT, k);
+    EACH(0, lent.len[TRACKS] / 6 + 2) goes_round(SEGMENTS_OBJECT, k);
+}
+
+#define OBJECT_IS(of, number, text)                                                                                        \
+    do {                                                                                                                   \
+        EQUAL(writes_object(of, number, sizeof made), 0); EQUAL(made_len, sizeof text - 1);                                \
+        CHECK(memcmp(made, text, sizeof text - 1) == 0); goes_round(of, number);                                           \
+    } while (0)
+#define NO_SUCH(of, number) do { EQUAL(writes_object(of, number, sizeof made), 0x13); EQUAL(writes_object(of, number, 0), 0x13); } while (0)
+
+/* W-209: "a group's child groups by number (group 0 is not its own child), then its tracks by number; a track's segments in order, names
+ * of length 0" */
+static void object_cases(void)
+{
+    uint32_t *g = lent.words[GROUPS], *t = lent.words[TRACKS], *starts = lent.words[SEGMENTS];
+    lend_sample();
+    /* Group 0, with children with tracks and without; tracks alone; neither, which is an object of no octets. */
+    OBJECT_IS(GROUP_OBJECT, 0, "\1\x01\x20\0\0\0\0" "\1\x02\x20\0\0\0\0" "\1\x03\x20\0\0\0\0");
+    OBJECT_IS(GROUP_OBJECT, 1, "\0\x00\x10\0\0\0\0" "\0\x01\x10\0\0\0\0" "\0\x02\x10\0\0\0\0");
+    OBJECT_IS(GROUP_OBJECT, 2, ""); OBJECT_IS(GROUP_OBJECT, 3, "\0\x03\x10\0\0\0\0"); EQUAL(writes_object(GROUP_OBJECT, 2, 0), 0);
+    NO_SUCH(GROUP_OBJECT, 4); NO_SUCH(GROUP_OBJECT, 64); NO_SUCH(GROUP_OBJECT, 0x2000); NO_SUCH(GROUP_OBJECT, 0x2001);
+    NO_SUCH(GROUP_OBJECT, 0xFFFFFFFFu); NO_SUCH(GROUP_OBJECT, 0x80000000u); NO_SUCH(GROUP_OBJECT, 0x55555556u); /* times 3 it is 2 */
+    OBJECT_IS(SEGMENTS_OBJECT, 0, "\0\0\0\0\0" "\0\xDC\x05\0\0" "\0\xA0\x0F\0\0");
+    EACH(1, 257) NO_SUCH(SEGMENTS_OBJECT, k);
+    NO_SUCH(SEGMENTS_OBJECT, 0x3000); NO_SUCH(SEGMENTS_OBJECT, 0xFFFFFFFFu); NO_SUCH(SEGMENTS_OBJECT, 0x2AAAAAABu); /* times 6 it is 2 */
+    EACH(0, 21) { EQUAL(writes_object(GROUP_OBJECT, 0, k), 223); EQUAL(writes_object(GROUP_OBJECT, 1, k), 223); }
+    EACH(0, 15) EQUAL(writes_object(SEGMENTS_OBJECT, 0, k), 223);
+    /* The order, the stamps and the titles play no part; a recording that still runs, with the last start there can be. */
+    t[1] = 0; t[0] = UNKNOWN; starts[2] = END - 1; OBJECT_IS(SEGMENTS_OBJECT, 0, "\0\0\0\0\0" "\0\xDC\x05\0\0" "\0\xFF\xD5\x83\0");
+    OBJECT_IS(GROUP_OBJECT, 1, "\0\x00\x10\0\0\0\0" "\0\x01\x10\0\0\0\0" "\0\x02\x10\0\0\0\0");
+    /* Children and tracks. */
+    lend_sample(); nest_groups(); OBJECT_IS(GROUP_OBJECT, 0, "\1\x01\x20\0\0\0\0" "\1\x03\x20\0\0\0\0" "\0\x00\x10\0\0\0\0");
+    OBJECT_IS(GROUP_OBJECT, 1, "\1\x02\x20\0\0\0\0" "\0\x01\x10\0\0\0\0"); OBJECT_IS(GROUP_OBJECT, 2, "\0\x02\x10\0\0\0\0");
+    /* Group 0 alone is not its own child; nothing has no object. */
+    lent = (tables){.len = {3}}; OBJECT_IS(GROUP_OBJECT, 0, ""); NO_SUCH(GROUP_OBJECT, 1); NO_SUCH(SEGMENTS_OBJECT, 0);
+    lent = (tables){.len = {0}}; NO_SUCH(GROUP_OBJECT, 0); NO_SUCH(SEGMENTS_OBJECT, 0); EQUAL(writes_object(GROUP_OBJECT, 0, 0), 0x13);
+    /* All 64 groups and 256 tracks: 63 children and 256 tracks are 2,233 octets. */
+    lend_full(256); EQUAL(writes_object(GROUP_OBJECT, 0, 2233), 0); EQUAL(made_len, 2233);
+    EACH(0, 319) {
+        const uint8_t *at = made + 7 * k;
+        EQUAL(at[0], k < 63); EQUAL(at[1], k < 63 ? k + 1 : k - 63); EQUAL(at[2], k < 63 ? 0x20 : 0x10); CHECK(all_are(at + 3, 0, 4));
+    }
+    EQUAL(writes_object(GROUP_OBJECT, 0, 2232), 223); OBJECT_IS(GROUP_OBJECT, 63, ""); NO_SUCH(GROUP_OBJECT, 64); NO_SUCH(SEGMENTS_OBJECT, 256);
+    OBJECT_IS(SEGMENTS_OBJECT, 255, "\0\0\0\0\0" "\0\x64\0\0\0" "\0\xC8\0\0\0" "\0\x2C\x01\0\0"); all_go_round();
+    lend_full(193); OBJECT_IS(GROUP_OBJECT, 63, "\0\xFF\x10\0\0\0\0"); EQUAL(writes_object(GROUP_OBJECT, 0, 1791), 223);
+    EQUAL(writes_object(GROUP_OBJECT, 0, 1792), 0); all_go_round();
+    /* A chain: each group is the child of the one before. */
+    EACH(1, 64) g[3 * k] = k - 1;
+    OBJECT_IS(GROUP_OBJECT, 62, "\1\x3F\x20\0\0\0\0" "\0\xFE\x10\0\0\0\0"); all_go_round();
+    /* A track of 1,024 segments: 5,120 octets. */
+    lent = (tables){{{0, 0, 1}, {END, 0, 0, 1024}}, {0}, {3, 6, 1024}};
+    EACH(0, 1024) starts[k] = 8437 * k;
+    EQUAL(writes_object(SEGMENTS_OBJECT, 0, 5119), 223); EQUAL(writes_object(SEGMENTS_OBJECT, 0, 5120), 0); EQUAL(made_len, 5120); all_go_round();
+}
+
+#define READ_AS(of, text, room) reads_object(of, text, sizeof text - 1, room)
+#define NOT_ENTRIES(of, text) do { EQUAL(READ_AS(of, text, 99), 222); EQUAL(READ_AS(of, text, 0), 222); } while (0)
+#define POSITION(text, n, last)                                                                                            \
+    do { EQUAL(READ_AS(SEGMENTS_OBJECT, text, n), 0); EQUAL(back.count, n); EQUAL(back.words[n - 1], last); } while (0)
+
+/* W-209: "222 for octets that are not whole entries of 4.4 or 4.2; 223 for too little room" */
+static void object_read_cases(void)
+{
+    static uint8_t octets[100000];
+    static const uint8_t TWO[14] = {1, 0x04, 0x03, 0x02, 0x01, 0x06, 0x05, 0, 0xFF, 0xFF, 0xFF, 0xFF, 0xFF, 0xFF};
+    static const uint32_t WORDS[6] = {1, 0x01020304, 0x0506, 0, 0xFFFFFFFFu, 0xFFFF};
+    /* No octets are no entries. */
+    EACH(0, 4) { EQUAL(reads_object(GROUP_OBJECT + (int)(k % 2), NULL, 0, k / 2), 0); EQUAL(back.count, 0); }
+    /* Two entries of a group, of any object number: every length, in every room. */
+    for (uint32_t len = 0; len <= 14; len++) {
+        EACH(0, 9) {
+            EQUAL(reads_object(GROUP_OBJECT, TWO, len, k), len % 7 != 0 ? 222 : k < len / 7 * 3 ? 223 : 0);
+            if (len % 7 == 0 && k >= len / 7 * 3) { EQUAL(back.count, len / 7); CHECK(memcmp(back.words, WORDS, 4 * (len / 7 * 3)) == 0); }
+        }
+    }
+    /* 001, 4.4.1: all types but 0 and 1 are reserved, in each place, whatever the room. */
+    EACH(0, 256) {
+        memcpy(octets, TWO, 14); octets[0] = (uint8_t)k; EQUAL(reads_object(GROUP_OBJECT, octets, 14, 6), k > 1 ? 222 : 0);
+        if (k <= 1) EQUAL(back.words[0], k);
+        memcpy(octets, TWO, 14); octets[7] = (uint8_t)k; EQUAL(reads_object(GROUP_OBJECT, octets, 14, 0), k > 1 ? 222 : 223);
+        EQUAL(reads_object(GROUP_OBJECT, octets, 13, 6), 222);
+    }
+    /* Segments: names of 0, 1, 2 and 255 octets are passed over; positions need not rise, and be of any track. */
+    POSITION("\0\0\0\0\0", 1, 0); POSITION("\0\xFF\xFF\xFF\x7F", 1, 0x7FFFFFFF); POSITION("\0\1\2\3\4" "\0\0\0\0\0", 2, 0);
+    POSITION("\1a\1\2\3\4", 1, 0x04030201); POSITION("\2\xC3\xA4\1\0\0\0" "\0\2\0\0\0" "\4\xF0\x9F\x8E\xB5\3\0\0\0", 3, 3);
+    POSITION("\5\0\0\0\0\0\7\0\0\0", 1, 7); POSITION("\3\xE2\x82\xAC\0\0\0\0" "\0\xD6\0\0\0", 2, 0xD6);
+    EACH(0, 256) {
+        memset(octets, 'n', sizeof octets); octets[0] = (uint8_t)k; memcpy(octets + 1 + k, "\4\3\2\1\0\5\0\0\0", 9);
+        EQUAL(reads_object(SEGMENTS_OBJECT, octets, k + 10, 2), 0); EQUAL(back.count, 2);
+        EQUAL(back.words[0], 0x01020304); EQUAL(back.words[1], 5);
+        EQUAL(reads_object(SEGMENTS_OBJECT, octets, k + 10, 1), 223); EQUAL(reads_object(SEGMENTS_OBJECT, octets, k + 10, 0), 223);
+        /* Cut anywhere but between the two; 222 comes before 223. */
+        for (uint32_t len = 1; len < k + 10; len++) {
+            EQUAL(reads_object(SEGMENTS_OBJECT, octets, len, len % 3), len != k + 5 ? 222 : len % 3 == 0 ? 223 : 0);
+        }
+        /* Of 001, 4.2.2, not UTF-8: an octet of the name, the first and the last. */
+        if (k > 0) { octets[1] = 0x80; EQUAL(reads_object(SEGMENTS_OBJECT, octets, k + 10, 2), 222); octets[1] = 'n'; }
+        if (k > 0) { octets[k] = 0xC3; EQUAL(reads_object(SEGMENTS_OBJECT, octets, k + 10, 2), 222); octets[k] = 'n'; }
+        /* 001, 4.2.3: no position is negative, in the first entry or the last. */
+        octets[4 + k] = 0x80; EQUAL(reads_object(SEGMENTS_OBJECT, octets, k + 10, 2), 222); octets[4 + k] = 0x7F;
+        EQUAL(reads_object(SEGMENTS_OBJECT, octets, k + 10, 2), 0); octets[9 + k] = 0xFF;
+        EQUAL(reads_object(SEGMENTS_OBJECT, octets, k + 10, 1), 222);
+    }
+    NOT_ENTRIES(SEGMENTS_OBJECT, "\0\0\0\0\x80"); NOT_ENTRIES(SEGMENTS_OBJECT, "\0\xFF\xFF\xFF\xFF"); NOT_ENTRIES(SEGMENTS_OBJECT, "\0");
+    NOT_ENTRIES(SEGMENTS_OBJECT, "\0\0\0\0\0" "\0\0\0\0"); NOT_ENTRIES(SEGMENTS_OBJECT, "\0\0\0\0\0" "\1\0\0\0\0");
+    NOT_ENTRIES(SEGMENTS_OBJECT, "\1\0\0\0\0"); NOT_ENTRIES(SEGMENTS_OBJECT, "\xFF\0\0\0\0");
+    /* What lies behind a name does not make it whole; overlong, surrogates, above 10FFFF; a bad one behind a good one. */
+    NOT_ENTRIES(SEGMENTS_OBJECT, "\1\xC3\xA4\0\0\0"); NOT_ENTRIES(SEGMENTS_OBJECT, "\2\xC0\x80\0\0\0\0");
+    NOT_ENTRIES(SEGMENTS_OBJECT, "\3\xED\xA0\x80\0\0\0\0"); NOT_ENTRIES(SEGMENTS_OBJECT, "\4\xF4\x90\x80\x80\0\0\0\0");
+    NOT_ENTRIES(SEGMENTS_OBJECT, "\2ab\0\0\0\0" "\2a\xFF\0\0\0\0"); NOT_ENTRIES(SEGMENTS_OBJECT, "\3\xE0\x9F\xBF\0\0\0\0");
+    /* Objects of any length: more entries than a catalogue has. */
+    memset(octets, 0, sizeof octets); EQUAL(reads_object(SEGMENTS_OBJECT, octets, 100000, 20000), 0); EQUAL(back.count, 20000);
+    EQUAL(reads_object(SEGMENTS_OBJECT, octets, 100000, 19999), 223); EQUAL(reads_object(SEGMENTS_OBJECT, octets, 99999, 20000), 222);
+    EQUAL(reads_object(GROUP_OBJECT, octets, 49000, 21000), 0); EQUAL(back.count, 7000);
+    EQUAL(reads_object(GROUP_OBJECT, octets, 49000, 20999), 223);
+    octets[48993] = 2; EQUAL(reads_object(GROUP_OBJECT, octets, 49000, 20999), 222);
 }
 
 /* ---- Cards */
 
-static uint8_t card[129 * 512];
-static size_t card_len;
 static tables got;
 static uint32_t counts[TABLES], bad_block;
 
@@ -1400,27 +2011,6 @@ static void short_cases(void)
     }
 }
 
-/* W-204: the lent catalogue into that room, and into `card` where it is written. A refusal leaves room and blocks as they were,
- * a success what lies behind the last block. W-207: its 200 carries what every 200 does. */
-static uint32_t writes_card(size_t room)
-{
-    uint32_t *t0 = exact(lent.words[0], 4 * lent.len[0]), *t1 = exact(lent.words[1], 4 * lent.len[1]);
-    uint32_t *t2 = exact(lent.words[2], 4 * lent.len[2]), refusal, blocks;
-    uint8_t *t3 = exact(lent.text, lent.len[3]), *out;
-    memset(card, FILL, sizeof card);
-    memset(&blocks, FILL, sizeof blocks);
-    memset(&place, FILL, sizeof place);
-    out = exact(card, room);
-    refusal = ref_card_write(LENT(t), out, room, &blocks, PLACE);
-    card_len = refusal == 0 ? 512 * blocks : 0;
-    CHECK(refusal == 0 || all_are(&blocks, FILL, sizeof blocks));
-    CHECK(place_fits(refusal));
-    CHECK(card_len <= room && (room == 0 || all_are(out + card_len, FILL, room - card_len)));
-    memcpy(card, room == 0 ? card : out, card_len);
-    free(t0); free(t1); free(t2); free(t3); free(out);
-    return refusal;
-}
-
 /* "Loading what was written gives the tables back", and "every block but the last of its kind" is full. What the blocks hold
  * besides is what the reader asks for, so there is one card only that does all this. */
 static int comes_back(void)
@@ -1577,20 +2167,134 @@ static void random_text(uint8_t *to, size_t len, uint32_t damage)
     if (len > 0 && one_in(damage)) to[below((uint32_t)len)] = (uint8_t)any();
 }
 
-/* W-208: "a client's slots running through the generic service and then the other, twenty in all": of all that is owed, the least
- * by the clients behind the one served last, and then by the places behind the client's mark. */
+/* W-209 a second time: what 10 to 14 are to read of a player in the lent catalogue. The order is that of these keys. */
+static uint64_t key_of(uint32_t order, uint32_t track)
+{
+    uint32_t stamp = lent.words[TRACKS][6 * track + 1];
+    return (uint64_t)(order <= 4 ? 0 : order <= 6 ? stamp : ~stamp) << 32 | track;
+}
+/* The track of the least key above that one, or none, which is UNTOUCHED. */
+static uint32_t least_above(const ref_player *p, uint64_t key, int or_same)
+{
+    const uint32_t *g = lent.words[GROUPS] + 3 * p->group;
+    uint32_t least = UNTOUCHED;
+    EACH(g[1], g[1] + g[2]) {
+        uint64_t own = key_of(p->order, k);
+        if ((own > key || (or_same && own == key)) && (least == UNTOUCHED || own < key_of(p->order, least))) least = k;
+    }
+    return least;
+}
+static uint64_t should_show(const ref_player *p, uint32_t what)
+{
+    uint32_t next;
+    if (p->media == REF_INACTIVE) return NO_OBJECT;
+    if (what == 10) return lent.words[TRACKS][6 * p->track + 3] == 0 ? NO_OBJECT : 0x3000 + p->track;
+    if (what != 12) return what == 11 ? 0x1000 + p->track : 0x2000 + (what == 13 ? lent.words[GROUPS][3 * p->group] : p->group);
+    if (p->next != 0) return 0x1000 + p->next - 1;
+    if (p->order <= 2) return p->order == 1 ? NO_OBJECT : 0x1000 + p->track;
+    next = least_above(p, key_of(p->order, p->track), 0);
+    if (next == UNTOUCHED && p->order % 2 == 0) next = least_above(p, 0, 1);
+    return next == UNTOUCHED ? NO_OBJECT : 0x1000 + next;
+}
+/* Whether so many octets of the output are that value from that offset on. */
+static int is_shown(const ref_player *p, uint32_t what, uint32_t offset, uint32_t len)
+{
+    uint64_t shown = should_show(p, what);
+    return len == (shown == NO_OBJECT ? 0 : 6) - offset && memcmp(said.out, object(shown) + offset, len) == 0;
+}
+
+/* W-208: "a client's slots running through the generic service and then the other": of all that is owed, the least by the clients
+ * behind the one served last, and then by the places behind the client's mark. */
 static void take_is_next(const ref_state *was)
 {
     uint32_t least = UNTOUCHED, next[3] = {0, 0, 0};
     for (uint32_t client = 0; client < 4; client++) {
-        EACH(0, 20) {
-            uint32_t key = (client + 3 - was->turn) % 4 * 20 + (k + 19 - was->links[client].mark) % 20;
-            if ((was->services[k / 10].accounts[client].owed >> k % 10 & 1) == 0 || key >= least) continue;
-            least = key; next[0] = client; next[1] = k / 10; next[2] = SLOT[k % 10];
+        EACH(0, ROUND) {
+            uint32_t key = (client + 3 - was->turn) % 4 * ROUND + (k + ROUND - 1 - was->links[client].mark) % ROUND;
+            if ((was->services[k / SLOTS].accounts[client].owed >> k % SLOTS & 1) == 0 || key >= least) continue;
+            least = key; next[0] = client; next[1] = k / SLOTS; next[2] = SLOT[k % SLOTS];
         }
     }
     CHECK(memcmp(next, said.served, sizeof next) == 0);
     EQUAL(s.turn, least == UNTOUCHED ? was->turn : next[0]);
+    /* Of 11 to 14 the present value is handed out. */
+    if (next[2] >= 11 && next[2] <= 14) CHECK(is_shown(&s.services[next[1]].player, next[2], 0, said.served[3]));
+}
+
+/* How often a random call gave a name, kept one, used one by Next Track and by an end, used that of the current track, and dropped one;
+ * went to a track and to a group by 11 and 14; and was refused with 0x13 for an object number. */
+enum { GIVEN, KEPT, BY_NEXT, BY_END, ONTO_ITSELF, DROPPED, TO_TRACK, TO_GROUP, NOT_OBJECT, MET };
+static unsigned long met[MET];
+
+/* W-209: what an object number is to do that is written to a player, which leads to the group and track that it is then to be on. */
+static int goes_there(const ref_player *b, uint32_t what, uint64_t number, uint32_t *group, uint32_t *track)
+{
+    const uint32_t *g = lent.words[GROUPS] + 3 * b->group;
+    ref_player to = *b;
+    *group = b->group; *track = b->track;
+    if (b->media == REF_INACTIVE) return 0;
+    if (what != 14) {
+        if (number < 0x1000 + (uint64_t)g[1] || number >= 0x1000 + (uint64_t)g[1] + g[2]) return 0;
+        if (what == 11) *track = (uint32_t)number - 0x1000;
+        return 1;
+    }
+    if (number < 0x2000 || number >= 0x2000 + lent.len[GROUPS] / 3 || lent.words[GROUPS][3 * (number - 0x2000) + 2] == 0) return 0;
+    to.group = *group = (uint32_t)number - 0x2000;
+    *track = to.order <= 2 ? lent.words[GROUPS][3 * to.group + 1] : least_above(&to, 0, 1);
+    return 1;
+}
+
+/* The calls that read or write a player, by whichever client. */
+static int may_move(int call)
+{
+    return call == SET_NAME || call == ACTIVATE || call == DEACTIVATE || call == ADVANCE || call == READ || call == WRITE;
+}
+
+/* A call that was made to `service` and got past the rows before 0x13: the player and the name that it leaves, and what of 10 to 14 it
+ * makes owed and marks. */
+static void object_rules_hold(const ref_state *was, uint32_t refusal, uint32_t call, uint32_t client, uint32_t what, uint32_t number,
+                              const uint8_t *octets)
+{
+    const ref_player *b = &was->services[service].player, *a = &PLAYER;
+    int by_object = call == WRITE && (what == 11 || what == 12 || what == 14), active = b->media != REF_INACTIVE;
+    int moved = a->media == REF_INACTIVE || a->group != b->group || a->track != b->track;
+    uint32_t d = active ? lent.words[TRACKS][6 * b->track] : 0, name, group, track;
+    int by_next = call == WRITE && what == 18 && octets[0] == TRACK + NEXT && active && (b->mask >> 12 & 1) != 0;
+    int by_end = call == ADVANCE && b->media == REF_PLAYING && d != UNKNOWN && (uint64_t)b->position + number >= d;
+    uint64_t object_number = 0;
+    EACH(0, 6) object_number |= (uint64_t)octets[k] << (8 * k);
+    if (by_object) {
+        EQUAL(refusal, goes_there(b, what, object_number, &group, &track) ? 0 : 0x13);
+        if (refusal != 0) { met[NOT_OBJECT]++; return; }
+        EQUAL(a->group, group); EQUAL(a->track, track); EQUAL(a->position, what == 12 ? b->position : 0);
+        EQUAL(a->media, what != 12 && b->media == REF_SEEKING ? REF_PLAYING : b->media);
+        EQUAL(a->seeking, what == 12 ? b->seeking : 0);
+        met[what == 11 ? TO_TRACK : what == 14 ? TO_GROUP : GIVEN]++;
+    }
+    if ((by_next || by_end) && b->next != 0) {
+        EQUAL(a->group, b->group); EQUAL(a->track, b->next - 1); EQUAL(a->position, 0);
+        EQUAL(a->media, b->media == REF_PAUSED ? REF_PAUSED : REF_PLAYING);
+        met[by_next ? BY_NEXT : BY_END]++; met[ONTO_ITSELF] += !moved;
+    } else if (b->next != 0 && what != 12) {
+        met[moved ? DROPPED : KEPT]++;
+    }
+    name = moved || by_next || by_end ? 0 : call == WRITE && what == 12 ? (uint32_t)object_number - 0x1000 + 1 : b->next;
+    EQUAL(a->next, name);
+    for (uint32_t c = 10; c < 15; c++) {
+        uint32_t slot = c < 11 ? 32 : c - 4;
+        int changed = should_show(b, c) != should_show(a, c);
+        EACH(0, 4) {
+            const ref_account *had = &was->services[service].accounts[k], *has = &ACCOUNT(k);
+            uint32_t fresh = had->fresh >> c & 1;
+            if (c > 10) {
+                uint32_t told = changed && !(by_object && what == c && k == client) ? had->subscribed >> slot & 1 : 0;
+                CHECK((has->owed >> slot & 1) == ((had->owed >> slot & 1) | told));
+            }
+            if (call == READ && what == c && number == 0 && k == client) fresh = 1;
+            EQUAL(has->fresh >> c & 1, changed ? 0 : fresh);
+        }
+    }
+    if (call == READ && what >= 10 && what <= 14) CHECK(is_shown(a, what, number, said.length));
 }
 
 static void exchange_services(void)
@@ -1624,42 +2328,77 @@ static void is_the_called_ones(const ref_state *was, uint32_t gave, int call, ui
     memcpy(&s, &now, sizeof s); memcpy(&said, answer, sizeof said); memcpy(&place, where, sizeof place);
 }
 
+/* A call, and all of it that is worked out a second time. */
 static unsigned long accepted[CALLS], refused[CALLS];
+static uint32_t tries(uint32_t call, uint32_t client, uint32_t what, uint32_t number, const uint8_t *octets, size_t len, size_t room)
+{
+    ref_state was;
+    uint32_t refusal;
+    memcpy(&was, &s, sizeof s);
+    refusal = makes((int)call, client, what, number, octets, len, room);
+    (refusal == 0 ? accepted : refused)[call]++;
+    /* W-207: 207 and its offset, where nothing comes before; W-208: "generic (0) checked first" */
+    if ((call == START || call == SET_NAME) && refusal != 200 && refusal != 201 && refusal != 219) {
+        uint32_t bad = call == START && service > 0 ? bad_at(other.name, other.len) : bad_at(octets, len);
+        if (bad == UNTOUCHED && call == START) bad = service > 0 ? bad_at(octets, len) : bad_at(other.name, other.len);
+        EQUAL(refusal, bad == UNTOUCHED ? 0 : 207); EQUAL(place.offset, bad);
+    }
+    if (call == TAKE && refusal == 0) take_is_next(&was);
+    if (may_move((int)call) && (refusal == 0 || (refusal == 0x13 && what != 15))) {
+        object_rules_hold(&was, refusal, call, client, what, number, octets);
+    }
+    if (call != START && call != TAKE) is_the_called_ones(&was, refusal, (int)call, client, what, number, octets, len, room);
+    return refusal;
+}
+
+/* Most of the tracks are the current group's. */
+static const uint8_t *random_number(uint32_t what)
+{
+    const uint32_t *g = lent.words[GROUPS] + 3 * (s.services[service % 2].player.group % 64);
+    uint64_t number = what == 14 ? 0x2000 + below(5) : one_in(8) ? 0x1000 + below(5) : 0x1000 + g[1] + below(g[2] % 300 + 1);
+    if (one_in(16)) number = any();
+    return object(one_in(16) ? number | (uint64_t)1 << (16 + below(32)) : number);
+}
+
 static uint32_t random_call(void)
 {
-    static const uint32_t WRITABLE[6] = {7, 8, 15, 18, 18, 18}, RANGE[CALLS] = {1, 1, 65, 1, 300, 600, 1, 1, 1, 140, 1, 1};
-    uint32_t call = below(CALLS + 6), client = one_in(24) ? 4 : below(4), what = one_in(12) ? below(30) : SLOT[below(10)], number;
+    static const uint32_t WRITABLE[9] = {7, 8, 11, 12, 14, 15, 18, 18, 18}, RANGE[CALLS] = {1, 1, 65, 1, 300, 600, 1, 1, 1, 140, 1, 1};
+    uint32_t call = below(CALLS + 6), client = one_in(24) ? 4 : below(4), what = one_in(12) ? below(30) : SLOT[below(SLOTS)], number;
     uint8_t octets[140], beside[140];
     uint32_t refusal;
     size_t len = below(131), room = one_in(16) ? below(128) : 128 + below(20);
-    ref_state was;
     service = one_in(24) ? OVER[below(6)] : below(2);
     call = call >= CALLS ? WRITE : call == START && !one_in(20) ? TAKE : call == DISCONNECT && !one_in(4) ? SUBSCRIBE : call;
     number = one_in(3) ? 0 : one_in(8) ? any() : below(RANGE[call]);
     memset(octets, 'n', sizeof octets);
     random_text(octets, len, 4);
     if (call == WRITE) {
-        what = one_in(8) ? what : WRITABLE[below(6)];
+        what = one_in(8) ? what : WRITABLE[below(9)];
         octets[0] = what == 15 ? (uint8_t)below(10) : one_in(12) ? (uint8_t)any() : OPCODE[below(21)];
         put_number(octets + 1, one_in(4) ? (long)any() : (long)below(20) - 10);
-        len = one_in(16) ? below(8) : what == 7 ? 4 : what == 18 && CARRIES_NUMBER(octets[0]) ? 5 : 1;
+        len = what == 7 ? 4 : what >= 10 && what <= 14 ? 6 : what == 18 && CARRIES_NUMBER(octets[0]) ? 5 : 1;
+        if (len == 6) memcpy(octets, random_number(what), len);
+        if (one_in(16)) len = below(8);
     }
     if (call == START) {
         other.len = below(131); memset(beside, 'o', sizeof beside); random_text(beside, other.len, 4); other.name = beside;
     }
-    memcpy(&was, &s, sizeof s);
-    refusal = makes((int)call, client, what, number, octets, len, room);
-    (refusal == 0 ? accepted : refused)[call]++;
-    /* W-207: 207 and its offset, where nothing comes before; W-208: "generic (0) checked first" */
-    if ((call == START || call == SET_NAME) && refusal != 200 && refusal != 201 && refusal != 219) {
-        uint32_t bad = call == START && service > 0 ? bad_at(beside, other.len) : bad_at(octets, len);
-        if (bad == UNTOUCHED && call == START) bad = service > 0 ? bad_at(octets, len) : bad_at(beside, other.len);
-        EQUAL(refusal, bad == UNTOUCHED ? 0 : 207); EQUAL(place.offset, bad);
-    }
-    if (call == TAKE && refusal == 0) take_is_next(&was);
-    if (call != START && call != TAKE) is_the_called_ones(&was, refusal, (int)call, client, what, number, octets, len, room);
+    refusal = tries(call, client, what, number, octets, len, room);
     other = OTHER;
     return refusal;
+}
+
+/* W-209: one of the calls by which tracks are named, and names used, kept and dropped; and a take, so that results do not pile up. */
+static void random_name(void)
+{
+    static const uint32_t WRITES[8] = {11, 12, 12, 12, 14, 15, 18, 18};
+    uint32_t client = below(3), what = WRITES[below(8)], call;
+    uint8_t octets[6] = {(uint8_t)(what == 15 ? 1 + below(8) : one_in(3) ? PLAY : TRACK + below(4))};
+    service = below(2);
+    call = PLAYER.media == REF_INACTIVE && !one_in(4) ? ACTIVATE
+         : one_in(3) ? TAKE : one_in(4) ? ADVANCE : one_in(10) ? one_in(3) ? DEACTIVATE : ACTIVATE : WRITE;
+    if (what < 15) memcpy(octets, random_number(what), 6);
+    (void)tries(call, client, what, call == ACTIVATE ? below(4) : one_in(2) ? below(400) : 10000, octets, what < 15 ? 6 : 1, ROOM);
 }
 
 /* A call with an octet of the state, or a word, an octet and a length of the catalogue, changed and then changed back. */
@@ -1718,7 +2457,47 @@ static void random_catalogue(void)
     uint32_t refusal;
     lend_random(); judge();
     kinds[judged.beside ? 3 : judged.wrong ? judged.track == UNTOUCHED ? 2 : 1 : 0]++;
-    refusal = one_in(8) ? start(ALL_OPCODES) : one_in(8) ? writes_card(below(9) * 512) : random_call(); AS_JUDGED(refusal);
+    refusal = one_in(8) ? start(ALL_OPCODES) : one_in(8) ? writes_card(below(9) * 512)
+            : one_in(4) ? writes_object(GROUP_OBJECT + (int)below(2), below(9), below(100)) : random_call();
+    AS_JUDGED(refusal);
+    if (!judged.wrong) all_go_round();
+}
+
+/* Octets that are entries of a Track Segments or a Group object but for what is spoiled, cut or reserved, read into any room, and read a
+ * second time by this. */
+static unsigned long objects[3]; /* accepted, 222, 223 */
+static void random_object(void)
+{
+    uint8_t octets[1200];
+    uint32_t low[240], should = 0, len = 0, count = 0, most = below(5), room;
+    int of = GROUP_OBJECT + (int)below(2), unit = of == GROUP_OBJECT ? 3 : 1;
+    EACH(0, most) {
+        uint32_t name = of == GROUP_OBJECT || one_in(3) ? 0 : below(one_in(8) ? 256 : 12);
+        octets[len] = (uint8_t)(of == GROUP_OBJECT ? below(one_in(12) ? 256 : 2) : name);
+        random_text(octets + len + 1, name, 12); len += 1 + name;
+        put_number(octets + len, one_in(16) ? -1 - (long)below(MOST) : (long)below(MOST)); len += 4;
+        if (of == GROUP_OBJECT) { octets[len++] = (uint8_t)any(); octets[len++] = (uint8_t)any(); }
+    }
+    if (len > 0 && one_in(8)) octets[below(len)] = (uint8_t)any();
+    if (one_in(8)) len = below(len + 1);
+    for (uint32_t at = 0; at < len && should == 0; count++) {
+        uint32_t name = of == GROUP_OBJECT ? 2 : octets[at];
+        if (at + 5 + name > len || (of == GROUP_OBJECT && octets[at] > 1)) { should = 222; break; }
+        if (of == SEGMENTS_OBJECT && (farthest(octets + at + 1, name) < name || octets[at + name + 4] > 127)) { should = 222; break; }
+        low[count] = 0;
+        EACH(0, 4) low[count] |= (uint32_t)octets[at + (of == GROUP_OBJECT ? 0 : name) + 1 + k] << (8 * k);
+        at += 5 + name;
+    }
+    room = one_in(2) ? (uint32_t)unit * count : below(20);
+    if (should == 0 && room < (uint32_t)unit * count) should = 223;
+    EQUAL(reads_object(of, octets, len, room), should); objects[should == 0 ? 0 : should - 221]++;
+    if (should != 0) return;
+    EQUAL(back.count, count);
+    EACH(0, count) {
+        uint32_t *word = back.words + (uint32_t)unit * k;
+        EQUAL(word[of == GROUP_OBJECT], low[k]);
+        if (of == GROUP_OBJECT) { EQUAL(word[0], octets[7 * k]); EQUAL(word[2], octets[7 * k + 5] + 256 * octets[7 * k + 6]); }
+    }
 }
 
 /* A card and a sheet with an octet changed and an end anywhere, into tables of any room. */
@@ -1737,13 +2516,14 @@ static void history(void)
     one_in(4) ? lend_full(one_in(2) ? 193 : 256) : lend_sample();
     lent.words[TRACKS][6 * below(4)] = one_in(3) ? UNKNOWN : END;
     service = below(2); EQUAL(start(one_in(3) ? any() : ALL_OPCODES), 0);
-    EACH(0, 60) {
-        service = k / 10 % 2;
-        if (k < 20 && k % 10 == 0) (void)activate(below(2));
-        EQUAL((k % 20 == 0 ? connects(k / 20, 23 + below(200)) : 0) + subscribes(k / 20, SLOT[k % 10]), 0);
+    EACH(0, 3 * ROUND) {
+        service = k / SLOTS % 2;
+        if (k < ROUND && k % SLOTS == 0) (void)activate(below(2));
+        EQUAL((k % ROUND == 0 ? connects(k / ROUND, 23 + below(200)) : 0) + subscribes(k / ROUND, SLOT[k % SLOTS]), 0);
     }
+    EACH(0, 100) random_name();
     EACH(0, 150) { if (one_in(6)) damaged_call(); else (void)random_call(); }
-    EACH(0, 30) damaged_octets();
+    EACH(0, 30) { damaged_octets(); random_object(); }
     (void)writes_card(below(50000));
     EACH(0, 150) random_catalogue();
 }
@@ -1756,14 +2536,17 @@ int main(int argc, char **argv)
     for (service = 0; service < REF_SERVICES; service++) {
         move_cases(); previous_segment_cases(); running_cases(); media_cases(); owed_cases(); take_cases();
         name_cases(); order_cases(); state_cases();
+        value_cases(); object_mark_cases(); object_write_cases(); name_kept_cases(); name_used_cases(); told_cases();
     }
     service = 0;
     catalogue_cases(); title_cases();
     start_cases(); number_cases(); apart_cases(); both_owed_cases(); mark_cases(); round_cases(); both_states_cases();
-    card_cases(); reason_cases(); short_cases(); writer_cases(); sheet_cases();
+    object_cases(); object_read_cases(); card_cases(); reason_cases(); short_cases(); writer_cases(); sheet_cases();
     for (unsigned long k = 0; k < histories; k++) history();
     EACH(0, CALLS) { CHECK(histories < 40 || (accepted[k] > 0 && refused[k] > 0)); made += accepted[k] + refused[k]; }
     EACH(0, 4) CHECK(histories < 40 || kinds[k] > 5 * histories);
+    EACH(0, MET) CHECK(histories < 40 || met[k] > histories / 3);
+    EACH(0, 3) CHECK(histories < 40 || objects[k] > histories);
     printf("checks: %lu, failures: %lu; random histories: %lu, calls: %lu\n", checks, failures, histories, made);
     return failures == 0 ? 0 : 1;
 }

@@ -9,11 +9,12 @@ with its Content Control ID, and service 1's name.
 A line is the answer and, for each of the two services (document 02, W-208), the state of its player that the call leaves and what is seen of each of the
 four clients in it. The state of a player is written
 
-    media state, playing order, playback speed, seeking speed | group, track, position
+    media state, playing order, playback speed, seeking speed | group, track, position, next
 
-and stays as it is where a call is refused, is one that does not touch the player, or is to the other service. The answer of a refused call is 'refused',
-the number and, behind it, what 200 and 207 carry (W-207): 'refused 200 1 5' has the track and the offset of a bad title, 'refused 207 0' the offset
-within the name. A plain 200 and every other refusal carry nothing.
+with the number of the named next track (W-209) as the last part, or '-' where none is named. In the script the last part is left out where none is.
+The state stays as it is where a call is refused, is one that does not touch the player, or is to the other service. The answer of a refused call is
+'refused', the number and, behind it, what 200 and 207 carry (W-207): 'refused 200 1 5' has the track and the offset of a bad title, 'refused 207 0' the
+offset within the name. A plain 200 and every other refusal carry nothing.
 
 A call is to the service that it names or, where it names none, to the one that `on` named last. What falls due by it is given as characteristics of that
 service behind the client: 'left 17 18; screen 17'. Each client is seen in each service, as 'ATT_MTU: subscribed; owed; waiting results', or '-' while it
@@ -26,8 +27,10 @@ import struct
 # record; the sample with other segments in track 0, from 0, 200, 450 and 5800 on, of which the first two and the last are shorter than 300; the sample
 # with tracks 1, 2 and 3 still running, the first of them with segments from 0, 1500 and 8639999 on; the sample with other titles, whose text is the 8
 # octets 'Pr\xC3\xA9lude', the 10 octets 'Inter\xC3ezzo' and the 4 octets 'Cod\xFF', so that the titles of tracks 1 and 3 are bad, at 5 and at 3, and
-# that of track 2 is empty; the same with group 3 its own parent.
-SAMPLE, LONG, OWN_PARENT, CUT, CLOSE, RUNNING, BAD_TITLES, BAD_AND_WRONG = range(8)
+# that of track 2 is empty; the same with group 3 its own parent; the sample with folders, group 0 with track 0, group 1 in it with tracks 1 and 2, and
+# in that one group 2 without tracks and group 3 with track 3; one of 64 groups, of which the last has all 256 tracks, of duration 0, without segments
+# and with empty titles, and the others none.
+SAMPLE, LONG, OWN_PARENT, CUT, CLOSE, RUNNING, BAD_TITLES, BAD_AND_WRONG, FOLDERS, MANY = range(10)
 
 (NOTE, START, SET_NAME, ACTIVATE, DEACTIVATE, ADVANCE, CONNECT, DISCONNECT, SUBSCRIBE, UNSUBSCRIBE, READ, WRITE, TAKE, DAMAGE) = range(14)
 
@@ -47,10 +50,10 @@ PREVIOUS_GROUP, NEXT_GROUP, FIRST_GROUP, LAST_GROUP, GOTO_GROUP = 0x40, 0x41, 0x
 ALL = 0x1FFFFF
 LONGEST = 4294967295
 
-# Parts of the state: of a service's player, the client served last, of a client's record. Of these CONNECTED, ENCRYPTION, MTU and MARK are the client's
-# in both services.
-MEDIA, PLAYING_ORDER, SEEKING_SPEED, GROUP, TRACK, PLACE, NAME_LENGTH, NAME_FIRST, TURN = range(1, 10)
-CONNECTED, ENCRYPTION, MTU, SUBSCRIBED, OWED, FRESH, MARK, WAITING, CODE = range(10, 19)
+# Parts of the state: of a service's player, the client served last, of a client's record. NEXT is 0 where no next track is named, else the number of the
+# named one plus 1. Of the record's parts CONNECTED, ENCRYPTION, MTU and MARK are the client's in both services.
+MEDIA, PLAYING_ORDER, SEEKING_SPEED, GROUP, TRACK, PLACE, NEXT, NAME_LENGTH, NAME_FIRST, TURN = range(1, 11)
+CONNECTED, ENCRYPTION, MTU, SUBSCRIBED, OWED, FRESH, MARK, WAITING, CODE = range(11, 20)
 
 FRAMES, LINES = [], []
 CASES = [0]
@@ -91,6 +94,11 @@ def fields(service):
     return [damaged or str(record or '-') for damaged, record in zip(DAMAGED[service], RECORDS[service])]
 
 
+def whole(state):
+    """The state of a player with all its parts: four on each side."""
+    return state if len(state.split('|')[1].split()) == 4 else state + ' -'
+
+
 def frame(catalogue, call, who, service, octet, number, room, text, line):
     FRAMES.append(struct.pack('<BBBBBIBH', catalogue, call, who, service, octet & 0xFF, number & 0xFFFFFFFF, room, len(text)) + text)
     LINES.append(line)
@@ -99,7 +107,7 @@ def frame(catalogue, call, who, service, octet, number, room, text, line):
 def made(call, who, service, octet, number, text, answer, catalogue, room=128):
     shown = [answer]
     for each in SERVICES:
-        shown += [PLAYERS[each]] + fields(each)
+        shown += [whole(PLAYERS[each])] + fields(each)
     frame(catalogue, call, who, service, octet, number, room, text, ' | '.join(shown))
 
 
@@ -135,6 +143,19 @@ def octets(text):
 
 def word(number):
     return struct.pack('<I', number & 0xFFFFFFFF)
+
+
+def track_object(track):
+    """W-209: "Track t is object 0x1000 + t, group g 0x2000 + g, segments of t 0x3000 + t"; a number of six octets."""
+    return (0x1000 + track).to_bytes(6, 'little')
+
+
+def group_object(group):
+    return (0x2000 + group).to_bytes(6, 'little')
+
+
+def segments_object(track):
+    return (0x3000 + track).to_bytes(6, 'little')
 
 
 # ---- The calls

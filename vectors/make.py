@@ -1,5 +1,5 @@
 #!/usr/bin/env python3
-"""The vectors of the card reader, the catalogue check, the text check, the cue sheet reader and the card writer.
+"""The vectors of the card reader, the catalogue check, the text check, the cue sheet reader, the card writer, and the writing and reading of objects.
 
     python3 vectors/make.py            writes the files below
     python3 vectors/make.py --check    compares them, and fails on a difference
@@ -10,9 +10,10 @@
 
 Each vector has its answer beside it, worked out by hand from document 01 and from these requests of document 02: W-205 for a
 card with a bad block, W-206 for one with a block that is not full, W-202 for a running recording, W-207 for a bad title, W-212
-for a sheet, W-204 for a written card. Only three things are computed: the check numbers of the tables, from the tables that the
-vector was made of; those of written cards, from cards made by document 01's words on blocks; and the starts of the two sheets
-that have 1,024 and 3,640 of them, by the request's formula. Many sheets, some cards and some catalogues are variants that a loop
+for a sheet, W-204 for a written card, W-209 for an object. Only four things are computed: the check numbers of the tables, from
+the tables that the vector was made of; those of written cards, from cards made by document 01's words on blocks; those of objects,
+from their entries, which are stated, by the tables of sections 4.2 and 4.4 of document 001; and the starts of the two sheets that
+have 1,024 and 3,640 of them, by the request's formula. Many sheets, some cards and some catalogues are variants that a loop
 makes, with one answer set by hand for all of them or, of a card, with the number that REASONS sets for each reason. The refused
 catalogues of REFUSED_TITLES are also ones to be written, with the same answer. A comment in quotation marks is a sentence of
 document 01, and of document 02 where a request is named with it or it stands over sheets or written cards.
@@ -24,7 +25,7 @@ from vector_files import write_or_compare
 
 WORD = 0xFFFFFFFF
 
-CARD, CATALOGUE, TEXT, SHEET, WRITE = 1, 2, 3, 4, 5
+CARD, CATALOGUE, TEXT, SHEET, WRITE, GROUP_OBJECT, SEGMENTS_OBJECT, GROUP_READ, SEGMENTS_READ = range(1, 10)
 GROUP_KIND, TRACK_KIND, SEGMENT_KIND, TEXT_KIND = 1, 2, 3, 4
 
 # One entry for each vector: its kind, its name, the octets of its case, its answer.
@@ -1640,6 +1641,296 @@ no_write('write-full-bad-title-room-one-short', '200 255 124', 45567, *BAD_AT_LA
 no_write('write-full-bad-title-no-room', '200 255 124', 0, *BAD_AT_LAST)
 
 
+# ---- Objects (W-209): of a written one how many octets there are, of a read one how many entries, or the refusal and what it carries; and the
+# ---- lent octets, which were 0xA5 each, or the lent words. A comment in quotation marks is a sentence of W-209. 0x13 is written 19 here.
+
+# Type 1 is a group, type 0 a track (001, 4.4.1).
+TRACK_ENTRY, GROUP_ENTRY = 0, 1
+
+
+def track_entries(first, count):
+    """"Track t is object 0x1000 + t": those of tracks that follow each other."""
+    return [(TRACK_ENTRY, 0x1000 + t) for t in range(first, first + count)]
+
+
+def group_entries(*groups):
+    """"group g 0x2000 + g" """
+    return [(GROUP_ENTRY, 0x2000 + g) for g in groups]
+
+
+def group_octets(entries):
+    """001, 4.4: an octet for the type, and six, little endian, for the object number."""
+    return b''.join(bytes([kind]) + number.to_bytes(6, 'little') for kind, number in entries)
+
+
+def group_words(entries):
+    """Three words for each entry: its type, the low 32 bits of its number and the high 16."""
+    return flat([(kind, number & WORD, number >> 32) for kind, number in entries])
+
+
+def segment_octets(entries):
+    """001, 4.2: an octet for the length of the name, the name, and four, little endian, for the position."""
+    return b''.join(bytes([len(name)]) + name + struct.pack('<I', position) for name, position in entries)
+
+
+def segment_words(entries):
+    """A word for each entry: its position."""
+    return [position for _, position in entries]
+
+
+def written_object(kind, name, answer, which, room, records, octets=b''):
+    """The object of a group or of a track that is written into so many octets. Those behind it stay; a refusal "alters nothing" (document 01)."""
+    left = octets + b'\xA5' * (room - len(octets))
+    case = lent_tables(Tables(*records)) + words((which, room))
+    add(kind, name, case, '%s %d' % (answer, check_number(left)))
+
+
+def read_object(kind, name, answer, octets, room, filled=()):
+    """An object that is read into so many words."""
+    case = struct.pack('<I', len(octets)) + octets + words((room,))
+    add(kind, name, case, '%s %d' % (answer, check_number(after(filled, lent_words(room)))))
+
+
+def stated_object(kinds, name, which, entries, records, octets_of, words_of):
+    """An object with these entries: written into as many octets as it has, into more and into one too few; and read back, "as sections 4.4 and 4.2 of
+    001 lay them out and read back", into as many words as its entries fill, into more and into one too few."""
+    writes, reads = kinds
+    octets, filled = octets_of(entries), words_of(entries)
+    written_object(writes, name, str(len(octets)), which, len(octets), records, octets)
+    written_object(writes, name + '-octets-behind', str(len(octets)), which, len(octets) + 9, records, octets)
+    read_object(reads, name + '-back', str(len(entries)), octets, len(filled), filled)
+    read_object(reads, name + '-back-words-behind', str(len(entries)), octets, len(filled) + 4, filled)
+    if entries:
+        # "223 for too little room"
+        written_object(writes, name + '-one-short', '223', which, len(octets) - 1, records)
+        read_object(reads, name + '-back-one-short', '223', octets, len(filled) - 1)
+
+
+def group_object(name, group, entries, records=SAMPLE_RECORDS):
+    stated_object((GROUP_OBJECT, GROUP_READ), name, group, entries, records, group_octets, group_words)
+
+
+def segments_object(name, track, starts, records=SAMPLE_RECORDS):
+    """"a track's segments in order, names of length 0" """
+    stated_object((SEGMENTS_OBJECT, SEGMENTS_READ), name, track, [(b'', start) for start in starts], records, segment_octets, segment_words)
+
+
+# "a group's child groups by number (group 0 is not its own child), then its tracks by number". Groups 0 and 2 of the sample have no tracks, and group 2
+# is listed all the same.
+group_object('group-0', 0, group_entries(1, 2, 3))
+group_object('group-1', 1, track_entries(0, 3))
+group_object('group-2-empty', 2, [])
+group_object('group-3', 3, track_entries(3, 1))
+# Group 0 with a track; groups 2 and 3 in group 1, so that they are no children of group 0.
+IN_FOLDERS = ([(0, 0, 1), (0, 1, 2), (1, 3, 0), (1, 3, 1)], SAMPLE_TRACKS, SAMPLE_SEGMENTS, SAMPLE_TEXT)
+group_object('group-0-in-folders', 0, group_entries(1) + track_entries(0, 1), IN_FOLDERS)
+group_object('group-1-in-folders', 1, group_entries(2, 3) + track_entries(1, 2), IN_FOLDERS)
+group_object('group-2-in-folders', 2, [], IN_FOLDERS)
+group_object('group-3-in-folders', 3, track_entries(3, 1), IN_FOLDERS)
+# One group, with tracks and without.
+group_object('group-alone', 0, track_entries(0, 4), ([(0, 0, 4)], SAMPLE_TRACKS, SAMPLE_SEGMENTS, SAMPLE_TEXT))
+group_object('group-alone-empty', 0, [], (bare_groups(1), [], [], b''))
+# Each group in the one before it.
+CHAIN = ([(max(i - 1, 0), 0, 0) for i in range(64)], [], [], b'')
+for group in (0, 1, 30, 62):
+    group_object('group-%d-of-a-chain' % group, group, group_entries(group + 1), CHAIN)
+group_object('group-63-of-a-chain', 63, [], CHAIN)
+# 64 groups of four tracks each; group i is in group i // 2. Group 1 is the only child of group 0, which is in itself.
+FULL_OF_TRACKS = (FULL_GROUPS, [PLAIN] * 256, [], b'')
+group_object('group-0-of-full', 0, group_entries(1) + track_entries(0, 4), FULL_OF_TRACKS)
+group_object('group-31-of-full', 31, group_entries(62, 63) + track_entries(124, 4), FULL_OF_TRACKS)
+group_object('group-63-of-full', 63, track_entries(252, 4), FULL_OF_TRACKS)
+# The longest object: 63 groups and 256 tracks are 319 entries, 2,233 octets.
+LONGEST_GROUP = ([(0, 0, 256)] + [(0, 256, 0)] * 63, [PLAIN] * 256, [], b'')
+assert len(group_octets(group_entries(*range(1, 64)) + track_entries(0, 256))) == 2233
+group_object('group-of-63-groups-and-256-tracks', 0, group_entries(*range(1, 64)) + track_entries(0, 256), LONGEST_GROUP)
+group_object('group-in-the-longest', 63, [], LONGEST_GROUP)
+# All tracks in the last of 64 groups.
+LAST_HAS_ALL = (bare_groups(63) + [(0, 0, 256)], [PLAIN] * 256, [], b'')
+group_object('group-of-63-groups', 0, group_entries(*range(1, 64)), LAST_HAS_ALL)
+group_object('group-63-of-256-tracks', 63, track_entries(0, 256), LAST_HAS_ALL)
+# A track that is still running, and wrong text that is in no title, are like any other.
+group_object('group-of-a-running-recording', 3, track_entries(3, 1), (SAMPLE_GROUPS, put(SAMPLE_TRACKS, 3, (WORD, 5, 3, 0, 18, 4)), SAMPLE_SEGMENTS,
+                                                                     SAMPLE_TEXT + b'\xFF'))
+
+segments_object('segments-0', 0, [0, 1500, 4000])
+# Tracks 1 and 3 have two segments each, tracks 0 and 2 none.
+SEGMENTS_OF_TWO = (SAMPLE_GROUPS, TWO_AND_TWO, [0, 299, 0, 899], SAMPLE_TEXT)
+segments_object('segments-1-of-two', 1, [0, 299], SEGMENTS_OF_TWO)
+segments_object('segments-3-of-two', 3, [0, 899], SEGMENTS_OF_TWO)
+segments_object('segments-one', 0, [0], segments_of_one(1))
+# Track i of the full catalogue has starts 0, 1, 2 + i and 300 + i.
+FULL_OF_SEGMENTS = (FULL_GROUPS, [track[:4] + (0, 0) for track in FULL_TRACKS], FULL_SEGMENTS, b'')
+segments_object('segments-255-of-full', 255, [0, 1, 257, 555], FULL_OF_SEGMENTS)
+# The longest object: 1,024 segments, 5,120 octets.
+segments_object('segments-1024', 0, list(range(1024)), segments_of_one(1024))
+segments_object('segments-of-a-running-recording', 0, [0, 1500, 8639999],
+                (SAMPLE_GROUPS, put(SAMPLE_TRACKS, 0, (WORD, 30, 0, 3, 0, 8)), [0, 1500, 8639999], SAMPLE_TEXT))
+
+# "Asking for the object of a group or track that is absent, or of a track without segments, gives 0x13."
+for group in (4, 5, 63, 64, 256, 0x2001, 0x7FFFFFFF, 0x80000000, WORD):
+    written_object(GROUP_OBJECT, 'group-absent-%d' % group, '19', group, 64, SAMPLE_RECORDS)
+written_object(GROUP_OBJECT, 'group-absent-in-full', '19', 64, 64, FULL_OF_TRACKS)
+written_object(GROUP_OBJECT, 'group-absent-in-nothing', '19', 0, 64, ([], [], [], b''))
+for track in (4, 5, 255, 256, 0x1000, 0x3000, 0x7FFFFFFF, 0x80000000, WORD):
+    written_object(SEGMENTS_OBJECT, 'segments-track-absent-%d' % track, '19', track, 64, SAMPLE_RECORDS)
+written_object(SEGMENTS_OBJECT, 'segments-track-absent-in-full', '19', 256, 64, FULL_OF_SEGMENTS)
+written_object(SEGMENTS_OBJECT, 'segments-track-absent-in-nothing', '19', 0, 64, ([], [], [], b''))
+written_object(SEGMENTS_OBJECT, 'segments-track-absent-in-groups', '19', 0, 64, (bare_groups(64), [], [], b''))
+for track in (1, 2, 3):
+    written_object(SEGMENTS_OBJECT, 'segments-none-%d' % track, '19', track, 64, SAMPLE_RECORDS)
+for track in (0, 2):
+    written_object(SEGMENTS_OBJECT, 'segments-none-%d-of-two' % track, '19', track, 64, SEGMENTS_OF_TWO)
+
+# Every room below the 21 octets of the three tracks, and the 15 of the three segments.
+for room in range(20):
+    written_object(GROUP_OBJECT, 'group-1-room-%d' % room, '223', 1, room, SAMPLE_RECORDS)
+for room in range(14):
+    written_object(SEGMENTS_OBJECT, 'segments-0-room-%d' % room, '223', 0, room, SAMPLE_RECORDS)
+# 0x13 before 223.
+written_object(GROUP_OBJECT, 'group-absent-no-room', '19', 4, 0, SAMPLE_RECORDS)
+written_object(SEGMENTS_OBJECT, 'segments-absent-no-room', '19', 4, 0, SAMPLE_RECORDS)
+written_object(SEGMENTS_OBJECT, 'segments-none-no-room', '19', 1, 0, SAMPLE_RECORDS)
+# 200 before both, and W-207: "a bad title carries the lowest such track and the offset; every other 200 carries neither and comes before".
+BAD_TITLE = (SAMPLE_GROUPS, SAMPLE_TRACKS, SAMPLE_SEGMENTS, BAD_TEXT)
+BAD_STARTS = (SAMPLE_GROUPS, SAMPLE_TRACKS, [0, 1500, 1500], SAMPLE_TEXT)
+CUT_GROUPS = (SAMPLE_GROUPS + [(0,)], SAMPLE_TRACKS, SAMPLE_SEGMENTS, SAMPLE_TEXT)
+for name, answer, records in (('bad-title', '200 1 5', BAD_TITLE), ('bad-starts', '200', BAD_STARTS), ('cut-groups', '200', CUT_GROUPS),
+                              ('bad-title-and-starts', '200', (SAMPLE_GROUPS, SAMPLE_TRACKS, [0, 1500, 1500], BAD_TEXT))):
+    for which in (0, 1, 3, 4, WORD):
+        for room in (0, 64):
+            written_object(GROUP_OBJECT, 'group-%d-%s-room-%d' % (which, name, room), answer, which, room, records)
+            written_object(SEGMENTS_OBJECT, 'segments-%d-%s-room-%d' % (which, name, room), answer, which, room, records)
+
+
+def read_group(name, answer, octets, room, entries=()):
+    read_object(GROUP_READ, name, answer, octets, room, group_words(entries))
+
+
+def read_segments(name, answer, octets, room, entries=()):
+    read_object(SEGMENTS_READ, name, answer, octets, room, segment_words(entries))
+
+
+def reads_group(name, *entries):
+    """Entries that are read, into the words that they fill."""
+    read_group(name, str(len(entries)), group_octets(entries), 3 * len(entries), entries)
+
+
+def reads_segments(name, *entries):
+    read_segments(name, str(len(entries)), segment_octets(entries), len(entries), entries)
+
+
+# An object of no octets has no entries, and no room is enough for it.
+read_group('read-group-nothing', '0', b'', 0)
+read_group('read-group-nothing-with-room', '0', b'', 6)
+read_segments('read-segments-nothing', '0', b'', 0)
+read_segments('read-segments-nothing-with-room', '0', b'', 6)
+
+# Any number of 48 bits, in any order and more than once: what there is of it in a catalogue is not asked.
+reads_group('read-group-any-numbers', (TRACK_ENTRY, 0), (GROUP_ENTRY, 0xFFFFFFFFFFFF), (TRACK_ENTRY, 0x123456789ABC), (GROUP_ENTRY, 1),
+            (TRACK_ENTRY, 0xFFFFFFFF), (GROUP_ENTRY, 0x100000000), (TRACK_ENTRY, 0x800000000000), (GROUP_ENTRY, 0x80000000))
+reads_group('read-group-tracks-before-groups', (TRACK_ENTRY, 0x1005), (GROUP_ENTRY, 0x2002), (TRACK_ENTRY, 0x1001), (GROUP_ENTRY, 0x2002))
+reads_group('read-group-types-for-others', (TRACK_ENTRY, 0x2001), (GROUP_ENTRY, 0x1001), (GROUP_ENTRY, 0x3001))
+# Each octet of a number stands for itself: 1 to 6, the lowest first.
+read_group('read-group-octets-in-order', '1', b'\x01\x01\x02\x03\x04\x05\x06', 3, [(GROUP_ENTRY, 0x060504030201)])
+# More entries than a catalogue's group can have.
+read_group('read-group-400', '400', group_octets(track_entries(0, 400)), 1200, track_entries(0, 400))
+read_group('read-group-400-one-short', '223', group_octets(track_entries(0, 400)), 1199)
+for room in range(9):
+    read_group('read-group-three-room-%d' % room, '223', group_octets(track_entries(0, 3)), room)
+for room in range(9, 13):
+    read_group('read-group-three-room-%d' % room, '3', group_octets(track_entries(0, 3)), room, track_entries(0, 3))
+
+# "222 for octets that are not whole entries of 4.4 or 4.2": every cut of three entries of seven octets, with room for all and without any.
+CUT_GROUP = group_octets(group_entries(1) + track_entries(0, 2))
+for length in range(1, 21):
+    whole = length // 7
+    if length % 7:
+        read_group('read-group-cut-%d' % length, '222', CUT_GROUP[:length], 9)
+        # 222 before 223.
+        read_group('read-group-cut-%d-no-room' % length, '222', CUT_GROUP[:length], 0)
+        read_group('read-group-cut-%d-room-for-whole' % length, '222', CUT_GROUP[:length], 3 * whole)
+    else:
+        read_group('read-group-cut-%d' % length, str(whole), CUT_GROUP[:length], 9, (group_entries(1) + track_entries(0, 2))[:whole])
+for more in (1, 2, 3, 4, 5, 6):
+    read_group('read-group-%d-octets-more' % more, '222', CUT_GROUP + bytes(more), 12)
+# 001, Table 4.3: types 2 to 255 are reserved.
+for kind in (2, 3, 16, 127, 128, 254, 255):
+    for place in (0, 1, 2):
+        entries = put(track_entries(0, 3), place, (kind, 0x2001))
+        read_group('read-group-type-%d-at-%d' % (kind, place), '222', group_octets(entries), 9)
+    # 222 "over all octets": also behind the entries that there is room for.
+    read_group('read-group-type-%d-behind-room' % kind, '222', group_octets(put(track_entries(0, 3), 2, (kind, 0x1002))), 3)
+    read_group('read-group-type-%d-no-room' % kind, '222', group_octets([(kind, 0x1000)]), 0)
+read_group('read-group-400-bad-last', '222', group_octets(track_entries(0, 399) + [(2, 0x1000)]), 1200)
+read_group('read-group-400-cut', '222', group_octets(track_entries(0, 400))[:2799], 1200)
+# A number is not a type: octets above 1 in it are like any other, and types 0 and 1 in it too.
+reads_group('read-group-numbers-like-types', (GROUP_ENTRY, 0x020202020202), (TRACK_ENTRY, 0x010101010101), (GROUP_ENTRY, 0))
+
+# Names are passed over; their length is any, and nothing is asked of the positions but that they are not negative.
+reads_segments('read-segments-names', (b'a', 0), (b'', 100), ('Überfahrt'.encode(), 200), (GOOD, 300), (b'\0', 400))
+reads_segments('read-segments-name-255', (b'n' * 255, 7))
+reads_segments('read-segments-names-255', (b'n' * 255, 7), (b'\xC3\xA9' * 127 + b'n', 8), (b'\xF0\x9D\x84\x9E' * 63 + b'\xE2\x82\xAC', 9), (b'', 10))
+reads_segments('read-segments-names-127-to-130', (b'n' * 127, 1), (b'n' * 128, 2), (b'n' * 129, 3), (b'n' * 130, 4))
+reads_segments('read-segments-name-like-entries', (b'\0\0\0\0\0\0\0\0\0\0', 5), (b'\x05abcd', 6))
+reads_segments('read-segments-falling', (b'', 4000), (b'', 1500), (b'', 1500), (b'', 0))
+reads_segments('read-segments-positions', (b'', 1), (b'', 255), (b'', 256), (b'', 65536), (b'', 0x01020304), (b'', 8640000), (b'', 8640001),
+               (b'', 0x7FFFFFFF))
+# More entries than a catalogue's track can have.
+reads_segments('read-segments-1100', *[(b'', 3 * i) for i in range(1100)])
+read_segments('read-segments-1100-one-short', '223', segment_octets([(b'', 3 * i) for i in range(1100)]), 1099)
+
+# 001, 4.2.3: "The value of the Segment Position field shall be 0 or greater."
+for position in (0x80000000, 0x80000001, 0xFFFFFF00, WORD - 1, WORD):
+    for place in (0, 1, 2):
+        entries = put([(b'ab', 0), (b'', 1500), (b'c', 4000)], place, (b'n', position))
+        read_segments('read-segments-position-%d-at-%d' % (position, place), '222', segment_octets(entries), 3)
+    read_segments('read-segments-position-%d-no-room' % position, '222', segment_octets([(b'', position)]), 0)
+    read_segments('read-segments-position-%d-behind-room' % position, '222', segment_octets([(b'', 0), (b'', position)]), 1)
+
+# Names that are not UTF-8 (001, 4.2.2; RFC 3629), in any entry.
+for name in (b'\x80', b'\xFF', b'\xC3', b'a\xC3', b'\xC0\x80', b'\xE0\x9F\xBF', b'\xED\xA0\x80', b'\xF4\x90\x80\x80', b'\xE2\x82', b'\xF0\x9D\x84',
+             b'\xC3A', b'n' * 254 + b'\xFF', b'\xFF' + b'n' * 254, b'n' * 253 + b'\xE2\x82'):
+    label = name.hex() if len(name) < 5 else '255-%02x-%02x' % (name[0], name[-1])
+    for place in (0, 1, 2):
+        entries = put([(b'ab', 0), (b'', 1500), (b'c', 4000)], place, (name, 100))
+        read_segments('read-segments-name-%s-at-%d' % (label, place), '222', segment_octets(entries), 3)
+    read_segments('read-segments-name-%s-no-room' % label, '222', segment_octets([(name, 0)]), 0)
+    read_segments('read-segments-name-%s-behind-room' % label, '222', segment_octets([(b'', 0), (name, 1)]), 1)
+# The position, or the name behind it, would complete the last character of the name: it ends with its length.
+read_segments('read-segments-name-completed-by-position', '222', b'\x01\xC3\xA9\0\0\0', 1)
+read_segments('read-segments-name-cut-in-three', '222', b'\x02\xE2\x82\xAC\0\0\0', 1)
+read_segments('read-segments-names-share-character', '222', segment_octets([(b'\xC3', 0), (b'\xA9', 1)]), 2)
+# A position is no text.
+reads_segments('read-segments-position-not-utf-8', (b'a', 0x7FFFC3FF))
+
+# Every cut of three entries of 7, 5 and 8 octets: 7, 12 and 20 octets are whole.
+CUT_SEGMENTS = [(b'ab', 0), (b'', 1500), (b'\xE2\x82\xAC', 4000)]
+for length in range(1, 20):
+    octets = segment_octets(CUT_SEGMENTS)[:length]
+    if length in (7, 12):
+        whole = CUT_SEGMENTS[:1 if length == 7 else 2]
+        read_segments('read-segments-cut-%d' % length, str(len(whole)), octets, 3, whole)
+    else:
+        read_segments('read-segments-cut-%d' % length, '222', octets, 3)
+        read_segments('read-segments-cut-%d-no-room' % length, '222', octets, 0)
+for room in range(3):
+    read_segments('read-segments-three-room-%d' % room, '223', segment_octets(CUT_SEGMENTS), room)
+for room in (3, 4, 7):
+    read_segments('read-segments-three-room-%d' % room, '3', segment_octets(CUT_SEGMENTS), room, CUT_SEGMENTS)
+for more in (1, 2, 3, 4):
+    read_segments('read-segments-%d-octets-more' % more, '222', segment_octets(CUT_SEGMENTS) + bytes(more), 4)
+# A length of 255 before 254 octets and a position, before 255 octets and no position, and before one octet of it too few.
+read_segments('read-segments-name-one-short', '222', b'\xFF' + b'n' * 254 + b'\0\0\0\0', 1)
+read_segments('read-segments-name-255-no-position', '222', b'\xFF' + b'n' * 255, 1)
+read_segments('read-segments-name-255-position-cut', '222', b'\xFF' + b'n' * 255 + b'\0\0\0', 1)
+read_segments('read-segments-length-alone', '222', b'\xFF', 1)
+read_segments('read-segments-length-0-alone', '222', b'\0', 1)
+# The one object is not the other: three tracks read as segments, and three segments as a group.
+read_segments('read-segments-of-a-group', '222', group_octets(track_entries(0, 3)), 9)
+read_group('read-group-of-segments', '222', segment_octets([(b'', 0), (b'', 1500), (b'', 4000)]), 9)
+
+
 # ---- Files
 
 def files():
@@ -1654,7 +1945,9 @@ def files():
 
 def main(arguments):
     differing = write_or_compare(__doc__, arguments, files())
-    for kind, kind_name in ((CARD, 'cards'), (CATALOGUE, 'catalogues'), (TEXT, 'texts'), (SHEET, 'sheets'), (WRITE, 'written cards')):
+    for kind, kind_name in ((CARD, 'cards'), (CATALOGUE, 'catalogues'), (TEXT, 'texts'), (SHEET, 'sheets'), (WRITE, 'written cards'),
+                            (GROUP_OBJECT, 'written groups'), (SEGMENTS_OBJECT, 'written segments'), (GROUP_READ, 'read groups'),
+                            (SEGMENTS_READ, 'read segments')):
         print('%s: %d' % (kind_name, sum(1 for vector in VECTORS if vector[0] == kind)))
     if differing:
         sys.exit(1)

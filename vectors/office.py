@@ -9,18 +9,18 @@ A comment in quotation marks is a sentence of document 01, or of the request of 
 from calls import (
     ALL, BAD_AND_WRONG, BAD_TITLES, CODE, CONNECTED, CUT, ENCRYPTED, ENCRYPTION, FIRST_GROUP, FIRST_SEGMENT, FIRST_TRACK, FORWARD, FRESH, GOTO_GROUP,
     GOTO_SEGMENT, GOTO_TRACK, GROUP, HEADSET, LAST_GROUP, LAST_SEGMENT, LAST_TRACK, LEFT, LONG, LONGEST, MARK, MEDIA, MTU, NAME_FIRST, NAME_LENGTH,
-    NEXT_GROUP, NEXT_SEGMENT, NEXT_TRACK, OPEN, OWED, OWN_PARENT, PAUSE, PLACE, PLAY, PLAYING_ORDER, PREVIOUS_GROUP, PREVIOUS_SEGMENT, PREVIOUS_TRACK,
-    RELATIVE, REWIND, RIGHT, RUNNING, SAMPLE, SCREEN, SEEKING_SPEED, SERVICES, STOP, SUBSCRIBED, TRACK, TURN, WAITING,
-    activate, advance, case, connect, control, damage, deactivate, disconnect, octets, read, seen, set_name, start, subscribe, take, unsubscribe, word,
-    write,
+    NEXT, NEXT_GROUP, NEXT_SEGMENT, NEXT_TRACK, OPEN, OWED, OWN_PARENT, PAUSE, PLACE, PLAY, PLAYING_ORDER, PREVIOUS_GROUP, PREVIOUS_SEGMENT,
+    PREVIOUS_TRACK, RELATIVE, REWIND, RIGHT, RUNNING, SAMPLE, SCREEN, SEEKING_SPEED, SERVICES, STOP, SUBSCRIBED, TRACK, TURN, WAITING,
+    activate, advance, case, connect, control, damage, deactivate, disconnect, group_object, octets, read, seen, set_name, start, subscribe, take,
+    track_object, unsubscribe, word, write,
 )
 
-# "The ten slots 1, 4, 5, 6, 7, 8, 9, 15, 17, 18 may be subscribed to."
-SLOTS = (1, 4, 5, 6, 7, 8, 9, 15, 17, 18)
+# "1, 4, 5, 6, 7, 8, 9, 15, 17, 18 may be subscribed to", and 11 to 14: "Slots 11 to 14 are owed on change" (W-209). Fourteen of each service.
+SLOTS = (1, 4, 5, 6, 7, 8, 9, 11, 12, 13, 14, 15, 17, 18)
 # "1 name, 4 Track Changed, 5 title, 6 duration, 7 position, 8 playback speed, 9 seeking speed, 15 playing order, 16 orders supported, 17 state,
-# 18 control point, 19 opcodes supported, 22 Content Control ID."
-THIRTEEN = (1, 4, 5, 6, 7, 8, 9, 15, 16, 17, 18, 19, 22)
-OTHERS = (0, 2, 3, 10, 11, 12, 13, 14, 20, 21, 23, 24, 33, 36, 39, 50, 128, 255)
+# 18 control point, 19 opcodes supported, 22 Content Control ID." W-209: "Screens that draw folders need 10 to 14 of source 001."
+EIGHTEEN = (1, 4, 5, 6, 7, 8, 9, 10, 11, 12, 13, 14, 15, 16, 17, 18, 19, 22)
+OTHERS = (0, 2, 3, 20, 21, 23, 24, 33, 36, 39, 50, 128, 255)
 
 UEBERFAHRT, RAST, ZIEL = 'Überfahrt'.encode(), b'Rast', b'Ziel'
 # The title of tracks 0 and 1 of the catalogue with long titles, 64 octets; that of track 3 is it twice.
@@ -46,7 +46,7 @@ def office(left=None, right=None, headset=None, screen=None, catalogue=SAMPLE):
     come(left, right, headset, screen)
 
 
-EVERY = '1 4 5 6 7 8 9 15 17 18'
+EVERY = '1 4 5 6 7 8 9 11 12 13 14 15 17 18'
 
 
 # ---- The day
@@ -74,7 +74,7 @@ subscribe(HEADSET, 5, 'done')
 subscribe(HEADSET, 7, 'done')
 for characteristic in SLOTS:
     subscribe(SCREEN, characteristic, 'done')
-seen('23: 17 18;; 0', '23: 8 15 18;; 0', '64: 4 5 7;; 0', '517: 1 4 5 6 7 8 9 15 17 18;; 0')
+seen('23: 17 18;; 0', '23: 8 15 18;; 0', '64: 4 5 7;; 0', '517: 1 4 5 6 7 8 9 11 12 13 14 15 17 18;; 0')
 take('nothing')
 
 # "title is then empty, duration and position read −1"; "Orders supported reads 0x00FF."
@@ -85,6 +85,12 @@ read(SCREEN, 6, 0, 'read ff ff ff ff')
 read(SCREEN, 7, 0, 'read ff ff ff ff')
 read(SCREEN, 8, 0, 'read 00')
 read(SCREEN, 9, 0, 'read 00')
+# "six octets, or none while Inactive" (W-209)
+read(SCREEN, 10, 0, 'read')
+read(SCREEN, 11, 0, 'read')
+read(SCREEN, 12, 0, 'read')
+read(SCREEN, 13, 0, 'read')
+read(SCREEN, 14, 0, 'read')
 read(SCREEN, 15, 0, 'read 03')
 read(SCREEN, 16, 0, 'read ff 00')
 read(SCREEN, 17, 0, 'read 00')
@@ -106,10 +112,11 @@ take('screen 15 03')
 write(RIGHT, 7, word(1500), 'done', 'Inactive 3 0 0 | 0 0 0')
 take('nothing')
 
-# "Activate: the group's first track in the order, position 0, Paused"; "4 and 7 whenever the track number changes, to or from none too"
+# "Activate: the group's first track in the order, position 0, Paused"; "4 and 7 whenever the track number changes, to or from none too"; W-209: "Slots
+# 11 to 14 are owed on change".
 case('an interview is put on')
-activate(1, 'done', 'Paused 3 0 0 | 1 0 0', 'left 17; headset 4 5 7; screen 4 5 6 7 17')
-seen('23: 17 18; 17; 0', '23: 8 15 18;; 0', '64: 4 5 7; 4 5 7; 0', '517: 1 4 5 6 7 8 9 15 17 18; 4 5 6 7 17; 0')
+activate(1, 'done', 'Paused 3 0 0 | 1 0 0', 'left 17; headset 4 5 7; screen 4 5 6 7 11 12 13 14 17')
+seen('23: 17 18; 17; 0', '23: 8 15 18;; 0', '64: 4 5 7; 4 5 7; 0', '517: 1 4 5 6 7 8 9 11 12 13 14 15 17 18; 4 5 6 7 11 12 13 14 17; 0')
 # The screen was last served, and 15 of its slots: the round of clients goes on at 0, that of its slots at 17.
 take('left 17 02')
 take('headset 4')
@@ -120,12 +127,17 @@ take('headset 7 00 00 00 00')
 take('screen 5 c3 9c 62 65 72 66 61 68 72 74')
 take('screen 6 70 17 00 00')
 take('screen 7 00 00 00 00')
+# Track 0, and track 1 behind it; group 0, which is the parent of group 1.
+take('screen 11 00 10 00 00 00 00')
+take('screen 12 01 10 00 00 00 00')
+take('screen 13 00 20 00 00 00 00')
+take('screen 14 01 20 00 00 00 00')
 take('nothing')
 read(SCREEN, 5, 0, 'read c3 9c 62 65 72 66 61 68 72 74')
 
 case('the left pedal plays')
 control(LEFT, PLAY, 'Playing 3 0 0 | 1 0 0', 'left 17 18; screen 17')
-# The left pedal was last served 17, the screen 7.
+# The left pedal was last served 17, the screen 14.
 take('left 18 01 01')
 take('screen 17 01')
 take('left 17 01')
@@ -162,7 +174,7 @@ control(LEFT, PLAY, 'Playing 3 0 0 | 1 0 1500', 'left 17 18; screen 17')
 control(RIGHT, PREVIOUS_SEGMENT, 'Playing 3 0 0 | 1 0 0', 'right 18; headset 7; screen 7')
 control(LEFT, GOTO_SEGMENT, 'Playing 3 0 0 | 1 0 4000', 'left 18; headset 7; screen 7', 3)
 control(RIGHT, RELATIVE, 'Playing 3 0 0 | 1 0 3900', 'right 18; headset 7; screen 7', -100)
-seen('23: 17 18; 17 18; 2', '23: 8 15 18; 18; 2', '64: 4 5 7; 7; 0', '517: 1 4 5 6 7 8 9 15 17 18; 7 17; 0')
+seen('23: 17 18; 17 18; 2', '23: 8 15 18; 18; 2', '64: 4 5 7; 7; 0', '517: 1 4 5 6 7 8 9 11 12 13 14 15 17 18; 7 17; 0')
 take('right 18 20 01')
 # "The octets handed out are the present value": 3900, and once for the three changes.
 take('headset 7 3c 0f 00 00')
@@ -176,7 +188,7 @@ take('nothing')
 
 # "at D or beyond, the next track at 0, or, where none, Paused at D"
 case('the tracks of the group run out')
-advance(2100, 'done', 'Playing 3 0 0 | 1 1 0', 'headset 4 5 7; screen 4 5 6 7')
+advance(2100, 'done', 'Playing 3 0 0 | 1 1 0', 'headset 4 5 7; screen 4 5 6 7 11 12')
 take('headset 4')
 take('screen 4')
 take('headset 5 52 61 73 74')
@@ -184,10 +196,13 @@ take('screen 5 52 61 73 74')
 take('headset 7 00 00 00 00')
 take('screen 6 2c 01 00 00')
 take('screen 7 00 00 00 00')
+take('screen 11' + octets(track_object(1)))
+take('screen 12' + octets(track_object(2)))
 take('nothing')
 advance(299, 'done', 'Playing 3 0 0 | 1 1 299')
 take('nothing')
-advance(1, 'done', 'Playing 3 0 0 | 1 2 0', 'headset 4 5 7; screen 4 5 6 7')
+# No track is behind track 2.
+advance(1, 'done', 'Playing 3 0 0 | 1 2 0', 'headset 4 5 7; screen 4 5 6 7 11 12')
 # Track 2 has duration 0: nothing more is added, it ends, and it is the last.
 advance(0, 'done', 'Paused 3 0 0 | 1 2 0', 'left 17; screen 17')
 take('left 17 02')
@@ -199,14 +214,17 @@ take('headset 7 00 00 00 00')
 take('screen 5')
 take('screen 6 00 00 00 00')
 take('screen 7 00 00 00 00')
+take('screen 11' + octets(track_object(2)))
+take('screen 12')
 take('nothing')
 
 # "past an end, the other end in a repeat order, else result 4"
 case('the right pedal goes round')
 control(RIGHT, NEXT_TRACK, 'Paused 3 0 0 | 1 2 0', 'right 18')
 take('right 18 31 04')
-write(RIGHT, 15, [4], 'done', 'Paused 4 0 0 | 1 2 0', 'screen 15')
-control(RIGHT, NEXT_TRACK, 'Paused 4 0 0 | 1 0 0', 'right 18; headset 4 5 7; screen 4 5 6 7')
+# By the order alone track 0 is behind track 2 now.
+write(RIGHT, 15, [4], 'done', 'Paused 4 0 0 | 1 2 0', 'screen 12 15')
+control(RIGHT, NEXT_TRACK, 'Paused 4 0 0 | 1 0 0', 'right 18; headset 4 5 7; screen 4 5 6 7 11 12')
 take('headset 4')
 take('screen 15 04')
 take('right 18 31 01')
@@ -216,6 +234,8 @@ take('headset 7 00 00 00 00')
 take('screen 5' + octets(UEBERFAHRT))
 take('screen 6 70 17 00 00')
 take('screen 7 00 00 00 00')
+take('screen 11' + octets(track_object(0)))
+take('screen 12' + octets(track_object(1)))
 take('nothing')
 
 # "Fast Forward enters Seeking at 4, Rewind at −4; while Seeking one rung up or down"; "Seeking adds d times the seeking speed"
@@ -225,14 +245,15 @@ control(LEFT, FORWARD, 'Seeking 4 0 8 | 1 0 0', 'left 18; screen 9')
 advance(100, 'done', 'Seeking 4 0 8 | 1 0 800', 'headset 7; screen 7')
 control(LEFT, REWIND, 'Seeking 4 0 4 | 1 0 800', 'left 18; screen 9')
 control(LEFT, PLAY, 'Playing 4 0 0 | 1 0 800', 'left 17 18; screen 9 17')
-seen('23: 17 18; 17 18; 4', '23: 8 15 18;; 0', '64: 4 5 7; 7; 0', '517: 1 4 5 6 7 8 9 15 17 18; 7 9 17; 0')
+seen('23: 17 18; 17 18; 4', '23: 8 15 18;; 0', '64: 4 5 7; 7; 0', '517: 1 4 5 6 7 8 9 11 12 13 14 15 17 18; 7 9 17; 0')
 take('left 18 04 01')
 take('headset 7 20 03 00 00')
-take('screen 9 00')
-take('left 17 01')
+# The screen was last served 12.
 take('screen 17 01')
-take('left 18 04 01')
+take('left 17 01')
 take('screen 7 20 03 00 00')
+take('left 18 04 01')
+take('screen 9 00')
 take('left 18 03 01')
 take('left 18 01 01')
 take('nothing')
@@ -265,10 +286,11 @@ read(LEFT, 1, 8, 'read 41 79 64 69 6e')
 case('the headset leaves for lunch')
 control(LEFT, PAUSE, 'Paused 4 -64 0 | 1 0 4500', 'left 17 18; screen 17')
 advance(1000, 'done', 'Paused 4 -64 0 | 1 0 4500')
-control(RIGHT, NEXT_GROUP, 'Paused 4 -64 0 | 3 3 0', 'right 18; headset 4 5 7; screen 4 5 6 7')
-seen('23: 17 18; 17 18; 1', '23: 8 15 18; 18; 1', '64: 4 5 7; 4 5 7; 0', '517: 1 4 5 6 7 8 9 15 17 18; 4 5 6 7 17; 0')
+# Track 3 is alone in group 3, and follows itself in order 4. The parent of group 3 is that of group 1.
+control(RIGHT, NEXT_GROUP, 'Paused 4 -64 0 | 3 3 0', 'right 18; headset 4 5 7; screen 4 5 6 7 11 12 14')
+seen('23: 17 18; 17 18; 1', '23: 8 15 18; 18; 1', '64: 4 5 7; 4 5 7; 0', '517: 1 4 5 6 7 8 9 11 12 13 14 15 17 18; 4 5 6 7 11 12 14 17; 0')
 disconnect(HEADSET, 'done')
-seen('23: 17 18; 17 18; 1', '23: 8 15 18; 18; 1', '-', '517: 1 4 5 6 7 8 9 15 17 18; 4 5 6 7 17; 0')
+seen('23: 17 18; 17 18; 1', '23: 8 15 18; 18; 1', '-', '517: 1 4 5 6 7 8 9 11 12 13 14 15 17 18; 4 5 6 7 11 12 14 17; 0')
 take('left 17 02')
 take('right 18 41 01')
 take('screen 4')
@@ -276,6 +298,9 @@ take('left 18 02 01')
 take('screen 5 5a 69 65 6c')
 take('screen 6 84 03 00 00')
 take('screen 7 00 00 00 00')
+take('screen 11' + octets(track_object(3)))
+take('screen 12' + octets(track_object(3)))
+take('screen 14' + octets(group_object(3)))
 take('screen 17 02')
 take('nothing')
 read(HEADSET, 5, 0, 'refused 203')
@@ -288,7 +313,7 @@ write(HEADSET, 18, [PLAY], 'refused 0x0F')
 subscribe(HEADSET, 17, 'refused 0x0F')
 unsubscribe(HEADSET, 17, 'refused 0x0F')
 set_name(b'Desk 4, Weber', 'done', 'screen 1')
-seen('23: 17 18;; 0', '23: 8 15 18;; 0', '185:;; 0', '517: 1 4 5 6 7 8 9 15 17 18; 1; 0')
+seen('23: 17 18;; 0', '23: 8 15 18;; 0', '185:;; 0', '517: 1 4 5 6 7 8 9 11 12 13 14 15 17 18; 1; 0')
 take('screen 1' + octets(b'Desk 4, Weber'))
 take('nothing')
 disconnect(HEADSET, 'done')
@@ -297,7 +322,7 @@ disconnect(HEADSET, 'done')
 case('the headset comes back')
 connect(HEADSET, 64, ENCRYPTED, 'done')
 control(LEFT, PLAY, 'Playing 4 -64 0 | 3 3 0', 'left 17 18; screen 17')
-seen('23: 17 18; 17 18; 1', '23: 8 15 18;; 0', '64:;; 0', '517: 1 4 5 6 7 8 9 15 17 18; 17; 0')
+seen('23: 17 18; 17 18; 1', '23: 8 15 18;; 0', '64:;; 0', '517: 1 4 5 6 7 8 9 11 12 13 14 15 17 18; 17; 0')
 take('left 17 01')
 take('screen 17 01')
 take('left 18 01 01')
@@ -316,14 +341,19 @@ take('nothing')
 
 # "Deactivate leaves Inactive, order and playback speed kept."
 case('the evening')
-deactivate('done', 'Inactive 4 -64 0 | 0 0 0', 'left 17; headset 4 5 7; screen 4 5 6 7 17')
+deactivate('done', 'Inactive 4 -64 0 | 0 0 0', 'left 17; headset 4 5 7; screen 4 5 6 7 11 12 13 14 17')
 deactivate('done', 'Inactive 4 -64 0 | 0 0 0')
 take('left 17 00')
 take('headset 4')
-take('screen 17 00')
+# The screen was last served 7.
+take('screen 11')
 take('headset 5')
-take('screen 4')
+take('screen 12')
 take('headset 7 ff ff ff ff')
+take('screen 13')
+take('screen 14')
+take('screen 17 00')
+take('screen 4')
 take('screen 5')
 take('screen 6 ff ff ff ff')
 take('screen 7 ff ff ff ff')
@@ -665,11 +695,15 @@ control(LEFT, NEXT_TRACK, 'Inactive 3 0 0 | 0 0 0', 'left 18')
 take('left 18 31 03')
 control(LEFT, GOTO_GROUP, 'Inactive 3 0 0 | 0 0 0', 'left 18', 0)
 take('left 18 44 03')
-activate(1, 'done', 'Paused 3 0 0 | 1 0 0', 'left 4 5 6 7 17')
+activate(1, 'done', 'Paused 3 0 0 | 1 0 0', 'left 4 5 6 7 11 12 13 14 17')
 take('left 4')
 take('left 5' + octets(UEBERFAHRT))
 take('left 6 70 17 00 00')
 take('left 7 00 00 00 00')
+take('left 11' + octets(track_object(0)))
+take('left 12' + octets(track_object(1)))
+take('left 13' + octets(group_object(0)))
+take('left 14' + octets(group_object(1)))
 take('left 17 02')
 # "After 2, 3, 4 the player is as before."
 control(LEFT, PAUSE, 'Paused 3 0 0 | 1 0 0', 'left 18')
@@ -741,13 +775,17 @@ start(b'Desk', ALL, 7, 'done', 'Inactive 3 0 0 | 0 0 0', RUNNING)
 connect(SCREEN, 517, ENCRYPTED, 'done')
 for characteristic in SLOTS:
     subscribe(SCREEN, characteristic, 'done')
-activate(3, 'done', 'Paused 3 0 0 | 3 3 0', 'screen 4 5 7 17', RUNNING)
+# Track 3 is alone in group 3, and in order 3 none follows it: 12 is empty before and after.
+activate(3, 'done', 'Paused 3 0 0 | 3 3 0', 'screen 4 5 7 11 13 14 17', RUNNING)
 read(SCREEN, 6, 0, 'read ff ff ff ff', catalogue=RUNNING)
 take('screen 4', catalogue=RUNNING)
 take('screen 5' + octets(ZIEL), catalogue=RUNNING)
 take('screen 7 00 00 00 00', catalogue=RUNNING)
+take('screen 11' + octets(track_object(3)), catalogue=RUNNING)
+take('screen 13' + octets(group_object(0)), catalogue=RUNNING)
+take('screen 14' + octets(group_object(3)), catalogue=RUNNING)
 take('screen 17 02', catalogue=RUNNING)
-deactivate('done', 'Inactive 3 0 0 | 0 0 0', 'screen 4 5 7 17', RUNNING)
+deactivate('done', 'Inactive 3 0 0 | 0 0 0', 'screen 4 5 7 11 13 14 17', RUNNING)
 read(SCREEN, 6, 3, 'read ff', catalogue=RUNNING)
 
 case('from a finished recording to running ones, and back')
@@ -854,15 +892,18 @@ take('right 1 42')
 take('nothing')
 seen('23: 1;; 0', '100: 1;; 0', '-', '-')
 
-# "within it, the first owed slot after its last served, round the ten"
+# "within it, the first owed slot after its last served": of the fourteen that W-209 makes of "the ten"
 case('the round of the slots')
 office('', screen=EVERY)
+deactivate('done', 'Inactive 3 0 0 | 0 0 0', 'screen 4 5 6 7 11 12 13 14 17')
+activate(1, 'done', 'Paused 3 0 0 | 1 0 0', 'screen 4 5 6 7 11 12 13 14 17')
 set_name(b'A', 'done', 'screen 1')
 control(SCREEN, FORWARD, 'Seeking 3 0 4 | 1 0 0', 'screen 9 17 18')
-control(SCREEN, NEXT_TRACK, 'Playing 3 0 0 | 1 1 0', 'screen 4 5 6 7 9 17 18')
+control(SCREEN, NEXT_TRACK, 'Playing 3 0 0 | 1 1 0', 'screen 4 5 6 7 9 11 12 17 18')
 write(LEFT, 8, [2], 'done', 'Playing 3 2 0 | 1 1 0', 'screen 8')
+# Track 2 is behind track 1 in order 4 too.
 write(LEFT, 15, [4], 'done', 'Playing 4 2 0 | 1 1 0', 'screen 15')
-seen('23:;; 0', '-', '-', '517: 1 4 5 6 7 8 9 15 17 18; 1 4 5 6 7 8 9 15 17 18; 2')
+seen('23:;; 0', '-', '-', '517: %s; %s; 2' % (EVERY, EVERY))
 take('screen 1 41')
 take('screen 4')
 take('screen 5 52 61 73 74')
@@ -873,6 +914,10 @@ set_name(b'B', 'done', 'screen 1')
 write(LEFT, 7, word(30), 'done', 'Playing 4 2 0 | 1 1 30', 'screen 7')
 take('screen 8 02')
 take('screen 9 00')
+take('screen 11' + octets(track_object(1)))
+take('screen 12' + octets(track_object(2)))
+take('screen 13' + octets(group_object(0)))
+take('screen 14' + octets(group_object(1)))
 take('screen 15 04')
 take('screen 17 01')
 # One result per take; the round goes on behind 18 although another one waits.
@@ -1119,7 +1164,7 @@ read(LEFT, 8, 2, 'refused 0x07')
 
 # ---- Refusals: "A refusal .. alters nothing."; "Several at once: the first in the table." W-207: 200 with a bad title and 207 carry a place.
 
-# "All but 4 and 18 may be read; 7, 8, 15, 18 may be written."
+# "All but 4 and 18 may be read; 7, 8, 15, 18 may be written."; W-209: "11, 12, 14 may be written". Of 10 nothing is owed, so it is no slot.
 case('what may be read, written and subscribed to')
 office('')
 for characteristic in OTHERS:
@@ -1129,9 +1174,9 @@ for characteristic in OTHERS:
     unsubscribe(LEFT, characteristic, 'refused 0x01')
 for characteristic in (4, 18):
     read(LEFT, characteristic, 0, 'refused 0x02')
-for characteristic in (1, 4, 5, 6, 9, 16, 17, 19, 22):
+for characteristic in (1, 4, 5, 6, 9, 10, 13, 16, 17, 19, 22):
     write(LEFT, characteristic, [1], 'refused 0x03')
-for characteristic in (16, 19, 22):
+for characteristic in (10, 16, 19, 22):
     subscribe(LEFT, characteristic, 'refused 209')
     unsubscribe(LEFT, characteristic, 'refused 209')
 for characteristic in SLOTS:
@@ -1149,9 +1194,13 @@ subscribe(LEFT, 3, 'refused 0x01')
 unsubscribe(LEFT, 255, 'refused 0x01')
 subscribe(LEFT, 16, 'refused 209')
 unsubscribe(LEFT, 22, 'refused 209')
+subscribe(LEFT, 10, 'refused 209')
+unsubscribe(LEFT, 10, 'refused 209')
 read(LEFT, 4, 0, 'refused 0x02')
 read(LEFT, 18, 1, 'refused 0x02')
 write(LEFT, 17, [1], 'refused 0x03')
+write(LEFT, 10, [1], 'refused 0x03')
+write(LEFT, 13, group_object(1), 'refused 0x03')
 # 0x0F before 0x80, 0x07, 0x0D and 0x13.
 read(LEFT, 1, 0, 'refused 0x0F')
 read(LEFT, 1, 1, 'refused 0x0F')
@@ -1159,6 +1208,13 @@ read(LEFT, 1, 200, 'refused 0x0F')
 write(LEFT, 7, word(1), 'refused 0x0F')
 write(LEFT, 7, [1, 2, 3], 'refused 0x0F')
 write(LEFT, 15, [9], 'refused 0x0F')
+for characteristic in (11, 12, 14):
+    write(LEFT, characteristic, track_object(1), 'refused 0x0F')
+    write(LEFT, characteristic, group_object(1), 'refused 0x0F')
+    write(LEFT, characteristic, [], 'refused 0x0F')
+for characteristic in (10, 11, 12, 13, 14):
+    read(LEFT, characteristic, 0, 'refused 0x0F')
+    read(LEFT, characteristic, 7, 'refused 0x0F')
 write(LEFT, 18, [PLAY], 'refused 0x0F')
 write(LEFT, 18, [], 'refused 0x0F')
 for characteristic in SLOTS:
@@ -1393,7 +1449,10 @@ def before_the_others(catalogue, answer):
     before('refused 0x07', read, LEFT, 5, 11)
     before('refused 0x0D', write, LEFT, 7, [1])
     before('refused 0x0D', write, LEFT, 18, [])
+    before('refused 0x0D', write, LEFT, 12, [1])
     before('refused 0x13', write, LEFT, 15, [9])
+    before('refused 0x13', write, LEFT, 11, group_object(1))
+    before('refused 0x13', write, LEFT, 14, group_object(0))
     before('refused 0x11', write, HEADSET, 18, [PLAY])
     before('refused 207 0', start, b'\xFF', ALL, 7)
     before('refused 207 0', set_name, b'\xFF')
@@ -1519,6 +1578,8 @@ WRONG_PLAYERS = (
     (SEEKING_SPEED, 4, 'Paused 3 0 4 | 1 0 0', 0),
     (PLAYING_ORDER, 0, 'Paused 0 0 0 | 1 0 0', 3),
     (PLAYING_ORDER, 9, 'Paused 9 0 0 | 1 0 0', 3),
+    # "201 also for a named next track .. not of the current group" (W-209): track 3.
+    (NEXT, 4, 'Paused 3 0 0 | 1 0 0 3', 0),
     (NAME_LENGTH, 129, 'Paused 3 0 0 | 1 0 0', 4),
 )
 
@@ -1558,7 +1619,7 @@ def two_results():
 
 
 def slots(*characteristics):
-    """The word of the slots: one bit each, in the order of the ten."""
+    """The word of the slots: one bit each, in the order of the fourteen."""
     return sum(1 << SLOTS.index(characteristic) for characteristic in characteristics)
 
 
@@ -1646,11 +1707,11 @@ take('left 17 02')
 # "a round mark out of range"
 case('a wrong mark of a round')
 two_results()
-for mark in (20, 31, 32, LONGEST):
+for mark in (28, 31, 32, LONGEST):
     damage(MARK, mark, LEFT)
     take('refused 201')
-# 17 was served last, says the mark now: 18 comes next.
-damage(MARK, 8, LEFT)
+# 17, which is slot 12, was served last, says the mark now: 18 comes next.
+damage(MARK, 12, LEFT)
 take('left 18 01 01')
 damage(TURN, 4)
 take('refused 201')
@@ -1673,12 +1734,12 @@ damage(ENCRYPTION, OPEN, HEADSET)
 read(HEADSET, 1, 0, 'refused 0x0F')
 subscribe(HEADSET, 1, 'refused 0x0F')
 
-# "The ten slots of a client are one set of bits": others mean nothing, and the changed marks are of what may be read.
+# "The ten slots of a client are one set of bits", which W-209 makes fourteen: others mean nothing, and the changed marks are of what may be read.
 case('bits outside the sets')
 two_results()
-damage(SUBSCRIBED, 1 << 10 | slots(17, 18), LEFT, '23: 17 18 +; 17 18; 2')
+damage(SUBSCRIBED, 1 << 14 | slots(17, 18), LEFT, '23: 17 18 +; 17 18; 2')
 take('refused 201')
-damage(OWED, 1 << 10 | slots(17, 18), LEFT, '23: 17 18 +; 17 18 +; 2')
+damage(OWED, 1 << 14 | slots(17, 18), LEFT, '23: 17 18 +; 17 18 +; 2')
 take('refused 201')
 damage(SUBSCRIBED, slots(17, 18), LEFT, '23: 17 18; 17 18 +; 2')
 take('refused 201')
@@ -1689,7 +1750,7 @@ damage(SUBSCRIBED, slots(), HEADSET)
 for characteristic in (0, 2, 4, 18, 20, 31):
     damage(FRESH, 1 << characteristic, HEADSET)
     take('refused 201')
-damage(FRESH, sum(1 << characteristic for characteristic in THIRTEEN if characteristic not in (4, 18)), HEADSET)
+damage(FRESH, sum(1 << characteristic for characteristic in EIGHTEEN if characteristic not in (4, 18)), HEADSET)
 read(HEADSET, 5, 8, 'read 72 74')
 take('left 17 02')
 
@@ -1702,10 +1763,10 @@ for part, wrong, right in (
         (SUBSCRIBED, slots(1), slots()),
         (OWED, slots(1), slots()),
         (FRESH, 2, 0),
-        (MARK, 0, 19),
-        (MARK, 9, 19),
-        (MARK, 18, 19),
-        (MARK, 20, 19),
+        (MARK, 0, 27),
+        (MARK, 13, 27),
+        (MARK, 26, 27),
+        (MARK, 28, 27),
         (WAITING, 1, 0)):
     damage(part, wrong, RIGHT)
     take('refused 201')
@@ -1732,14 +1793,15 @@ take('nothing')
 
 # ---- All that a service can owe
 
-def all_ten_fall_due(name):
-    """From Inactive: the ten slots of a service fall due to each of the four clients, all of which subscribed to them, and one result to each."""
+def every_slot_falls_due(name):
+    """From Inactive: the fourteen slots of a service fall due to each of the four clients, all of which subscribed to them, and one result to each."""
     set_name(name, 'done', 'left 1; right 1; headset 1; screen 1')
-    activate(1, 'done', 'Paused 3 0 0 | 1 0 0', 'left 4 5 6 7 17; right 4 5 6 7 17; headset 4 5 6 7 17; screen 4 5 6 7 17')
+    activate(1, 'done', 'Paused 3 0 0 | 1 0 0', '; '.join(who + ' 4 5 6 7 11 12 13 14 17' for who in ('left', 'right', 'headset', 'screen')))
     write(RIGHT, 8, [1], 'done', 'Paused 3 1 0 | 1 0 0', 'left 8; headset 8; screen 8')
     write(HEADSET, 8, [2], 'done', 'Paused 3 2 0 | 1 0 0', 'left 8; right 8; screen 8')
     write(RIGHT, 15, [4], 'done', 'Paused 4 2 0 | 1 0 0', 'left 15; headset 15; screen 15')
-    write(HEADSET, 15, [5], 'done', 'Paused 5 2 0 | 1 0 0', 'left 15; right 15; screen 15')
+    # Track 1 comes next in orders 3 and 4, and none in order 5: the writer of 15 is owed 12.
+    write(HEADSET, 15, [5], 'done', 'Paused 5 2 0 | 1 0 0', 'left 12 15; right 12 15; headset 12; screen 12 15')
     control(LEFT, FORWARD, 'Seeking 5 2 4 | 1 0 0', 'left 9 17 18; right 9 17; headset 9 17; screen 9 17')
     control(RIGHT, FORWARD, 'Seeking 5 2 8 | 1 0 0', 'left 9; right 9 18; headset 9; screen 9')
     control(HEADSET, FORWARD, 'Seeking 5 2 16 | 1 0 0', 'left 9; right 9; headset 9 18; screen 9')
@@ -1747,13 +1809,14 @@ def all_ten_fall_due(name):
     seen(*['23: %s; %s; 1' % (EVERY, EVERY)] * 4)
 
 
-def all_ten(name):
+def every_slot(name):
     """The characteristics and octets that are then handed out, in the order of the slots."""
-    return ('1' + octets(name), '4', '5 c3 9c 62 65 72 66 61 68 72 74', '6 70 17 00 00', '7 00 00 00 00', '8 02', '9 20', '15 05', '17 03', '18 04 01')
+    return ('1' + octets(name), '4', '5 c3 9c 62 65 72 66 61 68 72 74', '6 70 17 00 00', '7 00 00 00 00', '8 02', '9 20', '11 00 10 00 00 00 00', '12',
+            '13 00 20 00 00 00 00', '14 01 20 00 00 00 00', '15 05', '17 03', '18 04 01')
 
 
 # Both rounds go round once: the four clients, and the slots of each.
-case('forty takes')
+case('fifty-six takes')
 start(b'A', ALL, 7, 'done', 'Inactive 3 0 0 | 0 0 0')
 for who in range(4):
     connect(who, 23, ENCRYPTED, 'done')
@@ -1762,8 +1825,8 @@ for who in range(4):
 # The left pedal is served 18, so that both rounds go on behind it.
 control(LEFT, PLAY, 'Inactive 3 0 0 | 0 0 0', 'left 18')
 take('left 18 01 03')
-all_ten_fall_due(b'B')
-for served in all_ten(b'B'):
+every_slot_falls_due(b'B')
+for served in every_slot(b'B'):
     for who in ('right', 'headset', 'screen', 'left'):
         take('%s %s' % (who, served))
 take('nothing')

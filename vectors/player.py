@@ -1,4 +1,4 @@
-"""The player's cases: calls of one client over the sample catalogue of document 01, which vectors/script.py puts last.
+"""The player's cases: calls of one client over the sample catalogue of document 01, which vectors/script.py puts behind those of two services.
 
 Each call has its answer and the state of the player that it leaves beside it, worked out by hand from documents 01 and 02. vectors/calls.py says how
 they are written. The cases are to the generic service and to the named player in turn. The client is the left pedal; its ATT_MTU leaves room for every
@@ -1037,7 +1037,7 @@ check('refused 201', 'Paused 3 0 0 | 1 1 4294967295', RUNNING)
 # ---- Values
 
 # "title is then empty, duration and position read −1"; "Orders supported reads 0x00FF."
-# "Values: 1 and 5 text; 4 empty; 6, 7, 19 four octets; 16 two; 18 two; the rest one."
+# "Values: 1 and 5 text; 4 empty; 6, 7, 19 four octets; 16 two; 18 two; the rest one."; W-209: 10 to 14 "six octets, or none".
 case('values while Inactive')
 start(b'Radio', ALL, 7, 'done', 'Inactive 3 0 0 | 0 0 0')
 connect(LEFT, 517, ENCRYPTED, 'done')
@@ -1047,6 +1047,8 @@ value(6, 'read ff ff ff ff', 'Inactive 3 0 0 | 0 0 0')
 value(7, 'read ff ff ff ff', 'Inactive 3 0 0 | 0 0 0')
 value(8, 'read 00', 'Inactive 3 0 0 | 0 0 0')
 value(9, 'read 00', 'Inactive 3 0 0 | 0 0 0')
+for characteristic in (10, 11, 12, 13, 14):
+    value(characteristic, 'read', 'Inactive 3 0 0 | 0 0 0')
 value(15, 'read 03', 'Inactive 3 0 0 | 0 0 0')
 value(16, 'read ff 00', 'Inactive 3 0 0 | 0 0 0')
 value(17, 'read 00', 'Inactive 3 0 0 | 0 0 0')
@@ -1062,6 +1064,12 @@ value(6, 'read 70 17 00 00', 'Paused 6 -64 0 | 1 0 1501')
 value(7, 'read dd 05 00 00', 'Paused 6 -64 0 | 1 0 1501')
 value(8, 'read c0', 'Paused 6 -64 0 | 1 0 1501')
 value(9, 'read 00', 'Paused 6 -64 0 | 1 0 1501')
+value(10, 'read 00 30 00 00 00 00', 'Paused 6 -64 0 | 1 0 1501')
+value(11, 'read 00 10 00 00 00 00', 'Paused 6 -64 0 | 1 0 1501')
+# By rising stamp track 0 is the last, and track 1 the first.
+value(12, 'read 01 10 00 00 00 00', 'Paused 6 -64 0 | 1 0 1501')
+value(13, 'read 00 20 00 00 00 00', 'Paused 6 -64 0 | 1 0 1501')
+value(14, 'read 01 20 00 00 00 00', 'Paused 6 -64 0 | 1 0 1501')
 value(15, 'read 06', 'Paused 6 -64 0 | 1 0 1501')
 value(16, 'read ff 00', 'Paused 6 -64 0 | 1 0 1501')
 value(17, 'read 02', 'Paused 6 -64 0 | 1 0 1501')
@@ -1100,7 +1108,7 @@ value(22, 'read ff', 'Inactive 3 0 0 | 0 0 0')
 # "the lent output of a read or take is under 128 octets"
 case('an output of 127 octets')
 stand(3, 0, 1501)
-for characteristic in (1, 5, 6, 7, 8, 9, 15, 16, 17, 19, 22):
+for characteristic in (1, 5, 6, 7, 8, 9, 10, 11, 12, 13, 14, 15, 16, 17, 19, 22):
     value(characteristic, 'refused 205', 'Paused 3 0 0 | 1 0 1501', room=127)
 value(7, 'refused 205', 'Paused 3 0 0 | 1 0 1501', room=0)
 value(7, 'read dd 05 00 00', 'Paused 3 0 0 | 1 0 1501', room=128)

@@ -3,7 +3,7 @@ office's day.
 
 Each call has the service that it is to, its answer, the state of that service's player and what falls due by it to whom beside it, worked out by hand
 from documents 01 and 02. vectors/calls.py says how they are written. A client's places are numbered as the takes go through them: the slots 1, 4, 5, 6,
-7, 8, 9, 15, 17, 18 of the generic service are places 0 to 9, the same of the named player 10 to 19.
+7, 8, 9, 11, 12, 13, 14, 15, 17, 18 of the generic service are places 0 to 13, the same of the named player 14 to 27.
 
 A comment in quotation marks is a sentence of document 01, or of the request of document 02 that it names; where it names none, of W-208.
 """
@@ -11,12 +11,12 @@ from calls import (
     ALL, BAD_AND_WRONG, BAD_TITLES, CODE, CONNECTED, CUT, ENCRYPTED, ENCRYPTION, FIRST_GROUP, FIRST_SEGMENT, FORWARD, FRESH, GENERIC, HEADSET,
     LAST_SEGMENT, LEFT, LONGEST, MARK, MTU, NAMED, NAME_FIRST, NEXT_GROUP, NEXT_SEGMENT, NEXT_TRACK, OPEN, OWED, OWN_PARENT, PAUSE, PLACE, PLAY,
     PREVIOUS_TRACK, RIGHT, SAMPLE, SCREEN, SERVICES, STOP, SUBSCRIBED, TURN, WAITING,
-    activate, advance, case, connect, control, damage, deactivate, disconnect, octets, on, read, seen, set_name, start, subscribe, take, unsubscribe,
-    word, write,
+    activate, advance, case, connect, control, damage, deactivate, disconnect, group_object, octets, on, read, seen, segments_object, set_name, start,
+    subscribe, take, track_object, unsubscribe, word, write,
 )
 from office import (
     EVERY, LONG_NAME, RAST, SLOTS, UEBERFAHRT, WRONG_PLAYERS, ZIEL,
-    all_ten, all_ten_fall_due, come, slots, the_others_refuse_the_state,
+    come, every_slot, every_slot_falls_due, slots, the_others_refuse_the_state,
 )
 
 # "Refusals: 219, service number over 1"
@@ -58,6 +58,11 @@ for characteristic, generic, named in (
         (7, ' ff ff ff ff', ' ff ff ff ff'),
         (8, ' 00', ' 00'),
         (9, ' 00', ' 00'),
+        (10, '', ''),
+        (11, '', ''),
+        (12, '', ''),
+        (13, '', ''),
+        (14, '', ''),
         (15, ' 03', ' 03'),
         (16, ' ff 00', ' ff 00'),
         (17, ' 00', ' 00'),
@@ -193,6 +198,7 @@ def each_call_to(service, answer, catalogue=SAMPLE):
     read(LEFT, 5, 200, answer, **lent)
     write(LEFT, 7, [1], answer, **lent)
     write(LEFT, 15, [9], answer, **lent)
+    write(LEFT, 11, track_object(3), answer, **lent)
     write(LEFT, 18, [PLAY], answer, **lent)
 
 
@@ -247,7 +253,7 @@ for part, wrong, right, service in ((TURN, 4, 3, GENERIC), (NAME_FIRST, 0xFF, 0x
     read(4, 1, 0, 'refused 205', 127, service=2)
     read(LEFT, 1, 0, 'refused 205', 127, service=2)
     damage(part, right, service=service)
-# Nothing was altered. The round begins at place 0; 9 and 19 come in turn, once in twenty places.
+# Nothing was altered. The round begins at place 0; 13 and 27 come in turn, once in twenty-eight places.
 take_generic('left 1 41')
 take_generic('left 18 30 04')
 take_named('left 1 41')
@@ -261,17 +267,17 @@ take('nothing')
 case('refusals of the named player')
 desks('18 / 18')
 connect(SCREEN, 517, OPEN, 'done')
-for characteristic in (0, 2, 3, 10, 14, 20, 21, 23, 255):
+for characteristic in (0, 2, 3, 20, 21, 23, 255):
     read(LEFT, characteristic, 0, 'refused 0x01', service=NAMED)
     write(LEFT, characteristic, [1], 'refused 0x01', service=NAMED)
     subscribe(LEFT, characteristic, 'refused 0x01', service=NAMED)
     unsubscribe(LEFT, characteristic, 'refused 0x01', service=NAMED)
-for characteristic in (16, 19, 22):
+for characteristic in (10, 16, 19, 22):
     subscribe(LEFT, characteristic, 'refused 209', service=NAMED)
     unsubscribe(LEFT, characteristic, 'refused 209', service=NAMED)
 for characteristic in (4, 18):
     read(LEFT, characteristic, 0, 'refused 0x02', service=NAMED)
-for characteristic in (1, 4, 5, 6, 9, 16, 17, 19, 22):
+for characteristic in (1, 4, 5, 6, 9, 10, 13, 16, 17, 19, 22):
     write(LEFT, characteristic, [1], 'refused 0x03', service=NAMED)
 read(SCREEN, 1, 0, 'refused 0x0F', service=NAMED)
 write(SCREEN, 7, word(1), 'refused 0x0F', service=NAMED)
@@ -282,6 +288,9 @@ write(LEFT, 8, [], 'refused 0x0D', service=NAMED)
 write(LEFT, 15, [9, 9], 'refused 0x0D', service=NAMED)
 write(LEFT, 18, [PLAY, 0], 'refused 0x0D', service=NAMED)
 write(LEFT, 15, [9], 'refused 0x13', service=NAMED)
+for characteristic in (11, 12, 14):
+    write(LEFT, characteristic, [0, 0x10, 0, 0, 0], 'refused 0x0D', service=NAMED)
+    write(LEFT, characteristic, segments_object(0), 'refused 0x13', service=NAMED)
 set_name(b'ab\xC3', 'refused 207 2', service=NAMED)
 set_name(b'a' * 129, 'refused 207 128', service=NAMED)
 activate(2, 'refused 208', service=NAMED)
@@ -309,7 +318,7 @@ take_named('left 17 02')
 take('nothing')
 activate(1, 'done', 'Paused 3 0 0 | 1 0 0', 'left 4 5 6 7 17', service=GENERIC)
 deactivate('done', 'Inactive 3 0 0 | 0 0 0', 'left 4 5 6 7 17', service=NAMED)
-# Place 18 was served last: the round goes on at the generic service.
+# Place 26 was served last: the round goes on at the generic service.
 take_generic('left 4')
 take_generic('left 5' + octets(UEBERFAHRT))
 take_generic('left 6 70 17 00 00')
@@ -452,8 +461,9 @@ for one, name, ccid, other in ((GENERIC, b'Desk', 7, NAMED), (NAMED, b'Aula', 9,
     case('every value of one service changes, and none of the other')
     desks(screen='')
     values = (
-        (1, name), (5, UEBERFAHRT), (6, word(6000)), (7, word(0)), (8, [0]), (9, [0]), (15, [3]), (16, [0xFF, 0x00]), (17, [2]), (19, word(ALL)),
-        (22, [ccid]),
+        (1, name), (5, UEBERFAHRT), (6, word(6000)), (7, word(0)), (8, [0]), (9, [0]), (10, segments_object(0)),
+        (11, track_object(0)), (12, track_object(1)), (13, group_object(0)), (14, group_object(1)), (15, [3]), (16, [0xFF, 0x00]), (17, [2]),
+        (19, word(ALL)), (22, [ccid]),
     )
     for characteristic, value in values:
         read(SCREEN, characteristic, 0, 'read' + octets(value), service=one)
@@ -501,7 +511,7 @@ control(LEFT, PAUSE, 'Paused 3 0 0 | 1 0 0', 'left 17 18', service=GENERIC)
 control(LEFT, STOP, 'Paused 3 0 0 | 1 0 0', 'left 18', service=NAMED)
 unsubscribe(LEFT, 18, 'done', service=GENERIC)
 seen_in_both(('23: 17; 17; 0', '-', '-', '-'), ('23: 1 17 18; 18; 1', '-', '-', '-'))
-# Place 18 was served last.
+# Place 26 was served last.
 take_named('left 18 05 01')
 take_generic('left 17 02')
 take('nothing')
@@ -635,7 +645,7 @@ set_name(b'A', 'done', 'left 1', service=GENERIC)
 set_name(b'B', 'done', 'left 1', service=NAMED)
 take_generic('left 1 41')
 take_named('left 1 42')
-# Place 10 was served last: 18 comes next, then 0 and 10.
+# Place 14 was served last: 26 comes next, then 0 and 14.
 set_name(b'C', 'done', 'left 1', service=GENERIC)
 set_name(b'D', 'done', 'left 1', service=NAMED)
 control(LEFT, PLAY, 'Playing 3 0 0 | 1 0 0', 'left 17', service=NAMED)
@@ -676,18 +686,19 @@ take_named('screen 1 42')
 take('nothing')
 
 
-# ---- "only the order of takes is shared, a client's slots running through the generic service and then the other, twenty in all"
+# ---- "only the order of takes is shared, a client's slots running through the generic service and then the other"; W-209: "per client there are now 28
+# ---- slots"
 
 case('the edges between the services')
 desks('1 18 / 1 18')
-# From place 9 to 10: the named player's name before the generic service's.
+# From place 13 to 14: the named player's name before the generic service's.
 control(LEFT, PLAY, 'Playing 3 0 0 | 1 0 0', 'left 18', service=GENERIC)
 take_generic('left 18 01 01')
 set_name(b'A', 'done', 'left 1', service=GENERIC)
 set_name(b'B', 'done', 'left 1', service=NAMED)
 take_named('left 1 42')
 take_generic('left 1 41')
-# From place 19 to 0: the generic service's name before the named player's.
+# From place 27 to 0: the generic service's name before the named player's.
 control(LEFT, PLAY, 'Playing 3 0 0 | 1 0 0', 'left 18', service=NAMED)
 take_named('left 18 01 01')
 set_name(b'C', 'done', 'left 1', service=GENERIC)
@@ -695,7 +706,7 @@ set_name(b'D', 'done', 'left 1', service=NAMED)
 take_generic('left 1 43')
 take_named('left 1 44')
 take('nothing')
-# Two results wait at 19: place 0 comes between them.
+# Two results wait at 27: place 0 comes between them.
 control(LEFT, PAUSE, 'Paused 3 0 0 | 1 0 0', 'left 18', service=NAMED)
 control(LEFT, STOP, 'Paused 3 0 0 | 1 0 0', 'left 18', service=NAMED)
 set_name(b'E', 'done', 'left 1', service=GENERIC)
@@ -741,7 +752,7 @@ take_named('left 1 44')
 take_named('screen 1 44')
 take('nothing')
 
-# The left pedal has places 0, 8, 10 and 18; the headset 1, 4, 12 and 19; the screen 9, 11 and 16.
+# The left pedal has places 0, 12, 14 and 26; the headset 1, 4, 16 and 27; the screen 13, 15 and 20.
 case('a longer run of takes')
 desks('1 17 / 1 17', None, '4 7 / 5 18', '18 / 4 9')
 set_name(b'A', 'done', 'left 1', service=GENERIC)
@@ -756,7 +767,7 @@ take_generic('screen 18 31 01')
 take_named('left 1 42')
 take_generic('headset 7 00 00 00 00')
 take_named('screen 4')
-# The left pedal was served place 10 last, the headset 4, the screen 11. More falls due on both sides of these.
+# The left pedal was served place 14 last, the headset 4, the screen 15. More falls due on both sides of these.
 set_name(b'C', 'done', 'left 1', service=GENERIC)
 control(SCREEN, PREVIOUS_TRACK, 'Paused 3 0 0 | 1 0 0', 'headset 4 7; screen 18', service=GENERIC)
 control(HEADSET, NEXT_TRACK, 'Playing 3 0 0 | 1 2 0', 'headset 5 18; screen 4', service=NAMED)
@@ -765,18 +776,18 @@ take_named('left 17 01')
 # The title of track 2 is empty.
 take_named('headset 5')
 take_named('screen 9 00')
-# From 18 to 0; to 19; from 16 to 9.
+# From 26 to 0; to 27; from 20 to 13.
 take_generic('left 1 43')
 take_named('headset 18 04 01')
 take_generic('screen 18 30 01')
-# The left pedal is owed nothing more. From 19 to 1, with a second result waiting.
+# The left pedal is owed nothing more. From 27 to 1, with a second result waiting.
 take_generic('headset 4')
 take_named('screen 4')
 take_generic('headset 7 00 00 00 00')
 take_named('headset 18 31 01')
 take('nothing')
 
-# The left pedal has places 8, 9, 18 and 19; the right one 5 and 17; the headset 4 and 14; the screen 0, 1, 10 and 11.
+# The left pedal has places 12, 13, 26 and 27; the right one 5 and 25; the headset 4 and 18; the screen 0, 1, 14 and 15.
 case('a longer run of takes that begins in the named player')
 desks('17 18 / 17 18', '8 / 15', '7 / 7', '1 4 / 1 4')
 set_name(b'N', 'done', 'screen 1', service=NAMED)
@@ -787,7 +798,7 @@ take_named('left 17 01')
 take_named('right 15 05')
 take_named('headset 7 dc 05 00 00')
 take_named('screen 1 4e')
-# The marks stand at 18, 17, 14 and 10. Now the generic service, and behind it the end of track 0, the last in order 5, in the other.
+# The marks stand at 26, 25, 18 and 14. Now the generic service, and behind it the end of track 0, the last in order 5, in the other.
 control(LEFT, PLAY, 'Playing 3 0 0 | 1 0 0', 'left 17 18', service=GENERIC)
 write(SCREEN, 8, [0x20], 'done', 'Playing 3 32 0 | 1 0 0', 'right 8', service=GENERIC)
 write(RIGHT, 7, word(-1), 'done', 'Playing 3 32 0 | 1 0 5999', 'headset 7', service=GENERIC)
@@ -801,7 +812,7 @@ take_named('left 18 01 01')
 take_generic('right 8 20')
 take_generic('headset 7 00 00 00 00')
 take_generic('screen 1 47')
-# From 19 to 8.
+# From 27 to 12.
 take_generic('left 17 01')
 take_named('headset 7 70 17 00 00')
 take_generic('screen 4')
@@ -820,7 +831,7 @@ for service, name in ((NAMED, b'A'), (GENERIC, b'B')):
 take_generic('left 1 42')
 take_generic('right 1 42')
 take_generic('headset 1 42')
-# Place 2 is dropped for the left pedal, 10 and 12 for the right one.
+# Place 2 is dropped for the left pedal, 14 and 16 for the right one.
 unsubscribe(LEFT, 5, 'done', service=GENERIC)
 unsubscribe(RIGHT, 1, 'done', service=NAMED)
 unsubscribe(RIGHT, 5, 'done', service=NAMED)
@@ -843,9 +854,9 @@ take_named('headset 5' + octets(UEBERFAHRT))
 take_named('left 5' + octets(UEBERFAHRT))
 take('nothing')
 
-# "Demand 3's 40 becomes 80": a value is handed out by the 80th answered take from when it fell due. Here the left pedal's result of the named player
-# comes with the 80th, and no sooner.
-case('the eightieth take')
+# W-209: "per client there are now 28 slots and the bound is 112": a value is handed out by the 112th answered take from when it fell due. Here the left
+# pedal's result of the named player comes with the 112th, and no sooner.
+case('the hundred and twelfth take')
 start(b'A', ALL, 7, 'done', 'Inactive 3 0 0 | 0 0 0', beside=(b'A', ALL, 9))
 for who in range(4):
     connect(who, 23, ENCRYPTED, 'done')
@@ -857,16 +868,16 @@ control(LEFT, PLAY, 'Inactive 3 0 0 | 0 0 0', 'left 18', service=NAMED)
 take_named('left 18 01 03')
 for service, name in ((NAMED, b'N'), (GENERIC, b'G')):
     on(service)
-    all_ten_fall_due(name)
+    every_slot_falls_due(name)
 on(GENERIC)
 seen_in_both(['23: %s; %s; 1' % (EVERY, EVERY)] * 4, ['23: %s; %s; 1' % (EVERY, EVERY)] * 4)
-eightieth = []
+handed_out = []
 for service, name in ((GENERIC, b'G'), (NAMED, b'N')):
-    for served in all_ten(name):
+    for served in every_slot(name):
         for who in ('right', 'headset', 'screen', 'left'):
             take('%s %s' % (who, served), service=service)
-            eightieth.append((who, service, served.split()[0]))
-assert eightieth.index(('left', NAMED, '18')) == 79
+            handed_out.append((who, service, served.split()[0]))
+assert handed_out.index(('left', NAMED, '18')) == 111
 take('nothing')
 
 
@@ -923,10 +934,10 @@ for part, number, shows, right in (
         # "18 owed otherwise than when results wait"
         (OWED, slots(17), '23: 17 18; 17; 2', slots(17, 18)),
         (WAITING, 0, '23: 17 18; 17 18; 0', 2),
-        # Bits outside the ten slots, the next service's among them, and marks of what cannot be read.
-        (OWED, slots(17, 18) | 1 << 10, '23: 17 18; 17 18 +; 2', slots(17, 18)),
-        (SUBSCRIBED, slots(17, 18) | 1 << 10, '23: 17 18 +; 17 18; 2', slots(17, 18)),
-        (SUBSCRIBED, slots(17, 18) | slots(17, 18) << 10, '23: 17 18 +; 17 18; 2', slots(17, 18)),
+        # Bits outside the fourteen slots, the next service's among them, and marks of what cannot be read.
+        (OWED, slots(17, 18) | 1 << 14, '23: 17 18; 17 18 +; 2', slots(17, 18)),
+        (SUBSCRIBED, slots(17, 18) | 1 << 14, '23: 17 18 +; 17 18; 2', slots(17, 18)),
+        (SUBSCRIBED, slots(17, 18) | slots(17, 18) << 14, '23: 17 18 +; 17 18; 2', slots(17, 18)),
         (FRESH, 1 << 4, None, 0),
         (FRESH, 1 << 18, None, 0),
         (FRESH, 1 << 31, None, 0)):
@@ -953,23 +964,23 @@ take_generic('left 17 01')
 take_generic('left 18 01 01')
 take('nothing')
 
-# "a round mark out of range": of the twenty places.
+# "a round mark out of range": of the twenty-eight places.
 case('the last mark of a round')
 desks('1 / 1 18')
 set_name(b'A', 'done', 'left 1', service=GENERIC)
 set_name(b'B', 'done', 'left 1', service=NAMED)
 control(LEFT, PLAY, 'Playing 3 0 0 | 1 0 0', 'left 18', service=NAMED)
-for mark in (20, 21, 29, 30, 40, 255, LONGEST):
+for mark in (28, 29, 41, 42, 56, 255, LONGEST):
     damage(MARK, mark, LEFT)
     take('refused 201')
     set_name(b'C', 'refused 201', service=GENERIC)
     set_name(b'C', 'refused 201', service=NAMED)
-damage(MARK, 19, LEFT)
+damage(MARK, 27, LEFT)
 take_generic('left 1 41')
-# A mark of 10: 19 comes next, and 10 behind it.
-damage(MARK, 10, LEFT)
+# A mark of 14: 27 comes next, and 14 behind it.
+damage(MARK, 14, LEFT)
 take_named('left 18 01 01')
-damage(MARK, 18, LEFT)
+damage(MARK, 26, LEFT)
 take_named('left 1 42')
 take('nothing')
 

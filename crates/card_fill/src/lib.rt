@@ -4,20 +4,9 @@ ghost use mathlib.Core.List.{_++_};
 ghost use Prim.Native.Nat.{_+_, _*_, _<_, _≤_};
 ghost use lib.ListN.{length, take};
 ghost use Rattle.ground.specs.Lists.{part, laid};
-ghost use Rattle.ground.specs.Words.{octetsOfWord, octetsOf};
+ghost use Rattle.ground.specs.Words.{octetsOf};
 ghost use Rattle.card_block.specs.Block.{blockSize, summed};
 ghost use Rattle.card_fill.specs.Filled.{headOf, zeros, checksOf, blockOf};
-
-// A word, little endian, over b from a place on.
-fn put_word(b: &mut [u8], at: usize, w: u32)
-    requires { ⌜ at + 4 ≤ length (now b) ⌝ }
-    ensures { λ _. ⌜ now (b .exit) ≡ laid (now (b .entry)) at (octetsOfWord w) ⌝ }
-{
-    b[at] = (w % 256) as u8;
-    b[at + 1] = (w / 256 % 256) as u8;
-    b[at + 2] = (w / 65536 % 256) as u8;
-    b[at + 3] = (w / 16777216) as u8;
-}
 
 // n words, which src has from a place on, over b from the place at on.
 fn put_words(b: &mut [u8], at: usize, src: &[u32], from: usize, n: usize)
@@ -27,7 +16,7 @@ fn put_words(b: &mut [u8], at: usize, src: &[u32], from: usize, n: usize)
 {
     let mut i: usize = 0;
     while i < n {
-        put_word(b, at + i * 4, src[from + i]);
+        ground::put_word(b, at + i * 4, src[from + i]);
         i += 1;
     }
 }

@@ -1,2 +1,3 @@
--- The tables of a catalogue, and what their records hold.
+-- The tables of a catalogue, what their records hold, and the numbers of the objects in them.
 pub mod Tables
+pub mod Objects

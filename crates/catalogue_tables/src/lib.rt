@@ -1,6 +1,7 @@
 // Views of a catalogue's tables. They take any words and any number: behind the end of a table stands 0.
 ghost use mathlib.Core.Path.{_≡_};
-ghost use Prim.Native.Nat.{min, _+_, _-_, _≤_};
+ghost use Prim.Native.Nat.{min, _+_, _-_, _≤_, _<_};
+ghost use Rattle.catalogue_tables.specs.Objects.{trackObject, groupObject, segmentsObject};
 ghost use Rattle.catalogue_tables.specs.Tables.{wordIn, groupCount, trackCount, parentOf, firstTrackOf, tracksIn, durationOf, isRunning, endBy, endOf, firstSegmentOf, segmentsIn, titleOffsetOf, titleLengthOf, startsOf, titleOf};
 
 // Group, track and segment numbers and hundredths are counted apart.
@@ -186,4 +187,30 @@ pub fn title<'a>(tracks: &[u32], text: &'a [u8], t: TrackNo) -> &'a [u8]
     let a = run.start;
     let e = run.end;
     &text[a..e]
+}
+
+// Where the numbers of the objects of tracks, of groups and of a track's segments begin.
+pub const TRACK_OBJECTS: usize = 0x1000;
+
+pub const GROUP_OBJECTS: usize = 0x2000;
+
+pub const SEGMENTS_OBJECTS: usize = 0x3000;
+
+// The object of a track, of a group and of a track's segments.
+pub fn track_object(t: TrackNo) -> usize
+    ensures { λ r. ⌜ (r ≡ trackObject (t .0)) × (r < 281474976710656) ⌝ }
+{
+    TRACK_OBJECTS + ground::wide_word(t.0)
+}
+
+pub fn group_object(g: GroupNo) -> usize
+    ensures { λ r. ⌜ (r ≡ groupObject (g .0)) × (r < 281474976710656) ⌝ }
+{
+    GROUP_OBJECTS + ground::wide_word(g.0)
+}
+
+pub fn segments_object(t: TrackNo) -> usize
+    ensures { λ r. ⌜ (r ≡ segmentsObject (t .0)) × (r < 281474976710656) ⌝ }
+{
+    SEGMENTS_OBJECTS + ground::wide_word(t.0)
 }

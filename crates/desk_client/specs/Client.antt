@@ -27,7 +27,7 @@ mtuRight mtu = within leastMtu mostMtu mtu
 
 -- the slot of the control point, 18, stands last in the table
 abbrev pub controlSlot : ℕ
-controlSlot = 9
+controlSlot = 13
 
 abbrev pub isControl : ℕ → Bool
 isControl slot = eqb slot controlSlot

@@ -38,7 +38,7 @@ pub struct Client {
     pub accounts: [Account; 2],
 }
 
-pub const CONTROL_SLOT: u32 = 9;
+pub const CONTROL_SLOT: u32 = 13;
 
 pub const LEAST_MTU: u32 = 23;
 

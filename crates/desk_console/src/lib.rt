@@ -13,6 +13,7 @@ ghost use Rattle.desk_notices.specs.Owed.{settled, noWriter};
 ghost use Rattle.player_check.specs.Standing.{nameRow};
 ghost use Rattle.desk_replies.specs.Replies.{leftBy, Gated};
 ghost use Rattle.player_values.specs.Values.{source};
+ghost use Rattle.player_moves.specs.Moves.{Sits};
 ghost use Rattle.desk_console.specs.Console.{startCall, playerOf, nameCall, activateCall, deactivateCall, quietAdvance, advanceCall};
 
 // 207: a name that is handed in, and where it is wrong.
@@ -81,6 +82,7 @@ pub fn start(
 
 // The service's player becomes q by a call of no client, and every client is told. quiet: an advance in Playing that stays below D.
 fn becoming(
+    groups: &[u32],
     tracks: &[u32],
     text: &[u8],
     d: desk_state::Desk,
@@ -89,11 +91,13 @@ fn becoming(
     quiet: bool,
 ) -> desk_replies::Outcome
     requires { ⌜ service < serviceCount ⌝ }
-    ensures { λ r. ⌜ leftBy r ≡ leaves (granted []) (withService service (settled (source (now (tracks .entry)) (now (text .entry))) (noWriter quiet) q (serviceAt d service)) d) ⌝ }
+    requires { ⌜ Sits (now groups) (now tracks) (playerOf d service) ⌝ }
+    requires { ⌜ Sits (now groups) (now tracks) q ⌝ }
+    ensures { λ r. ⌜ leftBy r ≡ leaves (granted []) (withService service (settled (source (now (groups .entry)) (now (tracks .entry)) (now (text .entry))) (noWriter quiet) q (serviceAt d service)) d) ⌝ }
 {
     let cause = desk_notices::no_writer(quiet);
     let s = desk_state::service_at(d, service);
-    let told = desk_notices::settle(tracks, text, s, q, cause);
+    let told = desk_notices::settle(groups, tracks, text, s, q, cause);
     let e = desk_state::with_service(d, service, told);
     desk_replies::left(desk_replies::Answer::Done, e)
 }
@@ -129,7 +133,7 @@ pub fn set_name(
     }
     let p = player_at(d, service);
     let q = player_state::set_name(p, name);
-    becoming(tracks, text, d, service, q, false)
+    becoming(groups, tracks, text, d, service, q, false)
 }
 
 // A group becomes current.
@@ -153,7 +157,7 @@ pub fn activate(
     }
     let p = player_at(d, service);
     let q = player_moves::activate(groups, tracks, p, group);
-    becoming(tracks, text, d, service, q, false)
+    becoming(groups, tracks, text, d, service, q, false)
 }
 
 // No track is current.
@@ -172,8 +176,8 @@ pub fn deactivate(
         return desk_replies::shut(g, d);
     }
     let p = player_at(d, service);
-    let q = player_moves::deactivate(p);
-    becoming(tracks, text, d, service, q, false)
+    let q = player_state::deactivate(p);
+    becoming(groups, tracks, text, d, service, q, false)
 }
 
 // Whether a step of time stays below the end of the track that plays.
@@ -203,5 +207,5 @@ pub fn advance(
     let p = player_at(d, service);
     let q = player_moves::advance(groups, tracks, p, step);
     let quiet = is_quiet(tracks, p, step);
-    becoming(tracks, text, d, service, q, quiet)
+    becoming(groups, tracks, text, d, service, q, quiet)
 }

@@ -1,3 +1,4 @@
 -- The laws that belong to no one function.
 pub mod Orders
 pub mod Settled
+pub mod Written

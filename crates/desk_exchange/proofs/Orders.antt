@@ -15,6 +15,6 @@ module _ (k : Tables) (d : Desk) (who service characteristic : ℕ) where
       → inOrder table (fronted k small d ++ readRows who service connected encrypted inMind characteristic offset size) ≡ true
   read-order small connected encrypted inMind offset size = refl
 
-  pub write-order : (connected encrypted : Bool) (waiting : ℕ) (value : List ℕ)
-      → inOrder table (fronted k false d ++ writeRows who service connected encrypted waiting characteristic value) ≡ true
-  write-order connected encrypted waiting value = refl
+  pub write-order : (connected encrypted may : Bool) (waiting : ℕ) (value : List ℕ)
+      → inOrder table (fronted k false d ++ writeRows who service connected encrypted may waiting characteristic value) ≡ true
+  write-order connected encrypted may waiting value = refl

@@ -5,15 +5,16 @@ ghost use mathlib.Core.Bool.{true, false};
 ghost use mathlib.Core.List.{_++_};
 ghost use lib.Dec.{ltb};
 ghost use lib.ListN.{length as len};
-ghost use Rattle.ground.specs.Limits.{leastOutput};
+ghost use Rattle.ground.specs.Limits.{mostGroups, leastOutput};
 ghost use Rattle.ground.specs.Lists.{tableAfter};
-ghost use Rattle.catalogue_tables.specs.Tables.{tables};
+ghost use Rattle.catalogue_tables.specs.Tables.{tables, groupCount};
+ghost use Rattle.catalogue_tables.specs.Objects.{trackObjects, groupObjects};
 ghost use Rattle.catalogue_check.specs.Catalogue.{Right};
 ghost use Rattle.player_check.specs.Standing.{playerRule};
 ghost use Rattle.desk_slots.specs.Slots.{clientCount};
 ghost use Rattle.desk_replies.specs.Replies.{Gated, saidOf, leftBy, fronted};
 ghost use Rattle.desk_exchange.specs.Read.{valueNow, readerRows, afterRead, readOctets, readCall};
-ghost use Rattle.desk_exchange.specs.Write.{writerRows, controlLength, lengthRight, numberOf, controlWritten, written, writeCall};
+ghost use Rattle.desk_exchange.specs.Write.{writerRows, controlLength, lengthRight, objectOf, trackAt, groupAt, ownTrack, anyGroup, allowed, numberOf, controlWritten, playerWritten, written, writeCall};
 
 // What a read leaves of the client's account.
 fn after_read(a: desk_client::Account, characteristic: u32, offset: u32) -> desk_client::Account
@@ -64,7 +65,7 @@ fn read_gate(
         return desk_replies::gate_shut(ground::VALUE_CHANGED);
     }
     let p = asked.player;
-    let h = player_values::hold(tracks, text, p, characteristic);
+    let h = player_values::hold(groups, tracks, text, p, characteristic);
     let from = ground::wide_word(offset);
     if h.len < from {
         return desk_replies::gate_shut(ground::BEYOND_END);
@@ -107,7 +108,7 @@ pub fn read(
     let l = desk_state::link_at(d, who);
     let a = desk_state::account_in(s, who);
     let p = s.player;
-    let h = player_values::hold(tracks, text, p, characteristic);
+    let h = player_values::hold(groups, tracks, text, p, characteristic);
     let from = ground::wide_word(offset);
     let most = ground::wide_word(l.mtu - 1);
     let n = player_values::hand(out, h, from, most);
@@ -137,6 +138,77 @@ fn length_right(characteristic: u32, value: &[u8]) -> bool
     value.len() == desk_slots::size_of(characteristic)
 }
 
+// Whether the object of a track of the current group is written, and there is one.
+fn own_track(groups: &[u32], p: player_state::Player, value: &[u8]) -> bool
+    requires { ⌜ 6 ≤ len (now value) ⌝ }
+    ensures { λ r. ⌜ r ≡ ownTrack (now (groups .entry)) p (now (value .entry)) ⌝ }
+{
+    let object = ground::six_at(value, 0);
+    if (p.mode.media == player_state::INACTIVE) | (object < catalogue_tables::TRACK_OBJECTS) {
+        return false;
+    }
+    player_check::in_group(
+        groups,
+        p.place.group,
+        object - catalogue_tables::TRACK_OBJECTS,
+    )
+}
+
+// Whether the object of a group with tracks is written, while there is a current one.
+fn any_group(groups: &[u32], p: player_state::Player, value: &[u8]) -> bool
+    requires { ⌜ 6 ≤ len (now value) ⌝ }
+    requires { ⌜ groupCount (now groups) ≤ mostGroups ⌝ }
+    ensures { λ r. ⌜ r ≡ anyGroup (now (groups .entry)) p (now (value .entry)) ⌝ }
+{
+    let object = ground::six_at(value, 0);
+    if (p.mode.media == player_state::INACTIVE) | (object < catalogue_tables::GROUP_OBJECTS) {
+        return false;
+    }
+    let number = object - catalogue_tables::GROUP_OBJECTS;
+    if ground::MOST_GROUPS <= number {
+        return false;
+    }
+    let g = catalogue_tables::GroupNo(number as u32);
+    player_check::group_right(groups, g)
+}
+
+// Whether a value of the right length may be written.
+fn is_allowed(groups: &[u32], p: player_state::Player, characteristic: u32, value: &[u8]) -> bool
+    requires { ⌜ lengthRight characteristic (now value) ≡ true ⌝ }
+    requires { ⌜ groupCount (now groups) ≤ mostGroups ⌝ }
+    ensures { λ r. ⌜ r ≡ allowed (now (groups .entry)) p characteristic (now (value .entry)) ⌝ }
+{
+    let first = ground::octet_or_zero(value, 0);
+    match characteristic {
+        15 => (1 <= first) & (first <= 8),
+        11 => own_track(groups, p, value),
+        12 => own_track(groups, p, value),
+        14 => any_group(groups, p, value),
+        _ => true,
+    }
+}
+
+// The track and the group of an object that is written.
+fn track_at(value: &[u8]) -> catalogue_tables::TrackNo
+    requires { ⌜ 6 ≤ len (now value) ⌝ }
+    requires { ⌜ (trackObjects ≤ objectOf (now value)) × (trackAt (now value) < 4294967295) ⌝ }
+    ensures { λ r. ⌜ (r .0 ≡ trackAt (now (value .entry))) × (r .0 < 4294967295) ⌝ }
+{
+    let object = ground::six_at(value, 0);
+    let number = object - catalogue_tables::TRACK_OBJECTS;
+    catalogue_tables::TrackNo(number as u32)
+}
+
+fn group_at(value: &[u8]) -> catalogue_tables::GroupNo
+    requires { ⌜ 6 ≤ len (now value) ⌝ }
+    requires { ⌜ (groupObjects ≤ objectOf (now value)) × (groupAt (now value) < 4294967295) ⌝ }
+    ensures { λ r. ⌜ r .0 ≡ groupAt (now (value .entry)) ⌝ }
+{
+    let object = ground::six_at(value, 0);
+    let number = object - catalogue_tables::GROUP_OBJECTS;
+    catalogue_tables::GroupNo(number as u32)
+}
+
 // The refusals of a write.
 fn write_gate(
     groups: &[u32],
@@ -149,7 +221,7 @@ fn write_gate(
     characteristic: u32,
     value: &[u8],
 ) -> desk_replies::Gate
-    ensures { λ r. ⌜ Gated (fronted (tables (now (groups .entry)) (now (tracks .entry)) (now (segments .entry)) (now (text .entry))) false d ++ writerRows d who service characteristic (now (value .entry))) r ⌝ }
+    ensures { λ r. ⌜ Gated (fronted (tables (now (groups .entry)) (now (tracks .entry)) (now (segments .entry)) (now (text .entry))) false d ++ writerRows (tables (now (groups .entry)) (now (tracks .entry)) (now (segments .entry)) (now (text .entry))) d who service characteristic (now (value .entry))) r ⌝ }
 {
     let g = desk_replies::characteristic_gate(
         groups,
@@ -170,12 +242,11 @@ fn write_gate(
     if !length_right(characteristic, value) {
         return desk_replies::gate_shut(ground::BAD_LENGTH);
     }
-    let first = ground::octet_or_zero(value, 0);
-    let order = (1 <= first) & (first <= 8);
-    if (characteristic == 15) & !order {
-        return desk_replies::gate_shut(ground::BAD_ORDER);
-    }
     let s = desk_state::service_at(d, service);
+    let p = s.player;
+    if !is_allowed(groups, p, characteristic, value) {
+        return desk_replies::gate_shut(ground::NOT_ALLOWED);
+    }
     let a = desk_state::account_in(s, who);
     if (characteristic == 18) & (desk_client::MOST_RESULTS <= a.waiting) {
         return desk_replies::gate_shut(ground::TOO_MANY_RESULTS);
@@ -215,10 +286,36 @@ fn control(
     let q = done.player;
     let code = done.result;
     let cause = desk_notices::by_writer(who, 18);
-    let t = desk_notices::settle(tracks, text, s, q, cause);
+    let t = desk_notices::settle(groups, tracks, text, s, q, cause);
     let a = desk_state::account_in(t, who);
     let next = desk_client::note_result(a, opcode, code);
     desk_state::with_account(t, who, next)
+}
+
+// What the player becomes by an allowed write to any but 18.
+fn player_written(
+    groups: &[u32],
+    tracks: &[u32],
+    segments: &[u32],
+    text: &[u8],
+    p: player_state::Player,
+    characteristic: u32,
+    value: &[u8],
+) -> player_state::Player
+    requires { ⌜ Right (tables (now groups) (now tracks) (now segments) (now text)) ⌝ }
+    requires { ⌜ lengthRight characteristic (now value) ≡ true ⌝ }
+    requires { ⌜ allowed (now groups) p characteristic (now value) ≡ true ⌝ }
+    ensures { λ r. ⌜ r ≡ playerWritten (tables (now (groups .entry)) (now (tracks .entry)) (now (segments .entry)) (now (text .entry))) p characteristic (now (value .entry)) ⌝ }
+{
+    let first = ground::octet_or_zero(value, 0);
+    match characteristic {
+        7 => player_moves::write_position(tracks, p, ground::word_at(value, 0)),
+        8 => player_state::with_speed(p, first),
+        11 => player_state::move_to(p, p.place.group, track_at(value)),
+        12 => player_state::name_track(p, track_at(value)),
+        14 => player_moves::write_group(groups, tracks, p, group_at(value)),
+        _ => player_state::with_order(p, first),
+    }
 }
 
 // What a write does.
@@ -235,28 +332,17 @@ fn carry_out(
     requires { ⌜ Right (tables (now groups) (now tracks) (now segments) (now text)) ⌝ }
     requires { ⌜ playerRule (now groups) (now tracks) (s .player) ≡ true ⌝ }
     requires { ⌜ who < clientCount ⌝ }
-    requires { ⌜ (characteristic ≡ 7 → 4 ≤ len (now value)) ⌝ }
+    requires { ⌜ lengthRight characteristic (now value) ≡ true ⌝ }
+    requires { ⌜ allowed (now groups) (s .player) characteristic (now value) ≡ true ⌝ }
     ensures { λ r. ⌜ r ≡ written (tables (now (groups .entry)) (now (tracks .entry)) (now (segments .entry)) (now (text .entry))) s who characteristic (now (value .entry)) ⌝ }
 {
+    if characteristic == 18 {
+        return control(groups, tracks, segments, text, s, who, value);
+    }
     let p = s.player;
-    let first = ground::octet_or_zero(value, 0);
-    if characteristic == 7 {
-        let number = ground::word_at(value, 0);
-        let q = player_moves::write_position(tracks, p, number);
-        let cause = desk_notices::by_writer(who, 7);
-        return desk_notices::settle(tracks, text, s, q, cause);
-    }
-    if characteristic == 8 {
-        let q = player_state::with_speed(p, first);
-        let cause = desk_notices::by_writer(who, 8);
-        return desk_notices::settle(tracks, text, s, q, cause);
-    }
-    if characteristic == 15 {
-        let q = player_state::with_order(p, first);
-        let cause = desk_notices::by_writer(who, 15);
-        return desk_notices::settle(tracks, text, s, q, cause);
-    }
-    control(groups, tracks, segments, text, s, who, value)
+    let q = player_written(groups, tracks, segments, text, p, characteristic, value);
+    let cause = desk_notices::by_writer(who, characteristic);
+    desk_notices::settle(groups, tracks, text, s, q, cause)
 }
 
 // A client writes a characteristic.

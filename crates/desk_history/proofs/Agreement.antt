@@ -127,7 +127,7 @@ quiet-control : (k : Tables) (p q : Player) (cause : Cause) (who : ℕ) → has 
 unfolding dueTo characteristicOf isIn
 quiet-control k p q cause who =
     set-has (λ s. fallsDue (changed (sourceOf k) p q (characteristicOf s)) (trackChanged p q) (characteristicOf s) && not (spared cause who (characteristicOf s))) slotCount controlSlot (omega arith)
-    ∙ none (changed (sourceOf k) p q 18) (trackChanged p q) (not (spared cause who 18)) (changed-unread (k .tracks) (k .text) p q 18 refl)
+    ∙ none (changed (sourceOf k) p q 18) (trackChanged p q) (not (spared cause who 18)) (changed-unread (sourceOf k) p q 18 refl)
   where
     none : (a t s : Bool) → a ≡ false → ((a || (t && false)) && s) ≡ false
     none true t s e = ap (λ (b : Bool). b && s) e

@@ -30,7 +30,7 @@ use Rattle.desk_replies.specs.Replies.{stateRow, stateRight, lentRows, fronted,
 use Rattle.desk_links.specs.Links.{slotRows, connectRows, disconnectRows, connectCall, disconnectCall, slotCall}
 use Rattle.desk_console.specs.Console.{nameRows, activateRows, serviceRows, quietAdvance, nameCall, activateCall, deactivateCall, advanceCall}
 use Rattle.desk_exchange.specs.Read.{readRows, afterRead, readOctets, readCall}
-use Rattle.desk_exchange.specs.Write.{writeRows, written, writeCall}
+use Rattle.desk_exchange.specs.Write.{allowed, writeRows, written, writeCall}
 use Rattle.desk_take.specs.Serving.{nextPlace, handedValues, afterServing}
 use Rattle.desk_take.specs.Take.{nextClient, playersOf, withServed, takenBy, takeCall}
 use Rattle.desk_history.specs.Calls.{Call, take, left}
@@ -135,7 +135,7 @@ module _ (k : Tables) where
   shape {v} (writing who c value) =
       record {
         small = false;
-        rows = λ s l. writeRows who v (l who .connected) (l who .encrypted) (accountIn s who .waiting) c value;
+        rows = λ s l. writeRows who v (l who .connected) (l who .encrypted) (allowed (k .groups) (s .player) c value) (accountIn s who .waiting) c value;
         values = λ s l. [];
         next = λ s l. written k s who c value;
         is = λ d. refl;

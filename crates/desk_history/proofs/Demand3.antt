@@ -1,7 +1,7 @@
--- Demand 3, sentence by sentence: "From a fresh start, with one catalogue throughout and each call given the state the last one left". "Demand 3's 40
--- becomes 80" (document 02, W-208): its sentences are quoted with 80. A history is any list of calls with any arguments, accepted or refused (`Calls`);
--- what it owes to whom is said by the ledger, from the calls and document 01's rules alone (`Ledger`); what the takes hand out is what the desk's contracts
--- say (`History`). Assumes nothing.
+-- Demand 3, sentence by sentence: "From a fresh start, with one catalogue throughout and each call given the state the last one left". "Per client there are
+-- now 28 slots and the bound is 112" (document 02, W-209): its sentences are quoted with 112. A history is any list of calls with any arguments, accepted or
+-- refused (`Calls`); what it owes to whom is said by the ledger, from the calls and document 01's rules alone (`Ledger`); what the takes hand out is what the
+-- desk's contracts say (`History`). Assumes nothing.
 use mathlib.Core.Path.{_≡_, refl, sym, ap, _∙_, subst}
 use mathlib.Core.Bool.{Bool, true, false, not, _&&_}
 use mathlib.Core.Logic.{_↔_}
@@ -22,7 +22,7 @@ use Rattle.desk_slots.specs.Slots.{slotCount, serviceCount, placeCount, clientC
 use Rattle.desk_slots.proofs.NextLaws.{next-nearest}
 use Rattle.desk_slots.proofs.PlaceLaws.{place-there}
 use Rattle.desk_client.specs.Client.{controlSlot}
-use Rattle.desk_slots.specs.Characteristics.{thirteen, readables, isIn}
+use Rattle.desk_slots.specs.Characteristics.{everyOne, readables, isIn}
 use Rattle.player_values.specs.Values.{sourceOf, valueOf}
 use Rattle.desk_replies.specs.Replies.{stateRight, ofCaller, ofCharacteristic, accountOf}
 use Rattle.desk_console.specs.Console.{Beginning}
@@ -41,24 +41,24 @@ use Rattle.desk_history.proofs.InTime.{many-in-time}
 use Rattle.desk_history.proofs.Reached.{Counted, counted, others, waiting, others-served, ledger-is, name-owed, name-wanted, stays-takes, one-track-right, no-name-right}
 use Rattle.desk_history.proofs.Order.{in-order, oldest-first, own-writes}
 
--- "by the 80th", "by the 80·k-th": four clients with slots "running through the generic service and then the other, twenty in all"
-pub eighty : bound ≡ 80
-eighty = refl
+-- "by the 112th", "by the 112·k-th": four clients, each with 14 slots "running through the generic service and then the other" (document 02, W-208)
+pub hundred-twelve : bound ≡ 112
+hundred-twelve = refl
 
-pub twenty : placeCount ≡ 20
-twenty = refl
+pub twenty-eight : placeCount ≡ 28
+twenty-eight = refl
 
--- and 80 is reached: in this history client 3 is owed the generic service's name and stays subscribed, 79 takes are answered, and none of them hands it the
--- name
-pub eighty-reached : (owes (ledgerAt oneTrack plain plain reachedHistory .service 0 .account 3) 0 ≡ true)
-    × Stays oneTrack plain plain 3 0 0 reachedHistory (takes 79)
-    × (length (given oneTrack plain plain reachedHistory (takes 79)) ≡ 79)
-    × (countFor 3 (placeOf 0 0) (given oneTrack plain plain reachedHistory (takes 79)) ≡ 0)
-eighty-reached =
+-- and 112 is reached: in this history client 3 is owed the generic service's name and stays subscribed, 111 takes are answered, and none of them hands it
+-- the name
+pub hundred-twelve-reached : (owes (ledgerAt oneTrack plain plain reachedHistory .service 0 .account 3) 0 ≡ true)
+    × Stays oneTrack plain plain 3 0 0 reachedHistory (takes 111)
+    × (length (given oneTrack plain plain reachedHistory (takes 111)) ≡ 111)
+    × (countFor 3 (placeOf 0 0) (given oneTrack plain plain reachedHistory (takes 111)) ≡ 0)
+hundred-twelve-reached =
     let n = subst (Counted oneTrack 3 0 others) (sym ledger-is) (counted oneTrack 3 0 others waiting others-served) in
-    let e = given-is oneTrack one-track-right plain plain no-name-right no-name-right reachedHistory (takes 79) in (
+    let e = given-is oneTrack one-track-right plain plain no-name-right no-name-right reachedHistory (takes 111) in (
       ap (λ (L : Ledger). owes (L .service 0 .account 3) 0) ledger-is ∙ name-owed,
-      stays-takes oneTrack plain plain 79 3 0 0 reachedHistory (ap (λ (L : Ledger). L .service 0 .account 3 .wants 0) ledger-is ∙ name-wanted),
+      stays-takes oneTrack plain plain 111 3 0 0 reachedHistory (ap (λ (L : Ledger). L .service 0 .account 3 .wants 0) ledger-is ∙ name-wanted),
       ap length e ∙ n .0,
       ap (countFor 3 0) e ∙ n .1,
     )
@@ -79,19 +79,19 @@ module _ (k : Tables) (right : catalogueRule k ≡ true) (gen nam : Beginning) (
   pub stands-always : (h : List Call) → stateRight k (deskAt k gen nam h) ≡ true
   stands-always h = ok k right gen nam gt nt h .1
 
-  -- "while a client stays connected and subscribed, a value owed to it is handed out by the 80th answered take from when it fell due"
-  pub value-by-the-80th : (who v s : ℕ) → who < clientCount → v < serviceCount → s < slotCount → (h ks : List Call) → Stays k gen nam who v s h ks
+  -- "while a client stays connected and subscribed, a value owed to it is handed out by the 112th answered take from when it fell due"
+  pub value-by-the-112th : (who v s : ℕ) → who < clientCount → v < serviceCount → s < slotCount → (h ks : List Call) → Stays k gen nam who v s h ks
       → owed who v s h ≡ true → bound ≤ length (given k gen nam h ks) → 1 ≤ countFor who (placeOf v s) (firsts bound (given k gen nam h ks))
-  value-by-the-80th who v s client service slot h ks stays due enough =
+  value-by-the-112th who v s client service slot h ks stays due enough =
       many-in-time k right gen nam gt nt who v s client service slot h ks stays 1 (owes-to (ledger h .service v .account who) s due) enough
 
-  -- "and its result at place k of its waiting results by the 80·k-th, though the other clients write without pause": the first j results of a service that
+  -- "and its result at place k of its waiting results by the 112·k-th, though the other clients write without pause": the first j results of a service that
   -- it is then handed are the j oldest that waited there, in their order
-  pub results-by-80-each : (who v : ℕ) → who < clientCount → v < serviceCount → (h ks : List Call) → Stays k gen nam who v controlSlot h ks
+  pub results-by-112-each : (who v : ℕ) → who < clientCount → v < serviceCount → (h ks : List Call) → Stays k gen nam who v controlSlot h ks
       → (j : ℕ) → j ≤ length (shown (ledger h .service v .account who .waiting)) → bound * j ≤ length (given k gen nam h ks)
       → (j ≤ countFor who (placeOf v controlSlot) (firsts (bound * j) (given k gen nam h ks)))
       × (firsts j (handoutsTo who v controlSlot (firsts (bound * j) (given k gen nam h ks))) ≡ firsts j (shown (ledger h .service v .account who .waiting)))
-  results-by-80-each who v client service h ks stays j place enough =
+  results-by-112-each who v client service h ks stays j place enough =
       let timely = many-in-time k right gen nam gt nt who v controlSlot client service (omega arith) h ks stays j (results-backlog (ledger h .service v .account who) j place) enough in
       (timely, oldest-first k right gen nam gt nt who v client h ks stays j (bound * j) place timely)
 
@@ -119,7 +119,7 @@ module _ (k : Tables) (right : catalogueRule k ≡ true) (gen nam : Beginning) (
       × (ltb 0 offset ≡ true) × (ledger h .service v .account who .mind c ≡ false))
   stale-read h who v c offset room =
       let e = read-number k right (ledger h) (deskAt k gen nam h) (ok k right gen nam gt nt h) who v c offset room in
-      let f = first-80 (ltb room leastOutput) (leb clientCount who) (leb serviceCount v) (not (ledger h .link who .on)) (not (isIn thirteen c)) (not (isIn readables c)) (not (ledger h .link who .safe)) (ltb 0 offset) (ledger h .service v .account who .mind c) (ltb (length (valueOf (sourceOf k) (ledger h .service v .player) c)) offset) in
+      let f = first-80 (ltb room leastOutput) (leb clientCount who) (leb serviceCount v) (not (ledger h .link who .on)) (not (isIn everyOne c)) (not (isIn readables c)) (not (ledger h .link who .safe)) (ltb 0 offset) (ledger h .service v .account who .mind c) (ltb (length (valueOf (sourceOf k) (ledger h .service v .player) c)) offset) in
       ((λ q. f .0 (sym e ∙ q)), (λ q. e ∙ f .1 q))
 
   -- "A value handed out is the present one": its first ATT_MTU − 3 octets, or the oldest result, of the service of the place; "and nothing is handed out that

@@ -5,23 +5,19 @@ use mathlib.Core.Logic.{_↔_, ⊎-elim}
 use mathlib.Core.List.{List, [], _∷_, _++_}
 use Prim.Native.Nat.{ℕ, _≤_, _<_}
 use native.Mathlib.Omega.{arith}
-use borrow.Author.Tests.{eq-eqb, ne-eqb, eqb-true, eqb-false, le-leb, leb-true, leb-false, not-false}
+use borrow.Author.Tests.{le-leb, leb-false, not-false}
 use lib.Dec.{eqb, ltb, leb}
 use lib.ListN.{length, length-take}
 use Rattle.ground.specs.Cases.{pick, within, has}
-use Rattle.ground.specs.Words.{wordAt}
-use Rattle.ground.proofs.Cases.{and-left, and-right, clash, le-or, true-or}
+use Rattle.ground.proofs.Cases.{clash, le-or, true-or}
 use Rattle.catalogue_tables.specs.Tables.{Tables}
 use Rattle.catalogue_check.specs.Catalogue.{catalogueRule, catalogueRow}
 use Rattle.catalogue_check.proofs.Laws.{is-right}
 use Rattle.player_state.specs.declared.Player.{Player}
-use Rattle.player_state.specs.Player.{withOrder, withSpeed}
-use Rattle.player_check.specs.Standing.{playerRule}
 use Rattle.player_moves.specs.Control.{controlled}
-use Rattle.player_moves.specs.Clock.{positioned}
 use Rattle.player_moves.proofs.Alone.{result-values}
 use Rattle.player_moves.proofs.Ready.{shaped}
-use Rattle.player_moves.proofs.Kept.{kept-order, kept-speed, kept-positioned, kept-controlled}
+use Rattle.player_moves.proofs.Kept.{kept-controlled}
 use Rattle.desk_slots.specs.Slots.{serviceCount, clientCount}
 use Rattle.desk_slots.specs.Characteristics.{readables, writables, isIn}
 use Rattle.desk_slots.proofs.SetLaws.{in-below}
@@ -41,8 +37,9 @@ use Rattle.desk_state.specs.Desk.{linkAt, serviceAt, accountIn}
 use Rattle.desk_notices.specs.Owed.{byWriter}
 use Rattle.desk_replies.specs.Replies.{fronted, connectedRow, ofCharacteristic, linkOf, accountOf}
 use Rattle.player_values.specs.Values.{sourceOf, valueOf}
+use Rattle.desk_exchange.proofs.Written.{kept-written}
 use Rattle.desk_exchange.specs.Read.{valueNow, readerRows, afterRead, readOctets, readCall}
-use Rattle.desk_exchange.specs.Write.{firstOctet, lengthRight, writeRows, writerRows, numberOf, becomingBy, outcomeOf, controlWritten, written, writeCall}
+use Rattle.desk_exchange.specs.Write.{firstOctet, lengthRight, allowed, writeRows, writerRows, numberOf, becomingBy, outcomeOf, controlWritten, playerWritten, written, writeCall}
 use Rattle.desk_history.specs.Ledger.{Claims, Book, Ledger, inService, changing, becoming, reading, resulting, rowsOfRead, mayRead, mayWrite, outcome, resultOf, controlWriting, writing}
 use Rattle.desk_history.specs.Stored.{LikeLink, LikeAccount}
 use Rattle.desk_history.proofs.Likeness.{like-read, like-resulted}
@@ -126,38 +123,19 @@ module _ (k : Tables) (right : catalogueRule k ≡ true) (links : List Link) (b 
           (ap code (ok .0 .player)) (like-resulted (b1 .account who) own like1 opcode (code (s .player)) room1)
 
   -- a write to a service, by what it is told of the characteristic
-  written-step : (c : ℕ) → who < clientCount → linkAt links who .connected ≡ true → (eqb c 15 ≡ true → within 1 8 (firstOctet value) ≡ true)
-      → (eqb c 7 ≡ false → eqb c 8 ≡ false → eqb c 15 ≡ false → length (b .account who .waiting) < mostResults)
-      → OkService k links (writing k who c value b) (written k s who c value)
+  written-step : (c : ℕ) → who < clientCount → linkAt links who .connected ≡ true → isIn writables c ≡ true → allowed (k .groups) (b .player) c value ≡ true
+      → (eqb c 18 ≡ true → length (b .account who .waiting) < mostResults) → OkService k links (writing k who c value b) (written k s who c value)
   unfolding written
-  written-step c h on order room = go (eqb c 7) refl (eqb c 8) refl (eqb c 15) refl
+  written-step c h on writable may room = go (eqb c 18) refl
     where
-      ofBook : Bool → Bool → Bool → Book
-      ofBook x y z =
-          pick x (becoming k (byWriter who 7) (positioned (k .tracks) (wordAt value 0) (b .player)) b)
-          (pick y (becoming k (byWriter who 8) (withSpeed (firstOctet value) (b .player)) b)
-          (pick z (becoming k (byWriter who 15) (withOrder (firstOctet value) (b .player)) b)
-          (controlWriting k who value b)))
-
-      ofService : Bool → Bool → Bool → Service
-      ofService x y z =
-          pick x (becomingBy k s who 7 (positioned (k .tracks) (wordAt value 0) (s .player)))
-          (pick y (becomingBy k s who 8 (withSpeed (firstOctet value) (s .player)))
-          (pick z (becomingBy k s who 15 (withOrder (firstOctet value) (s .player)))
-          (controlWritten k s who value)))
-
-      right-player : playerRule (k .groups) (k .tracks) (s .player) ≡ true
-      right-player = fine k links b s ok
-
-      go : (x : Bool) → eqb c 7 ≡ x → (y : Bool) → eqb c 8 ≡ y → (z : Bool) → eqb c 15 ≡ z → OkService k links (ofBook x y z) (ofService x y z)
-      go true p y q z r = ok-becoming k links b s ok (λ t. byWriter who 7) (positioned (k .tracks) (wordAt value 0)) (kept-positioned (k .groups) (k .tracks) (s .player) right-player (wordAt value 0))
-      go false p true q z r = ok-becoming k links b s ok (λ t. byWriter who 8) (withSpeed (firstOctet value)) (kept-speed (k .groups) (k .tracks) (s .player) right-player (firstOctet value))
-      go false p false q true r =
-          let w = order r in
-          ok-becoming k links b s ok (λ t. byWriter who 15) (withOrder (firstOctet value))
-          (kept-order (k .groups) (k .tracks) (s .player) right-player (firstOctet value)
-          (leb-true 1 (firstOctet value) (and-left (leb 1 (firstOctet value)) (leb (firstOctet value) 8) w)) (leb-true (firstOctet value) 8 (and-right (leb 1 (firstOctet value)) (leb (firstOctet value) 8) w)))
-      go false p false q false r = control-step h on (room p q r)
+      go : (t : Bool) → eqb c 18 ≡ t
+          → OkService k links (pick t (controlWriting k who value b) (becoming k (byWriter who c) (playerWritten k (b .player) c value) b))
+          (pick t (controlWritten k s who value) (becomingBy k s who c (playerWritten k (s .player) c value)))
+      go true e = control-step h on (room e)
+      go false e =
+          ok-becoming k links b s ok (λ p. byWriter who c) (λ p. playerWritten k p c value)
+          (kept-written k (is-right k right) (s .player) (fine k links b s ok) value c writable e
+          (subst (λ (p : Player). allowed (k .groups) p c value ≡ true) (sym (ok .0 .player)) may))
 
 module _ (k : Tables) (right : catalogueRule k ≡ true) (L : Ledger) (d : Desk) (ok : Ok k L d) where
   -- ---- a read: what its rows say is what they say of what the ledger knows
@@ -263,27 +241,29 @@ module _ (k : Tables) (right : catalogueRule k ≡ true) (L : Ledger) (d : Desk)
           pick wrong (refusedWith (catalogueRow k .number) (catalogueRow k .values)) (pick (ltb room leastOutput) (refused 205) (pick fallen (refused 201) (saidBy rows)))
 
   -- ---- a write: accepted exactly where the ledger's rows accept
-  write-rows : (who v c : ℕ) (value : List ℕ) → accepted (writerRows d who v c value) ≡ mayWrite L who v c value
+  write-rows : (who v c : ℕ) (value : List ℕ) → accepted (writerRows k d who v c value) ≡ mayWrite k L who v c value
   write-rows who v c value =
-      caller-rows k right L d ok who v (rest (linkOf d who .connected) (linkOf d who .encrypted) (accountOf d who v .waiting)) (rest (L .link who .on) (L .link who .safe) (length (L .service v .account who .waiting)))
+      caller-rows k right L d ok who v
+      (rest (linkOf d who .connected) (linkOf d who .encrypted) (serviceAt d v .player) (accountOf d who v .waiting))
+      (rest (L .link who .on) (L .link who .safe) (L .service v .player) (length (L .service v .account who .waiting)))
       (λ h t.
       let l = like-link k right L d ok who h in
       let many = as-many (L .service v .account who) (linkOf d who) (accountOf d who v) (ok .0 .service v t .account who h) (fits k (d .links) (L .service v) (serviceAt d v) (inside k right L d ok v t) who h) in
-      λ i. accepted (rest (l .on i) (l .safe i) (sym many i)))
+      λ i. accepted (rest (l .on i) (l .safe i) (ok .0 .service v t .player i) (sym many i)))
     where
-      rest : Bool → Bool → ℕ → List Row
-      rest on safe waiting =
+      rest : Bool → Bool → Player → ℕ → List Row
+      rest on safe p waiting =
           connectedRow on
           ∷ (ofCharacteristic safe c 0x03 (isIn writables c)
-          ++ (row 0x0D (not (lengthRight c value)) ∷ row 0x13 (eqb c 15 && not (within 1 8 (firstOctet value))) ∷ row 0x11 (eqb c 18 && leb mostResults waiting) ∷ []))
+          ++ (row 0x0D (not (lengthRight c value)) ∷ row 0x13 (not (allowed (k .groups) p c value)) ∷ row 0x11 (eqb c 18 && leb mostResults waiting) ∷ []))
 
   -- what an accepted write tells
-  module _ (who v c : ℕ) (value : List ℕ) (may : mayWrite L who v c value ≡ true) where
+  module _ (who v c : ℕ) (value : List ℕ) (may : mayWrite k L who v c value ≡ true) where
     abbrev waiting : ℕ
     waiting = length (L .service v .account who .waiting)
 
-    passed : NoneApplies (writeRows who v (L .link who .on) (L .link who .safe) waiting c value)
-    passed = none-of (writeRows who v (L .link who .on) (L .link who .safe) waiting c value) may
+    passed : NoneApplies (writeRows who v (L .link who .on) (L .link who .safe) (allowed (k .groups) (L .service v .player) c value) waiting c value)
+    passed = none-of (writeRows who v (L .link who .on) (L .link who .safe) (allowed (k .groups) (L .service v .player) c value) waiting c value) may
 
     w-there : who < clientCount
     w-there = leb-false clientCount who (passed .0)
@@ -297,40 +277,19 @@ module _ (k : Tables) (right : catalogueRule k ≡ true) (L : Ledger) (d : Desk)
     w-in : isIn writables c ≡ true
     w-in = not-false _ (passed .1 .1 .1 .1 .0)
 
-    -- an order is 1 to 8
-    w-order : eqb c 15 ≡ true → within 1 8 (firstOctet value) ≡ true
-    w-order e = between (within 1 8 (firstOctet value)) (sym (λ i. e i && not (within 1 8 (firstOctet value))) ∙ passed .1 .1 .1 .1 .1 .1 .1 .0)
-      where
-        between : (b : Bool) → not b ≡ false → b ≡ true
-        between true q = refl
-        between false q = sym q
-
-    -- what may be written and is none of 7, 8, 15 is 18
-    w-control : eqb c 7 ≡ false → eqb c 8 ≡ false → eqb c 15 ≡ false → eqb c 18 ≡ true
-    unfolding isIn
-    w-control p q r =
-        eq-eqb c 18 (sym (eqb-true 18 c (only (eqb 7 c) (eqb 8 c) (eqb 15 c) (eqb 18 c) (flip 7 p) (flip 8 q) (flip 15 r) w-in)))
-      where
-        flip : (n : ℕ) → eqb c n ≡ false → eqb n c ≡ false
-        flip n h = ne-eqb n c (λ e. eqb-false c n h (sym e))
-
-        only : (a b g t : Bool) → a ≡ false → b ≡ false → g ≡ false → (a || (b || (g || (t || false)))) ≡ true → t ≡ true
-        only true b g t x y z h = clash (sym x)
-        only false true g t x y z h = clash (sym y)
-        only false false true t x y z h = clash (sym z)
-        only false false false true x y z h = refl
-        only false false false false x y z h = h
+    w-allowed : allowed (k .groups) (L .service v .player) c value ≡ true
+    w-allowed = not-false _ (passed .1 .1 .1 .1 .1 .1 .1 .0)
 
     -- a control write finds room for its result
-    w-room : eqb c 7 ≡ false → eqb c 8 ≡ false → eqb c 15 ≡ false → waiting < mostResults
-    w-room p q r = leb-false mostResults waiting (sym (λ i. w-control p q r i && leb mostResults waiting) ∙ passed .1 .1 .1 .1 .1 .1 .1 .1 .0)
+    w-room : eqb c 18 ≡ true → waiting < mostResults
+    w-room e = leb-false mostResults waiting (sym (λ i. e i && leb mostResults waiting) ∙ passed .1 .1 .1 .1 .1 .1 .1 .1 .0)
 
-  pub write-step : (who v c : ℕ) (value : List ℕ) → Ok k (pick (mayWrite L who v c value) (inService v (writing k who c value) L) L) (writeCall k d who v c value .state)
+  pub write-step : (who v c : ℕ) (value : List ℕ) → Ok k (pick (mayWrite k L who v c value) (inService v (writing k who c value) L) L) (writeCall k d who v c value .state)
   unfolding writeCall
   write-step who v c value =
-      ok-call k right L d ok false (mayWrite L who v c value) (writerRows d who v c value) _ (inService v (writing k who c value) L) (write-rows who v c value)
+      ok-call k right L d ok false (mayWrite k L who v c value) (writerRows k d who v c value) _ (inService v (writing k who c value) L) (write-rows who v c value)
       (λ e.
       let t = w-service who v c value e in
       ok-service k right L d ok v t (writing k who c value) _
       (written-step k right (d .links) (L .service v) (serviceAt d v) (inside k right L d ok v t) who value c
-      (w-there who v c value e) (w-on who v c value e) (w-order who v c value e) (w-room who v c value e)))
+      (w-there who v c value e) (w-on who v c value e) (w-in who v c value e) (w-allowed who v c value e) (w-room who v c value e)))

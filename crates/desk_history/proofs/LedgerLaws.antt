@@ -12,12 +12,11 @@ use borrow.Author.Tests.{eq-eqb, ne-eqb, eqb-true, leb-false}
 use lib.Dec.{eqb, leb}
 use lib.ListN.{length, length-append}
 use Rattle.ground.specs.Cases.{pick}
-use Rattle.ground.specs.Words.{wordAt}
 use Rattle.ground.proofs.Cases.{clash}
 use Rattle.catalogue_tables.specs.Tables.{Tables}
 use Rattle.player_state.specs.declared.Player.{Player}
-use Rattle.player_state.specs.Player.{renamed, deactivated, withOrder, withSpeed}
-use Rattle.player_moves.specs.Clock.{advanced, positioned, activated}
+use Rattle.player_state.specs.Player.{renamed, deactivated}
+use Rattle.player_moves.specs.Clock.{advanced, activated}
 use Rattle.ground.specs.Refusals.{accepted}
 use Rattle.desk_slots.specs.Slots.{placeCount, clientCount, slotOf, placeOf, serviceOf, slotAt}
 use Rattle.desk_slots.specs.Round.{dist}
@@ -28,7 +27,7 @@ use Rattle.desk_client.specs.Client.{controlSlot}
 use Rattle.desk_notices.specs.declared.Cause.{Cause}
 use Rattle.desk_notices.specs.Owed.{noWriter, byWriter}
 use Rattle.desk_console.specs.Console.{nameRows, activateRows, serviceRows, quietAdvance}
-use Rattle.desk_exchange.specs.Write.{firstOctet}
+use Rattle.desk_exchange.specs.Write.{playerWritten}
 use Rattle.desk_history.specs.Calls.{Call, setName, activate, deactivate, advance, connect, disconnect, subscribe, unsubscribe, read, write, take}
 use Rattle.desk_history.specs.Ledger.{Line, Claims, Book, Ledger, noClaims, lineOf, noLine, inService, changing, relinking, mayConnect, mayLeave, mayJoin, mayRead, mayWrite, mayTake, noticing, becoming, joining, leaving, reading, resulting, behind, serving, passing, owedAt, owedAny, nextIn, placeIn, servingAt, outcome, resultOf, controlWriting, writing, after}
 use Rattle.desk_history.specs.Rounds.{Handout, isFor, System, Laws}
@@ -108,10 +107,8 @@ module _ (c s : ℕ) where
 
   in-writing : (k : Tables) (who x : ℕ) (value : List ℕ) (b : Book) → WantsIn (writing k who x value b) → HeldIn b (writing k who x value b)
   in-writing k who x value b =
-      in-either (eqb x 7) b (becoming k (byWriter who 7) (positioned (k .tracks) (wordAt value 0) (b .player)) b) _ (λ h. in-becoming k _ _ b)
-      (in-either (eqb x 8) b (becoming k (byWriter who 8) (withSpeed (firstOctet value) (b .player)) b) _ (λ h. in-becoming k _ _ b)
-      (in-either (eqb x 15) b (becoming k (byWriter who 15) (withOrder (firstOctet value) (b .player)) b) (controlWriting k who value b) (λ h. in-becoming k _ _ b)
-      control))
+      in-either (eqb x 18) b (controlWriting k who value b) (becoming k (byWriter who x) (playerWritten k (b .player) x value) b) control
+      (λ h. in-becoming k (byWriter who x) (playerWritten k (b .player) x value) b)
     where
       control : WantsIn (controlWriting k who value b) → HeldIn b (controlWriting k who value b)
       control h =
@@ -180,7 +177,7 @@ module _ (k : Tables) (c v s : ℕ) where
   still (subscribe who w x) L e = still-changing c v s (mayJoin L who w x) w who (joining (slotOf x)) L (λ y h. le-refl _)
   still (unsubscribe who w x) L e = still-changing c v s (mayJoin L who w x) w who (leaving (slotOf x)) L (λ y. held-leaving s y (slotOf x))
   still (read who w x offset room) L e = still-changing c v s (mayRead k L who w x offset room) w who (reading x offset) L (λ y h. le-refl _)
-  still (write who w x value) L e = still-in c v s (mayWrite L who w x value) w (writing k who x value) L (in-writing c s k who x value)
+  still (write who w x value) L e = still-in c v s (mayWrite k L who w x value) w (writing k who x value) L (in-writing c s k who x value)
   still (take room) L e = λ h. go (mayTake room) (leb clientCount (nextIn L)) e
     where
       go : (t u : Bool) → pick t (pick u none (some (answerIn k L (nextIn L)))) none ≡ none
@@ -405,7 +402,7 @@ module _ (k : Tables) where
   marks (subscribe who w x) L e = marks-in (mayJoin L who w x) w (changing who (joining (slotOf x))) L
   marks (unsubscribe who w x) L e = marks-in (mayJoin L who w x) w (changing who (leaving (slotOf x))) L
   marks (read who w x offset room) L e = marks-in (mayRead k L who w x offset room) w (changing who (reading x offset)) L
-  marks (write who w x value) L e = marks-in (mayWrite L who w x value) w (writing k who x value) L
+  marks (write who w x value) L e = marks-in (mayWrite k L who w x value) w (writing k who x value) L
   marks (take room) L e = go (mayTake room) (leb clientCount (nextIn L)) e
     where
       go : (t u : Bool) → pick t (pick u none (some (answerIn k L (nextIn L)))) none ≡ none → Marks L (pick t (pick u L (servingNext L)) L)

@@ -13,4 +13,5 @@ pub mod Order
 pub mod InTime
 pub mod Reached
 pub mod Apart
+pub mod Names
 pub mod Demand3

@@ -196,7 +196,7 @@ module _ (k : Tables) (right : catalogueRule k ≡ true) (gen nam : Beginning) (
   one-or-none (subscribe c w x) h = inl refl
   one-or-none (unsubscribe c w x) h = inl refl
   one-or-none (read c w x offset room) h = inl refl
-  one-or-none (write c w x value) h = go (mayWrite (L h) c w x value) (eqb who c && (eqb v w && (eqb x 18 && L h .service v .account who .wants controlSlot)))
+  one-or-none (write c w x value) h = go (mayWrite k (L h) c w x value) (eqb who c && (eqb v w && (eqb x 18 && L h .service v .account who .wants controlSlot)))
     where
       R : Bool → Bool → Lists
       R t u = pick t (pick u (resultOctets (resultOf k (L h .service v) value) ∷ []) []) []

@@ -11,10 +11,12 @@ use lib.ListN.{length}
 use Rattle.ground.specs.Cases.{pick, has}
 use Rattle.ground.specs.Lists.{allBelow, sumBelow}
 use Rattle.ground.specs.Refusals.{accepted}
+use Rattle.ground.specs.Words.{sixOctets}
 use Rattle.ground.proofs.Cases.{and-left, and-right}
 use Rattle.catalogue_tables.specs.Tables.{Tables, startsOf, titleOf}
 use Rattle.catalogue_rules.specs.Rules.{sizesRule, parentsRule, follow, trackRunsRule, segmentRunsRule, durationsRule, beginRule, riseRule, belowRule, startsRule, titlesPlacedRule, titlesTextRule}
 use Rattle.catalogue_check.specs.Catalogue.{plainRule, catalogueRule}
+use Rattle.player_walk.specs.Steps.{moveIn}
 use Rattle.player_orders.specs.Order.{ordered, tracksInOrder}
 use Rattle.player_state.specs.Player.{renamed, startedPlayer}
 use Rattle.player_state.specs.Modes.{forwarded}
@@ -24,14 +26,14 @@ use Rattle.player_opcodes.specs.Opcodes.{maskBit, offered, actionOf, parameterL
 use Rattle.desk_slots.specs.Table.{sizeOf}
 use Rattle.desk_slots.specs.Round.{first, next}
 use Rattle.desk_slots.specs.Characteristics.{isIn}
-use Rattle.desk_exchange.specs.Write.{lengthRight, controlLength}
-use Rattle.player_moves.specs.Moves.{entryOf}
+use Rattle.desk_exchange.specs.Write.{lengthRight, controlLength, allowed, playerWritten}
+use Rattle.player_moves.specs.Moves.{trackAfter, nextTrack, entryOf}
 use Rattle.player_moves.specs.Control.{acted, controlled}
 use Rattle.player_moves.specs.Clock.{activated}
 use Rattle.desk_slots.specs.Slots.{placeCount, clientCount, slotOf, characteristicOf, serviceOf, slotAt}
 use Rattle.desk_notices.specs.Changes.{sameOctets, changed, trackNumber, trackChanged}
 use Rattle.desk_notices.specs.Owed.{spared, noWriter}
-use Rattle.player_values.specs.Values.{wordOctets, titleValue, durationValue, positionValue, valueOf}
+use Rattle.player_values.specs.Values.{wordOctets, titleValue, durationValue, positionValue, trackNow, nextNow, parentNow, groupNow, objectOctets, valueOf}
 use Rattle.desk_console.specs.Console.{Beginning, freshly, nameRows, activateRows}
 use Rattle.desk_history.specs.Calls.{Call, setName, activate, deactivate, advance, connect, disconnect, subscribe, unsubscribe, read, write, take}
 use Rattle.desk_history.specs.Ledger.{Ledger, opening, lineOf, inService, changing, relinking, becoming, joining, serving, owes, anyBelow, owedAny, nextIn, placeIn, servingAt, taking, mayConnect, mayJoin, mayWrite, mayTake, writing, after}
@@ -65,7 +67,7 @@ module _ (k : Tables) where
   fits (subscribe who v c) L = mayJoin L who v c
   fits (unsubscribe who v c) L = true
   fits (read who v c offset room) L = true
-  fits (write who v c value) L = mayWrite L who v c value
+  fits (write who v c value) L = mayWrite k L who v c value
   fits (take room) L = true
 
   after-is : (c : Call) (L : Ledger) → fits c L ≡ true → after k c L ≡ sure c L
@@ -164,7 +166,7 @@ abbrev changes : List Call
 changes = everything 0 ++ everything 1
 
 all-changes : fitAll oneTrack changes there ≡ true
-unfolding slotOf isIn lengthRight controlLength sizeOf parameterLength maskBit textRule groupRule textOf textFrom charOf
+unfolding slotOf isIn lengthRight controlLength allowed sizeOf parameterLength maskBit textRule groupRule textOf textFrom charOf
 all-changes = refl
 
 abbrev round : ℕ → List (ℕ × ℕ)
@@ -198,7 +200,7 @@ abbrev pub others : List (ℕ × ℕ)
 others = rounds 1 (placeCount - 1) ++ ((0, 0) ∷ (1, 0) ∷ (2, 0) ∷ [])
 
 pub name-owed : owes (waiting .service 0 .account 3) 0 ≡ true
-unfolding serviceOf slotAt slotOf changed sameOctets valueOf characteristicOf startedPlayer renamed spared controlled activated entryOf offered maskBit has tracksInOrder ordered acted actionOf forwarded
+unfolding serviceOf slotAt slotOf changed sameOctets valueOf characteristicOf startedPlayer renamed spared playerWritten controlled activated entryOf offered maskBit has tracksInOrder ordered acted actionOf forwarded
 name-owed = refl
 
 pub name-wanted : waiting .service 0 .account 3 .wants 0 ≡ true
@@ -206,7 +208,7 @@ unfolding slotOf serviceOf
 name-wanted = refl
 
 pub others-served : serveAll oneTrack others waiting ≡ true
-unfolding nextIn placeIn owedAny anyBelow next first serviceOf slotAt slotOf isIn changed sameOctets valueOf characteristicOf startedPlayer renamed spared titleValue durationValue positionValue wordOctets trackChanged trackNumber activated entryOf controlled offered maskBit has tracksInOrder ordered acted actionOf forwarded titleOf
+unfolding nextIn placeIn owedAny anyBelow next first serviceOf slotAt slotOf isIn changed sameOctets valueOf characteristicOf startedPlayer renamed spared titleValue durationValue positionValue trackNow nextNow parentNow groupNow wordOctets objectOctets sixOctets trackChanged trackNumber playerWritten activated entryOf controlled offered maskBit has nextTrack trackAfter moveIn tracksInOrder ordered acted actionOf forwarded titleOf
 others-served = refl
 
 -- ---- the ledger after it

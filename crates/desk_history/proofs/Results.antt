@@ -1,27 +1,24 @@
 -- What a call does to the results that wait for a client at a service: it adds the result of the client's own write behind them, hands out the oldest, drops
 -- them, or leaves them. Assumes nothing.
 use mathlib.Core.Path.{_≡_, refl, sym, ap, _∙_, subst}
-use mathlib.Core.Bool.{Bool, true, false, not, _&&_, _||_, true≢false}
+use mathlib.Core.Bool.{Bool, true, false, not, _&&_, true≢false}
 use mathlib.Core.Option.{none, some}
 use mathlib.Core.List.{List, [], _∷_, _++_, append-nil}
 use Prim.Native.Nat.{ℕ, _+_, _-_, _*_, _≤_}
 use native.Mathlib.Decide.{ℕ-discrete}
 use native.Mathlib.Omega.{arith}
-use borrow.Author.Tests.{eq-eqb, ne-eqb, eqb-true, eqb-false, leb-false, not-false}
+use borrow.Author.Tests.{eq-eqb, ne-eqb, leb-false}
 use lib.Dec.{eqb, leb}
-use lib.ListN.{length, take as firsts}
+use lib.ListN.{take as firsts}
 use lib.Seq.{take-all}
 use Rattle.ground.specs.Cases.{pick}
 use Rattle.ground.specs.Refusals.{accepted}
-use Rattle.ground.specs.Words.{wordAt}
-use Rattle.ground.proofs.Cases.{past, here, clash, and-fails}
-use Rattle.ground.proofs.Rows.{none-of}
+use Rattle.ground.proofs.Cases.{here, clash, and-fails}
 use Rattle.catalogue_tables.specs.Tables.{Tables}
 use Rattle.player_state.specs.declared.Player.{Player}
-use Rattle.player_state.specs.Player.{renamed, deactivated, withOrder, withSpeed}
-use Rattle.player_moves.specs.Clock.{advanced, positioned, activated}
+use Rattle.player_state.specs.Player.{renamed, deactivated}
+use Rattle.player_moves.specs.Clock.{advanced, activated}
 use Rattle.desk_slots.specs.Slots.{slotCount, clientCount, slotOf, characteristicOf, placeOf, serviceOf, slotAt}
-use Rattle.desk_slots.specs.Characteristics.{writables, isIn}
 use Rattle.desk_slots.proofs.PlaceLaws.{service-of-place, place-again}
 use Rattle.player_values.specs.Values.{sourceOf, valueOf}
 use Rattle.desk_client.specs.declared.Entry.{Entry}
@@ -29,7 +26,7 @@ use Rattle.desk_client.specs.Client.{controlSlot}
 use Rattle.desk_notices.specs.declared.Cause.{Cause}
 use Rattle.desk_notices.specs.Owed.{noWriter, byWriter}
 use Rattle.desk_console.specs.Console.{nameRows, activateRows, serviceRows, quietAdvance}
-use Rattle.desk_exchange.specs.Write.{firstOctet, writeRows}
+use Rattle.desk_exchange.specs.Write.{playerWritten}
 use Rattle.desk_take.specs.Serving.{resultOctets}
 use Rattle.desk_history.specs.Calls.{Call, setName, activate, deactivate, advance, connect, disconnect, subscribe, unsubscribe, read, write, take}
 use Rattle.desk_history.specs.Ledger.{Line, Claims, Book, Ledger, noClaims, lineOf, noLine, inService, changing, relinking, becoming, joining, leaving, reading, resulting, behind, serving, anyWaits as any, owedAt, nextIn, placeIn, servingAt, mayConnect, mayLeave, mayJoin, mayRead, mayWrite, mayTake, outcome, resultOf, controlWriting, writing, after}
@@ -50,11 +47,6 @@ keeps {later} {W} e f = adds refl (f ∙ sym (append-nil W) ∙ (λ i. W ++ sym 
 shown-append : (l r : List Entry) → shown (l ++ r) ≡ shown l ++ shown r
 shown-append [] r = refl
 shown-append (e ∷ l) r = ap (λ (t : List (List ℕ)). resultOctets e ∷ t) (shown-append l r)
-
--- what may be written is one of the four
-may-in : (L : Ledger) (who w x : ℕ) (value : List ℕ) → mayWrite L who w x value ≡ true → isIn writables x ≡ true
-may-in L who w x value e =
-    not-false _ (none-of (writeRows who w (L .link who .on) (L .link who .safe) (length (L .service w .account who .waiting)) x value) e .1 .1 .1 .1 .0)
 
 -- an account and what becomes of it, by a call that hands out nothing
 abbrev OfAccount : Claims → Claims → List (List ℕ) → Type 0
@@ -105,46 +97,18 @@ module _ (k : Tables) (c : ℕ) where
           (ap (λ (t : Bool). shown (pick t (b .account c .waiting ++ (resultOf k b value ∷ [])) (b .account c .waiting))) e)
       go false w e = keeps refl refl
 
-  -- the result of a write that is accepted
+  -- the result of a write that is accepted, and what the write makes of what waits
   abbrev own : Book → ℕ → ℕ → List ℕ → List (List ℕ)
   own b who x value = pick (eqb c who && (eqb x 18 && b .account c .wants controlSlot)) (resultOctets (resultOf k b value) ∷ []) []
 
-  not-18 : (b : Book) (who x : ℕ) (value : List ℕ) → eqb x 18 ≡ false → own b who x value ≡ []
-  not-18 b who x value e =
-      λ i. pick (and-fails (eqb c who) (ap (λ (t : Bool). t && b .account c .wants controlSlot) e) i) (resultOctets (resultOf k b value) ∷ []) []
-
-  -- a write that is accepted
-  written-turn : (who x : ℕ) (value : List ℕ) (b : Book) → isIn writables x ≡ true → Now c b (writing k who x value b) (own b who x value)
-  unfolding isIn
-  written-turn who x value b may = go (eqb x 7) refl (eqb x 8) refl (eqb x 15) refl
+  written-turn : (who x : ℕ) (value : List ℕ) (b : Book) → Now c b (writing k who x value b) (own b who x value)
+  written-turn who x value b = go (eqb x 18)
     where
-      plain : (n : ℕ) → eqb x n ≡ true → (n ≡ 18 → ⊥) → (cause : Cause) (q : Player) → Now c b (becoming k cause q b) (own b who x value)
-      plain n e h cause q = keeps (not-18 b who x value (ne-eqb x 18 (λ f. h (sym (eqb-true x n e) ∙ f)))) refl
-
-      flip : (n : ℕ) → eqb x n ≡ false → eqb n x ≡ false
-      flip n h = ne-eqb n x (λ e. eqb-false x n h (sym e))
-
-      only : (p q r t : Bool) → p ≡ false → q ≡ false → r ≡ false → (p || (q || (r || (t || false)))) ≡ true → t ≡ true
-      only true q r t u v w h = clash (sym u)
-      only false true r t u v w h = clash (sym v)
-      only false false true t u v w h = clash (sym w)
-      only false false false true u v w h = refl
-      only false false false false u v w h = h
-
-      go : (p : Bool) → eqb x 7 ≡ p → (q : Bool) → eqb x 8 ≡ q → (r : Bool) → eqb x 15 ≡ r
-          → Now c b (pick (eqb x 7) (becoming k (byWriter who 7) (positioned (k .tracks) (wordAt value 0) (b .player)) b)
-          (pick (eqb x 8) (becoming k (byWriter who 8) (withSpeed (firstOctet value) (b .player)) b)
-          (pick (eqb x 15) (becoming k (byWriter who 15) (withOrder (firstOctet value) (b .player)) b) (controlWriting k who value b)))) (own b who x value)
-      go true d q e r f =
-          subst (λ (M : Book). Now c b M (own b who x value)) (here _ d refl) (plain 7 d (λ z. omega arith) (byWriter who 7) (positioned (k .tracks) (wordAt value 0) (b .player)))
-      go false d true e r f =
-          subst (λ (M : Book). Now c b M (own b who x value)) (past _ d (here _ e refl)) (plain 8 e (λ z. omega arith) (byWriter who 8) (withSpeed (firstOctet value) (b .player)))
-      go false d false e true f =
-          subst (λ (M : Book). Now c b M (own b who x value)) (past _ d (past _ e (here _ f refl))) (plain 15 f (λ z. omega arith) (byWriter who 15) (withOrder (firstOctet value) (b .player)))
-      go false d false e false f =
-          let is : eqb x 18 ≡ true = eq-eqb x 18 (sym (eqb-true 18 x (only (eqb 7 x) (eqb 8 x) (eqb 15 x) (eqb 18 x) (flip 7 d) (flip 8 e) (flip 15 f) may))) in
-          subst (λ (M : Book). Now c b M (own b who x value)) (past _ d (past _ e (past _ f refl)))
-          (subst (Now c b (controlWriting k who value b)) (λ i. pick (eqb c who && (sym is i && b .account c .wants controlSlot)) (resultOctets (resultOf k b value) ∷ []) []) (control-turn who value b))
+      go : (t : Bool)
+          → Now c b (pick t (controlWriting k who value b) (becoming k (byWriter who x) (playerWritten k (b .player) x value) b))
+          (pick (eqb c who && (t && b .account c .wants controlSlot)) (resultOctets (resultOf k b value) ∷ []) [])
+      go true = control-turn who value b
+      go false = keeps (λ i. pick (and-fails (eqb c who) refl i) (resultOctets (resultOf k b value) ∷ []) []) refl
 
   -- an account whose slot s is served: the oldest result, where it is 18's turn
   served-turn : (b : Book) (line : Line) → 23 ≤ line .mtu → (s : ℕ) → (s ≡ controlSlot → any (b .account c .waiting) ≡ true)
@@ -255,20 +219,20 @@ module _ (k : Tables) (c v : ℕ) where
   turn (subscribe who w x) L g m = account-turn (mayJoin L who w x) w who (joining (slotOf x)) L (λ y. keeps refl refl)
   turn (unsubscribe who w x) L g m = account-turn (mayJoin L who w x) w who (leaving (slotOf x)) L (λ y. left-account y (slotOf x))
   turn (read who w x offset room) L g m = account-turn (mayRead k L who w x offset room) w who (reading x offset) L (λ y. keeps refl refl)
-  turn (write who w x value) L g m = go (mayWrite L who w x value) refl
+  turn (write who w x value) L g m = go (mayWrite k L who w x value)
     where
       -- of the service that is written to, and of another
-      at : (u : Bool) → isIn writables x ≡ true
+      at : (u : Bool)
           → Now c (L .service v) (pick u (writing k who x value (L .service v)) (L .service v))
           (pick (eqb c who && (u && (eqb x 18 && L .service v .account c .wants controlSlot))) (resultOctets (resultOf k (L .service v) value) ∷ []) [])
-      at true may = written-turn k c who x value (L .service v) may
-      at false may = keeps (λ i. pick (and-fails (eqb c who) refl i) (resultOctets (resultOf k (L .service v) value) ∷ []) []) refl
+      at true = written-turn k c who x value (L .service v)
+      at false = keeps (λ i. pick (and-fails (eqb c who) refl i) (resultOctets (resultOf k (L .service v) value) ∷ []) []) refl
 
-      go : (t : Bool) → mayWrite L who w x value ≡ t
+      go : (t : Bool)
           → Waits L (pick t (inService w (writing k who x value) L) L)
           (pick t (pick (eqb c who && (eqb v w && (eqb x 18 && L .service v .account c .wants controlSlot))) (resultOctets (resultOf k (L .service v) value) ∷ []) []) [])
-      go true e = at (eqb v w) (may-in L who w x value e)
-      go false e = same L
+      go true = at (eqb v w)
+      go false = same L
   turn (take room) L g m = go (mayTake room) (leb clientCount (nextIn L)) refl
     where
       go : (t u : Bool) → leb clientCount (nextIn L) ≡ u

@@ -87,7 +87,7 @@ resultBy k c v (subscribe who w x) L = []
 resultBy k c v (unsubscribe who w x) L = []
 resultBy k c v (read who w x offset room) L = []
 resultBy k c v (write who w x value) L =
-    pick (mayWrite L who w x value)
+    pick (mayWrite k L who w x value)
     (pick (eqb c who && (eqb v w && (eqb x 18 && L .service v .account c .wants controlSlot))) (resultOctets (resultOf k (L .service v) value) ∷ []) []) []
 resultBy k c v (take room) L = []
 

@@ -9,13 +9,12 @@ use lib.ListN.{length}
 use Rattle.ground.specs.Cases.{pick}
 use Rattle.ground.specs.Limits.{leastOutput}
 use Rattle.ground.specs.Refusals.{Row, row, accepted}
-use Rattle.ground.specs.Words.{wordAt}
 use Rattle.catalogue_tables.specs.Tables.{Tables}
 use Rattle.player_state.specs.declared.Player.{Player}
-use Rattle.player_state.specs.Player.{renamed, deactivated, withOrder, withSpeed}
+use Rattle.player_state.specs.Player.{renamed, deactivated}
 use Rattle.player_moves.specs.declared.Controlled.{Controlled}
 use Rattle.player_moves.specs.Control.{controlled}
-use Rattle.player_moves.specs.Clock.{advanced, positioned, activated}
+use Rattle.player_moves.specs.Clock.{advanced, activated}
 use Rattle.desk_slots.specs.Slots.{placeCount, clientCount, slotOf, characteristicOf, serviceOf, slotAt}
 use Rattle.desk_slots.specs.Round.{next}
 use Rattle.desk_client.specs.declared.Entry.{Entry}
@@ -26,7 +25,7 @@ use Rattle.desk_notices.specs.Owed.{fallsDue, spared, noWriter, byWriter}
 use Rattle.desk_links.specs.Links.{connectRows, disconnectRows, slotRows}
 use Rattle.desk_console.specs.Console.{nameRows, activateRows, serviceRows, quietAdvance}
 use Rattle.desk_exchange.specs.Read.{readRows}
-use Rattle.desk_exchange.specs.Write.{firstOctet, writeRows, numberOf}
+use Rattle.desk_exchange.specs.Write.{firstOctet, allowed, writeRows, numberOf, playerWritten}
 use Rattle.player_values.specs.Values.{sourceOf, valueOf}
 use Rattle.desk_history.specs.Calls.{Call, setName, activate, deactivate, advance, connect, disconnect, subscribe, unsubscribe, read, write, take}
 
@@ -208,9 +207,9 @@ mayLeave L who = accepted (disconnectRows who (L .link who .on))
 abbrev pub mayJoin : Ledger → ℕ → ℕ → ℕ → Bool
 mayJoin L who v c = accepted (slotRows who v (L .link who .on) (L .link who .safe) c)
 
-abbrev pub mayWrite : Ledger → ℕ → ℕ → ℕ → List ℕ → Bool
-mayWrite L who v c value =
-    accepted (writeRows who v (L .link who .on) (L .link who .safe) (length (L .service v .account who .waiting)) c value)
+abbrev pub mayWrite : Tables → Ledger → ℕ → ℕ → ℕ → List ℕ → Bool
+mayWrite k L who v c value =
+    accepted (writeRows who v (L .link who .on) (L .link who .safe) (allowed (k .groups) (L .service v .player) c value) (length (L .service v .account who .waiting)) c value)
 
 -- 0x80: "read at offset above 0, and some call changed the value .. since the client's last accepted read of it at 0, or no such read since connecting"
 abbrev pub rowsOfRead : Tables → Ledger → ℕ → ℕ → ℕ → ℕ → ℕ → List Row
@@ -235,13 +234,10 @@ abbrev pub controlWriting : Tables → ℕ → List ℕ → Book → Book
 controlWriting k who value b =
     changing who (resulting (resultOf k b value)) (becoming k (byWriter who 18) (outcome k b value .player) b)
 
--- "7, 8, 15, 18 may be written"
+-- "7, 8, 15, 18 may be written", and "11, 12, 14"
 abbrev pub writing : Tables → ℕ → ℕ → List ℕ → Book → Book
 writing k who c value b =
-    pick (eqb c 7) (becoming k (byWriter who 7) (positioned (k .tracks) (wordAt value 0) (b .player)) b)
-    (pick (eqb c 8) (becoming k (byWriter who 8) (withSpeed (firstOctet value) (b .player)) b)
-    (pick (eqb c 15) (becoming k (byWriter who 15) (withOrder (firstOctet value) (b .player)) b)
-    (controlWriting k who value b)))
+    pick (eqb c 18) (controlWriting k who value b) (becoming k (byWriter who c) (playerWritten k (b .player) c value) b)
 
 -- a call that is refused alters nothing
 abbrev pub after : Tables → Call → Ledger → Ledger
@@ -258,5 +254,5 @@ after k (disconnect who) L = pick (mayLeave L who) (relinking who noLine L) L
 after k (subscribe who v c) L = pick (mayJoin L who v c) (inService v (changing who (joining (slotOf c))) L) L
 after k (unsubscribe who v c) L = pick (mayJoin L who v c) (inService v (changing who (leaving (slotOf c))) L) L
 after k (read who v c offset room) L = pick (mayRead k L who v c offset room) (inService v (changing who (reading c offset)) L) L
-after k (write who v c value) L = pick (mayWrite L who v c value) (inService v (writing k who c value) L) L
+after k (write who v c value) L = pick (mayWrite k L who v c value) (inService v (writing k who c value) L) L
 after k (take room) L = pick (mayTake room) (taking L (nextIn L)) L

@@ -6,3 +6,4 @@ pub mod History
 pub mod Stored
 pub mod Reached
 pub mod Apart
+pub mod Names

@@ -24,7 +24,8 @@ plain = record { name = []; mask = everyOpcode; ccid = 0 }
 abbrev pub comes : ℕ → List Call
 comes who = connect who 23 true ∷ (map (subscribe who 0) slotTable ++ map (subscribe who 1) slotTable)
 
--- every value of a service changes: the name, those of the track and the state, both speeds, the order; each client writes to the control point
+-- every value of a service changes: the name, those of the track, the group and the state, both speeds, the order, and with it the next track; each client
+-- writes to the control point
 abbrev pub everything : ℕ → List Call
 everything v =
     setName v (0x42 ∷ []) ∷ activate v 0

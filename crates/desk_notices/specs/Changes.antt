@@ -1,5 +1,6 @@
 -- What a call changes (document 01, "What is owed"): "A slot is owed to a subscribed client when a call changes its value."
 -- Assumes nothing.
+use mathlib.Core.Path.{_≡_}
 use mathlib.Core.Bool.{Bool, true, false, not, _&&_}
 use mathlib.Core.List.{List, [], _∷_}
 use Prim.Native.Nat.{ℕ, _+_}
@@ -15,6 +16,14 @@ sameOctets [] [] = true
 sameOctets [] (y ∷ t) = false
 sameOctets (x ∷ s) [] = false
 sameOctets (x ∷ s) (y ∷ t) = eqb x y && sameOctets s t
+
+-- what tells the next track is the same of two players
+pub record SameNext (p q : Player) : Type 0 where
+  pub active : isActive p ≡ isActive q
+  pub order : p .mode .order ≡ q .mode .order
+  pub group : p .place .group .0 ≡ q .place .group .0
+  pub track : p .place .track .0 ≡ q .place .track .0
+  pub upcoming : p .upcoming ≡ q .upcoming
 
 -- the value of a characteristic differs between the players p and q
 unfoldable pub changed : Source → Player → Player → ℕ → Bool

@@ -1,12 +1,13 @@
 // What differs between two states of the player: the values of the characteristics, and the track number; and what falls due to whom when a call has
 // changed the player.
 ghost use mathlib.Core.Path.{_≡_};
-ghost use mathlib.Core.Bool.{not};
+ghost use mathlib.Core.Bool.{true, not};
 ghost use mathlib.Core.List.{_∷_, []};
 ghost use Prim.Native.Nat.{min, _<_};
 ghost use Rattle.player_state.specs.Player.{nameOf};
-ghost use Rattle.player_values.specs.Values.{source, wordOctets, durationValue, positionValue};
-ghost use Rattle.desk_notices.specs.Changes.{sameOctets, changed, trackNumber, trackChanged};
+ghost use Rattle.player_values.specs.Values.{source, wordOctets, titleValue, durationValue, positionValue, segmentsNow, trackNow, nextNow, parentNow, groupNow, objectOctets};
+ghost use Rattle.player_moves.specs.Moves.{Sits};
+ghost use Rattle.desk_notices.specs.Changes.{sameOctets, SameNext, changed, trackNumber, trackChanged};
 ghost use Rattle.desk_slots.specs.Characteristics.{setOf};
 ghost use Rattle.ground.specs.Lists.{mapFrom};
 ghost use Rattle.desk_slots.specs.Slots.{slotCount};
@@ -66,7 +67,7 @@ pub fn title_changed(
     p: player_state::Player,
     q: player_state::Player,
 ) -> bool
-    ensures { λ r. ⌜ r ≡ changed (source (now (tracks .entry)) (now (text .entry))) p q 5 ⌝ }
+    ensures { λ r. ⌜ r ≡ not (sameOctets (titleValue (now (tracks .entry)) (now (text .entry)) p) (titleValue (now (tracks .entry)) (now (text .entry)) q)) ⌝ }
 {
     let a = player_values::title_of(tracks, text, p);
     let b = player_values::title_of(tracks, text, q);
@@ -89,14 +90,86 @@ pub fn position_changed(p: player_state::Player, q: player_state::Player) -> boo
     words_differ(a, b)
 }
 
+// Whether two objects, by number, are read otherwise.
+fn objects_differ(a: usize, b: usize) -> bool
+    requires { ⌜ (a < 281474976710656) × (b < 281474976710656) ⌝ }
+    ensures { λ r. ⌜ r ≡ not (sameOctets (objectOctets a) (objectOctets b)) ⌝ }
+{
+    a != b
+}
+
+pub fn segments_changed(tracks: &[u32], p: player_state::Player, q: player_state::Player) -> bool
+    ensures { λ r. ⌜ r ≡ not (sameOctets (objectOctets (segmentsNow (now (tracks .entry)) p)) (objectOctets (segmentsNow (now (tracks .entry)) q))) ⌝ }
+{
+    let a = player_values::segments_now(tracks, p);
+    let b = player_values::segments_now(tracks, q);
+    objects_differ(a, b)
+}
+
+pub fn current_changed(p: player_state::Player, q: player_state::Player) -> bool
+    ensures { λ r. ⌜ r ≡ not (sameOctets (objectOctets (trackNow p)) (objectOctets (trackNow q))) ⌝ }
+{
+    let a = player_values::track_now(p);
+    let b = player_values::track_now(q);
+    objects_differ(a, b)
+}
+
+// Whether nothing differs that tells the next track: active or not, order, group, track, and the track that is named.
+fn same_next(p: player_state::Player, q: player_state::Player) -> bool
+    ensures { λ r. ⌜ (r ≡ true → SameNext p q) ⌝ }
+{
+    let active = (p.mode.media == player_state::INACTIVE)
+        == (q.mode.media == player_state::INACTIVE);
+    let place = (p.place.group.0 == q.place.group.0) & (p.place.track.0 == q.place.track.0);
+    active & place & (p.mode.order == q.mode.order) & (p.upcoming == q.upcoming)
+}
+
+// The next track is looked for along the order, which takes its time: only where something that tells it differs.
+pub fn next_changed(
+    groups: &[u32],
+    tracks: &[u32],
+    p: player_state::Player,
+    q: player_state::Player,
+) -> bool
+    requires { ⌜ Sits (now groups) (now tracks) p ⌝ }
+    requires { ⌜ Sits (now groups) (now tracks) q ⌝ }
+    ensures { λ r. ⌜ r ≡ not (sameOctets (objectOctets (nextNow (now (groups .entry)) (now (tracks .entry)) p)) (objectOctets (nextNow (now (groups .entry)) (now (tracks .entry)) q))) ⌝ }
+{
+    if same_next(p, q) {
+        return false;
+    }
+    let a = player_values::next_now(groups, tracks, p);
+    let b = player_values::next_now(groups, tracks, q);
+    objects_differ(a, b)
+}
+
+pub fn parent_changed(groups: &[u32], p: player_state::Player, q: player_state::Player) -> bool
+    ensures { λ r. ⌜ r ≡ not (sameOctets (objectOctets (parentNow (now (groups .entry)) p)) (objectOctets (parentNow (now (groups .entry)) q))) ⌝ }
+{
+    let a = player_values::parent_now(groups, p);
+    let b = player_values::parent_now(groups, q);
+    objects_differ(a, b)
+}
+
+pub fn group_changed(p: player_state::Player, q: player_state::Player) -> bool
+    ensures { λ r. ⌜ r ≡ not (sameOctets (objectOctets (groupNow p)) (objectOctets (groupNow q))) ⌝ }
+{
+    let a = player_values::group_now(p);
+    let b = player_values::group_now(q);
+    objects_differ(a, b)
+}
+
 // The characteristics whose values differ: bit c is characteristic c. 16 is the same in every state.
 pub fn changed_word(
+    groups: &[u32],
     tracks: &[u32],
     text: &[u8],
     p: player_state::Player,
     q: player_state::Player,
 ) -> u32
-    ensures { λ r. ⌜ r ≡ setOf 32 (changed (source (now (tracks .entry)) (now (text .entry))) p q) ⌝ }
+    requires { ⌜ Sits (now groups) (now tracks) p ⌝ }
+    requires { ⌜ Sits (now groups) (now tracks) q ⌝ }
+    ensures { λ r. ⌜ r ≡ setOf 32 (changed (source (now (groups .entry)) (now (tracks .entry)) (now (text .entry))) p q) ⌝ }
 {
     let title = title_changed(tracks, text, p, q);
     let duration = duration_changed(tracks, p, q);
@@ -104,6 +177,11 @@ pub fn changed_word(
     let position = position_changed(p, q);
     let speed = octets_differ(p.mode.speed, q.mode.speed);
     let seeking = octets_differ(p.mode.seeking, q.mode.seeking);
+    let segments = segments_changed(tracks, p, q);
+    let current = current_changed(p, q);
+    let next = next_changed(groups, tracks, p, q);
+    let parent = parent_changed(groups, p, q);
+    let group = group_changed(p, q);
     let order = octets_differ(p.mode.order, q.mode.order);
     let media = octets_differ(p.mode.media, q.mode.media);
     let opcodes = words_differ(p.offer.mask % 2097152, q.offer.mask % 2097152);
@@ -112,7 +190,12 @@ pub fn changed_word(
     let w19 = desk_slots::with_if(w22, 19, opcodes);
     let w17 = desk_slots::with_if(w19, 17, media);
     let w15 = desk_slots::with_if(w17, 15, order);
-    let w9 = desk_slots::with_if(w15, 9, seeking);
+    let w14 = desk_slots::with_if(w15, 14, group);
+    let w13 = desk_slots::with_if(w14, 13, parent);
+    let w12 = desk_slots::with_if(w13, 12, next);
+    let w11 = desk_slots::with_if(w12, 11, current);
+    let w10 = desk_slots::with_if(w11, 10, segments);
+    let w9 = desk_slots::with_if(w10, 9, seeking);
     let w8 = desk_slots::with_if(w9, 8, speed);
     let w7 = desk_slots::with_if(w8, 7, position);
     let w6 = desk_slots::with_if(w7, 6, duration);
@@ -192,16 +275,19 @@ fn note_all(
 
 // The service with another player, and every client told what that owes it.
 pub fn settle(
+    groups: &[u32],
     tracks: &[u32],
     text: &[u8],
     s: desk_state::Service,
     q: player_state::Player,
     cause: Cause,
 ) -> desk_state::Service
-    ensures { λ r. ⌜ r ≡ settled (source (now (tracks .entry)) (now (text .entry))) cause q s ⌝ }
+    requires { ⌜ Sits (now groups) (now tracks) (s .player) ⌝ }
+    requires { ⌜ Sits (now groups) (now tracks) q ⌝ }
+    ensures { λ r. ⌜ r ≡ settled (source (now (groups .entry)) (now (tracks .entry)) (now (text .entry))) cause q s ⌝ }
 {
     let p = s.player;
-    let altered = changed_word(tracks, text, p, q);
+    let altered = changed_word(groups, tracks, text, p, q);
     let track = track_changed(p, q);
     let accounts = s.accounts;
     let told = note_all(accounts, altered, track, cause);

@@ -9,7 +9,7 @@ use Rattle.ground.specs.Refusals.{Said, granted, refusalOf, Left, leaves, keepi
 use Rattle.catalogue_tables.specs.Tables.{Tables}
 use Rattle.catalogue_check.specs.Catalogue.{catalogueRow}
 use Rattle.desk_slots.specs.Slots.{serviceCount, clientCount}
-use Rattle.desk_slots.specs.Characteristics.{thirteen, isIn}
+use Rattle.desk_slots.specs.Characteristics.{everyOne, isIn}
 use Rattle.desk_client.specs.declared.Link.{Link}
 use Rattle.desk_client.specs.declared.Account.{Account}
 use Rattle.desk_state.specs.declared.Desk.{Desk}
@@ -62,10 +62,10 @@ connectedRow connected = row 203 (not connected)
 abbrev pub ofCaller : ℕ → ℕ → Bool → List Row
 ofCaller who service connected = clientRow who ∷ serviceRow service ∷ connectedRow connected ∷ []
 
--- 0x01, "not one of the thirteen"; the number by which what is asked of the characteristic is not allowed; 0x0F, ".. by a client connected unencrypted"
+-- 0x01, "not one of" the characteristics; the number by which what is asked of the characteristic is not allowed; 0x0F, ".. by a client connected unencrypted"
 abbrev pub ofCharacteristic : Bool → ℕ → ℕ → Bool → List Row
 ofCharacteristic encrypted characteristic number allowed =
-    row 0x01 (not (isIn thirteen characteristic)) ∷ row number (not allowed) ∷ row 0x0F (not encrypted) ∷ []
+    row 0x01 (not (isIn everyOne characteristic)) ∷ row number (not allowed) ∷ row 0x0F (not encrypted) ∷ []
 
 -- what a call says and leaves, by these and by its own rows
 abbrev pub asked : Tables → Bool → Desk → List Row → Left Desk → Left Desk

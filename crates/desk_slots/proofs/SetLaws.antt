@@ -90,6 +90,6 @@ listed n s b c =
     outside h = ⊎-elim (λ e. absurd (let z : ⊥ = omega (arith, in-below n s b c e) in z)) (λ e. e) (true-or (isIn s c))
 
 -- the word of those that may be read
-pub readable-word : setOf 32 (isIn readables) ≡ 0x004B83E2
+pub readable-word : setOf 32 (isIn readables) ≡ 0x004BFFE2
 unfolding setOf isIn insert
 readable-word = refl

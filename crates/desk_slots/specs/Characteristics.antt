@@ -8,9 +8,9 @@ use Rattle.ground.specs.Cases.{pick}
 use Rattle.desk_slots.specs.Table.{characteristics, numbersOf}
 use Rattle.desk_slots.specs.Slots.{insert}
 
--- "the thirteen"; those that may be read, and written; and those that are not owed to the client that wrote them
-abbrev pub thirteen : List ℕ
-thirteen = numbersOf (λ c. true) characteristics
+-- all that there are; those that may be read, and written; and those that are not owed to the client that wrote them
+abbrev pub everyOne : List ℕ
+everyOne = numbersOf (λ c. true) characteristics
 
 abbrev pub readables : List ℕ
 readables = numbersOf (λ c. c .read) characteristics

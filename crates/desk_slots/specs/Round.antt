@@ -13,7 +13,7 @@ unfoldable pub first : ℕ → (ℕ → Bool) → ℕ → ℕ → ℕ → ℕ
 first n p a zero d = n
 first n p a (suc k) d = cond (p (ahead n a d)) (ahead n a d) (first n p a k (suc d))
 
--- "Take starts after the client last served, in number order round the four", "the first owed slot after its last served, round the ten": of the
+-- "Take starts after the client last served, in number order round the four", "the first owed slot after its last served", round them: of the
 -- places a + 1, a + 2, .., a + n, round n, the first at which p holds; n where it holds at none
 unfoldable pub next : ℕ → (ℕ → Bool) → ℕ → ℕ
 unfolding first

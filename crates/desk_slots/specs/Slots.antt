@@ -9,9 +9,9 @@ use lib.ListN.{getD}
 use Rattle.ground.specs.Cases.{pick}
 use Rattle.desk_slots.specs.Table.{characteristics, numbersOf}
 
--- "The ten slots"
+-- the slots of a client in a service: "per client there are now 28 slots" in both (document 02, W-209)
 abbrev pub slotCount : ℕ
-slotCount = 10
+slotCount = 14
 
 -- "the generic service and one named player" (document 02, W-208): 0 and 1
 abbrev pub serviceCount : ℕ
@@ -35,7 +35,7 @@ slotAt place = place % slotCount
 abbrev pub clientCount : ℕ
 clientCount = 4
 
--- "The ten slots 1, 4, 5, 6, 7, 8, 9, 15, 17, 18 may be subscribed to.": the characteristics, by the number of their slot
+-- the characteristics that may be subscribed to, by the number of their slot
 abbrev pub slotTable : List ℕ
 slotTable = numbersOf (λ c. c .slot) characteristics
 

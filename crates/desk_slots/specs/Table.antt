@@ -24,7 +24,8 @@ abbrev knob : ℕ → Bool → ℕ → Characteristic
 knob number spared size = record { number = number; read = true; written = true; slot = true; spared = spared; size = size }
 
 -- "All but 4 and 18 may be read; 7, 8, 15, 18 may be written." "The ten slots 1, 4, 5, 6, 7, 8, 9, 15, 17, 18 may be subscribed to." "Not owed: .. 8 and 15
--- to the client that wrote them." 0x0D: "length not 4 for 7, 1 for 8 and 15; for 18" as its opcode asks
+-- to the client that wrote them." 0x0D: "length not 4 for 7, 1 for 8 and 15; for 18" as its opcode asks. And of document 02's W-209: 10 to 14 may be read,
+-- "11, 12, 14 may be written", six octets, "Slots 11 to 14 are owed on change, 11, 12 and 14 not to their writer"
 abbrev pub characteristics : List Characteristic
 characteristics =
     -- name
@@ -39,6 +40,13 @@ characteristics =
     ∷ knob 8 true 1
     -- seeking speed
     ∷ shown 9 true
+    -- the objects of the current track's segments, of the current track and of the next one
+    ∷ shown 10 false
+    ∷ knob 11 true 6
+    ∷ knob 12 true 6
+    -- the objects of the current group's parent and of the current group
+    ∷ shown 13 true
+    ∷ knob 14 true 6
     -- playing order, orders supported
     ∷ knob 15 true 1
     ∷ shown 16 false

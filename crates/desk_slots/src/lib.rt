@@ -5,13 +5,13 @@ ghost use Prim.Native.Nat.{_≤_, _<_, _^_};
 ghost use Rattle.ground.specs.Cases.{pick, has};
 ghost use mathlib.Core.Bool.{_&&_};
 ghost use lib.Dec.{ltb};
-ghost use Rattle.desk_slots.specs.Characteristics.{thirteen, readables, writables, writerKnows, isIn};
+ghost use Rattle.desk_slots.specs.Characteristics.{everyOne, readables, writables, writerKnows, isIn};
 ghost use Rattle.desk_slots.specs.Table.{sizeOf};
 ghost use Rattle.desk_slots.specs.Round.{next};
 ghost use Rattle.desk_slots.specs.Slots.{slotCount, serviceCount, placeCount, clientCount, slotOf, characteristicOf, serviceOf, slotAt, placesOf, onlySlots, insert, remove, union, inter, minus, owing};
 
 // The same numbers stand in specs/Slots.antt.
-pub const SLOTS: u32 = 10;
+pub const SLOTS: u32 = 14;
 
 pub const SERVICES: u32 = 2;
 
@@ -19,14 +19,14 @@ pub const PLACES: u32 = SERVICES * SLOTS;
 
 pub const CLIENTS: u32 = 4;
 
-// The characteristics as words of bits: the thirteen, those that may be read, those that may be written, those not owed to their writer.
-const THIRTEEN: u32 = 0x004F83F2;
+// The characteristics as words of bits: all, those that may be read, those that may be written, those not owed to their writer.
+const EVERY_ONE: u32 = 0x004FFFF2;
 
-pub const READABLE: u32 = 0x004B83E2;
+pub const READABLE: u32 = 0x004BFFE2;
 
-const WRITABLE: u32 = 0x00048180;
+const WRITABLE: u32 = 0x0004D980;
 
-const SPARED: u32 = 0x00008100;
+const SPARED: u32 = 0x0000D900;
 
 fn in_word(word: u32, c: u32) -> bool
     ensures { λ r. ⌜ r ≡ (ltb c 32 && has word c) ⌝ }
@@ -38,9 +38,9 @@ fn in_word(word: u32, c: u32) -> bool
 }
 
 pub fn is_characteristic(c: u32) -> bool
-    ensures { λ r. ⌜ r ≡ isIn thirteen c ⌝ }
+    ensures { λ r. ⌜ r ≡ isIn everyOne c ⌝ }
 {
-    in_word(THIRTEEN, c)
+    in_word(EVERY_ONE, c)
 }
 
 pub fn may_read(c: u32) -> bool
@@ -69,6 +69,9 @@ pub fn size_of(c: u32) -> usize
     match c {
         7 => 4,
         8 => 1,
+        11 => 6,
+        12 => 6,
+        14 => 6,
         15 => 1,
         _ => 0,
     }
@@ -86,9 +89,13 @@ pub fn slot_of(characteristic: u32) -> u32
         7 => 4,
         8 => 5,
         9 => 6,
-        15 => 7,
-        17 => 8,
-        18 => 9,
+        11 => 7,
+        12 => 8,
+        13 => 9,
+        14 => 10,
+        15 => 11,
+        17 => 12,
+        18 => 13,
         _ => SLOTS,
     }
 }
@@ -105,8 +112,12 @@ pub fn characteristic_of(slot: u32) -> u32
         4 => 7,
         5 => 8,
         6 => 9,
-        7 => 15,
-        8 => 17,
+        7 => 11,
+        8 => 12,
+        9 => 13,
+        10 => 14,
+        11 => 15,
+        12 => 17,
         _ => 18,
     }
 }

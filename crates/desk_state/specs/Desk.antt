@@ -27,6 +27,7 @@ noPlayer =
       offer = record { mask = 0; ccid = 0 };
       mode = record { media = 0; order = 0; speed = 0; seeking = 0 };
       place = record { group = record { 0 = 0 }; track = record { 0 = 0 }; position = record { 0 = 0 } };
+      upcoming = 0;
     }
 
 abbrev pub noService : Service

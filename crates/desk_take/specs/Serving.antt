@@ -25,7 +25,7 @@ use Rattle.desk_state.specs.Desk.{noPlayer}
 use Rattle.desk_replies.specs.declared.Answer.{Answer}
 use Rattle.desk_replies.specs.Replies.{saidOf, lentRows, stateRow}
 
--- "The ten slots of a client are one set of bits", with each service: the places at which it is owed something
+-- the slots of a client "are one set of bits" with each service, and these one of places: those at which it is owed something
 unfoldable pub placesOwed : Client → ℕ
 placesOwed c = placesOf (map (λ v. accountWith c v .owed) (span 0 serviceCount))
 

@@ -76,7 +76,7 @@ fn hand_out(
         };
     }
     let p = players[at];
-    let h = player_values::hold(tracks, text, p, characteristic);
+    let h = player_values::hold(groups, tracks, text, p, characteristic);
     let most = ground::wide_word(c.link.mtu - 3);
     let n = player_values::hand(out, h, 0, most);
     Serving {

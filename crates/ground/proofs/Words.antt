@@ -7,7 +7,7 @@ use native.Mathlib.Numerals.{add-one}
 use native.Mathlib.Omega.{arith}
 use lib.ListN.{length, getD, take, drop}
 use lib.Seq.{getD-drop, take-nil, take-suc}
-use Rattle.ground.specs.Words.{wordOf, wordAt, words, octetsOfWord, octetsOf}
+use Rattle.ground.specs.Words.{wordOf, halfAt, wordAt, sixOctets, sixAt, words, octetsOfWord, octetsOf}
 
 -- four octets on
 word-past : (a b c d : ℕ) (s : List ℕ) (k : ℕ) → wordAt (a ∷ b ∷ c ∷ d ∷ s) (k + 4) ≡ wordAt s k
@@ -81,10 +81,47 @@ unfolding octetsOf
 octets-length [] = refl
 octets-length (w ∷ s) = omega (arith, octets-length s)
 
--- the octets of words are those words again
+-- the octets of a word are that word again, and so are those of words
+word-back : (w : ℕ) → wordOf (w % 256) (w / 256 % 256) (w / 65536 % 256) (w / 16777216) ≡ w
+word-back w = omega arith
+
 pub words-octets : (s : List ℕ) → words (octetsOf s) ≡ s
 unfolding words octetsOf
 words-octets [] = refl
-words-octets (w ∷ s) =
-    let e : wordOf (w % 256) (w / 256 % 256) (w / 65536 % 256) (w / 16777216) ≡ w = omega arith in
-    λ i. e i ∷ words-octets s i
+words-octets (w ∷ s) = λ i. word-back w i ∷ words-octets s i
+
+-- the low 32 and the high 16 bits of a number of 48 bits, out of its octets
+pub six-low : (n : ℕ) (r : List ℕ) → wordAt (sixOctets n ++ r) 0 ≡ n % 4294967296
+unfolding sixOctets wordAt
+six-low n r = by-parts (n / 4294967296) (n % 4294967296) n (omega arith) (omega arith)
+  where
+    past : (k x : ℕ) → (k * 256 + x) % 256 ≡ x % 256
+    past k x = omega arith
+
+    by-parts : (q w m : ℕ) → m ≡ q * 4294967296 + w → w < 4294967296 → wordOf (m % 256) (m / 256 % 256) (m / 65536 % 256) (m / 16777216 % 256) ≡ w
+    by-parts q w m split h =
+        let a : m % 256 ≡ w % 256 = omega arith in
+        let b : m / 256 ≡ q * 65536 * 256 + w / 256 = omega arith in
+        let c : m / 65536 ≡ q * 256 * 256 + w / 65536 = omega arith in
+        let d : m / 16777216 ≡ q * 256 + w / 16777216 = omega arith in
+        let top : w / 16777216 % 256 ≡ w / 16777216 = omega arith in
+        let b′ = ap (λ x. x % 256) b ∙ past (q * 65536) (w / 256) in
+        let c′ = ap (λ x. x % 256) c ∙ past (q * 256) (w / 65536) in
+        let d′ = ap (λ x. x % 256) d ∙ past q (w / 16777216) ∙ top in
+        (λ i. wordOf (a i) (b′ i) (c′ i) (d′ i)) ∙ word-back w
+
+pub six-high : (n : ℕ) (r : List ℕ) → n < 281474976710656 → halfAt (sixOctets n ++ r) 4 ≡ n / 4294967296
+unfolding sixOctets
+six-high n r h = omega arith
+
+-- the number again
+pub six-back : (n : ℕ) (r : List ℕ) → n < 281474976710656 → sixAt (sixOctets n ++ r) 0 ≡ n
+unfolding sixAt
+six-back n r h =
+    let low = six-low n r in
+    let high = six-high n r h in
+    omega arith
+
+-- so numbers with the same octets are the same
+pub six-same : (n m : ℕ) → n < 281474976710656 → m < 281474976710656 → sixOctets n ≡ sixOctets m → n ≡ m
+six-same n m hn hm same = sym (six-back n [] hn) ∙ ap (λ s. sixAt (s ++ []) 0) same ∙ six-back m [] hm

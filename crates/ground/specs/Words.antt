@@ -17,6 +17,13 @@ halfAt s at = halfOf (getD s at 0) (getD s (at + 1) 0)
 unfoldable pub wordAt : List ℕ → ℕ → ℕ
 wordAt s at = wordOf (getD s at 0) (getD s (at + 1) 0) (getD s (at + 2) 0) (getD s (at + 3) 0)
 
+-- a number of 48 bits: its six octets, and the number that starts at a place
+unfoldable pub sixOctets : ℕ → List ℕ
+sixOctets n = n % 256 ∷ n / 256 % 256 ∷ n / 65536 % 256 ∷ n / 16777216 % 256 ∷ n / 4294967296 % 256 ∷ n / 1099511627776 % 256 ∷ []
+
+unfoldable pub sixAt : List ℕ → ℕ → ℕ
+sixAt s at = wordAt s at + halfAt s (at + 4) * 4294967296
+
 -- the words that octets are, four to a word
 unfoldable pub words : List ℕ → List ℕ
 words [] = []

@@ -1,11 +1,12 @@
-// Numbers out of octets, and wider; the limits of a catalogue; refusals.
+// Numbers out of octets and into them, and wider; the limits of a catalogue; refusals.
 ghost use mathlib.Core.Path.{_≡_};
 ghost use Prim.Native.Nat.{_+_, _<_, _≤_};
 ghost use lib.ListN.{length, getD};
 ghost use mathlib.Core.List.{_∷_, []};
 ghost use Rattle.ground.specs.Cases.{has};
+ghost use Rattle.ground.specs.Lists.{laid};
 ghost use Rattle.ground.specs.Refusals.{refused, refusedWith, refusalOf};
-ghost use Rattle.ground.specs.Words.{halfOf, halfAt, wordOf, wordAt};
+ghost use Rattle.ground.specs.Words.{halfOf, halfAt, wordOf, wordAt, octetsOfWord, sixOctets, sixAt};
 
 pub const MOST_GROUPS: usize = 64;
 
@@ -21,7 +22,7 @@ pub const MOST_TITLE: usize = 128;
 
 pub const LEAST_OUTPUT: usize = 128;
 
-// The numbers of document 01's table, in its order, with document 02's reasons of a bad block; and of its card write and cue sheets.
+// The numbers of document 01's table, in its order, with document 02's reasons of a bad block; and of its card write, objects and cue sheets.
 pub const BAD_CATALOGUE: u32 = 200;
 
 pub const SMALL_OUTPUT: u32 = 205;
@@ -54,7 +55,7 @@ pub const BEYOND_END: u32 = 0x07;
 
 pub const BAD_LENGTH: u32 = 0x0D;
 
-pub const BAD_ORDER: u32 = 0x13;
+pub const NOT_ALLOWED: u32 = 0x13;
 
 pub const TOO_MANY_RESULTS: u32 = 0x11;
 
@@ -79,6 +80,10 @@ pub const BAD_PADDING: u32 = 218;
 pub const NO_ROOM: u32 = 212;
 
 pub const NO_CARD_ROOM: u32 = 213;
+
+pub const BAD_ENTRIES: u32 = 222;
+
+pub const NO_OBJECT_ROOM: u32 = 223;
 
 pub const LONG_SHEET: u32 = 225;
 
@@ -170,6 +175,41 @@ pub fn word_at(s: &[u8], at: usize) -> u32
     ensures { λ r. ⌜ r ≡ wordAt (now (s .entry)) at ⌝ }
 {
     word_of(s[at], s[at + 1], s[at + 2], s[at + 3])
+}
+
+// A word, little endian, over b from a place on.
+pub fn put_word(b: &mut [u8], at: usize, w: u32)
+    requires { ⌜ at + 4 ≤ length (now b) ⌝ }
+    ensures { λ _. ⌜ now (b .exit) ≡ laid (now (b .entry)) at (octetsOfWord w) ⌝ }
+{
+    b[at] = (w % 256) as u8;
+    b[at + 1] = (w / 256 % 256) as u8;
+    b[at + 2] = (w / 65536 % 256) as u8;
+    b[at + 3] = (w / 16777216) as u8;
+}
+
+// The six octets of a number of 48 bits, little endian.
+pub fn six_octets(n: usize) -> [u8; 6]
+    ensures { λ r. ⌜ r ≡ sixOctets n ⌝ }
+{
+    [
+        (n % 256) as u8,
+        (n / 256 % 256) as u8,
+        (n / 65536 % 256) as u8,
+        (n / 16777216 % 256) as u8,
+        (n / 4294967296 % 256) as u8,
+        (n / 1099511627776 % 256) as u8,
+    ]
+}
+
+// The little endian number of 48 bits that starts at a place.
+pub fn six_at(s: &[u8], at: usize) -> usize
+    requires { ⌜ at + 6 ≤ length (now s) ⌝ }
+    ensures { λ r. ⌜ (r ≡ sixAt (now (s .entry)) at) × (r < 281474976710656) ⌝ }
+{
+    let low = wide_word(word_at(s, at));
+    let high = half_at(s, at + 4);
+    low + high * 4294967296
 }
 
 // The element at a place, or 0 behind the end.

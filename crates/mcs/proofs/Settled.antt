@@ -9,6 +9,10 @@ use Rattle.mcs.proofs.Leaving.{ends-settled}
 use Rattle.mcs.proofs.mcs_card_load.Reads as card-load
 use Rattle.mcs.proofs.mcs_card_write.Reads as card-write
 use Rattle.mcs.proofs.mcs_cue_sheet.Reads as cue-sheet
+use Rattle.mcs.proofs.mcs_group_object_write.Reads as group-object
+use Rattle.mcs.proofs.mcs_segments_object_write.Reads as segments-object
+use Rattle.mcs.proofs.mcs_group_object_read.Reads as group-entries
+use Rattle.mcs.proofs.mcs_segments_object_read.Reads as segment-entries
 use Rattle.mcs.proofs.mcs_start.Reads as start
 use Rattle.mcs.proofs.mcs_set_name.Reads as set-name
 use Rattle.mcs.proofs.mcs_activate.Reads as activate
@@ -112,6 +116,17 @@ module _ (κs : Lfts 7) (card groups tracks segments text counts block : RefT (L
     p .1 .1 .1 .1 .1 .1 ∙ sym (q .1 .1 .1 .1 .1 .1),
   )
 
+-- a number, and four contents
+five : {n n₁ n₂ : ℕ} {a a₁ a₂ b b₁ b₂ c c₁ c₂ d d₁ d₂ : List ℕ} → (n₁ ≡ n) × ((a₁ ≡ a) × ((b₁ ≡ b) × ((c₁ ≡ c) × (d₁ ≡ d))))
+    → (n₂ ≡ n) × ((a₂ ≡ a) × ((b₂ ≡ b) × ((c₂ ≡ c) × (d₂ ≡ d)))) → (n₁ ≡ n₂) × (a₁ ≡ a₂) × (b₁ ≡ b₂) × (c₁ ≡ c₂) × (d₁ ≡ d₂)
+five p q = (
+  p .0 ∙ sym (q .0),
+  p .1 .0 ∙ sym (q .1 .0),
+  p .1 .1 .0 ∙ sym (q .1 .1 .0),
+  p .1 .1 .1 .0 ∙ sym (q .1 .1 .1 .0),
+  p .1 .1 .1 .1 ∙ sym (q .1 .1 .1 .1),
+)
+
 -- a card write's card, its number of blocks, and the words for where a title is wrong
 module _ (κs : Lfts 8) (groups tracks segments text card blocks track octet : RefT (List ℕ)) where
   -- what is lent, with other contents
@@ -123,13 +138,7 @@ module _ (κs : Lfts 8) (groups tracks segments text card blocks track octet : R
       → card-write.Post κs (groups, (tracks, (segments, (text, (card, (blocks, (track, (octet, tt)))))))) n₁ (written c₁ b₁ t₁ o₁)
       → card-write.Post κs (groups, (tracks, (segments, (text, (card, (blocks, (track, (octet, tt)))))))) n₂ (written c₂ b₂ t₂ o₂)
       → (n₁ ≡ n₂) × (c₁ ≡ c₂) × (b₁ ≡ b₂) × (t₁ ≡ t₂) × (o₁ ≡ o₂)
-  card-write-settled n₁ n₂ c₁ c₂ b₁ b₂ t₁ t₂ o₁ o₂ p q = (
-    p .0 ∙ sym (q .0),
-    p .1 .0 ∙ sym (q .1 .0),
-    p .1 .1 .0 ∙ sym (q .1 .1 .0),
-    p .1 .1 .1 .0 ∙ sym (q .1 .1 .1 .0),
-    p .1 .1 .1 .1 ∙ sym (q .1 .1 .1 .1),
-  )
+  card-write-settled n₁ n₂ c₁ c₂ b₁ b₂ t₁ t₂ o₁ o₂ = five
 
 -- a cue sheet's starts, its count and its line
 module _ (κs : Lfts 4) (sheet starts count line : RefT (List ℕ)) where
@@ -147,3 +156,38 @@ module _ (κs : Lfts 4) (sheet starts count line : RefT (List ℕ)) where
     p .1 .1 .0 ∙ sym (q .1 .1 .0),
     p .1 .1 .1 ∙ sym (q .1 .1 .1),
   )
+
+-- an object's octets, their number, and the words for where a title is wrong
+module _ (κs : Lfts 8) (groups tracks segments text out length track octet : RefT (List ℕ)) (number : ℕ) where
+  -- what is lent, and with other contents
+  abbrev asked : RefT (List ℕ) × (RefT (List ℕ) × (RefT (List ℕ) × (RefT (List ℕ) × (ℕ × (RefT (List ℕ) × (RefT (List ℕ) × (RefT (List ℕ) × (RefT (List ℕ) × Unit {0}))))))))
+  asked = (groups, (tracks, (segments, (text, (number, (out, (length, (track, (octet, tt)))))))))
+
+  abbrev object : List ℕ → List ℕ → List ℕ → List ℕ
+      → RefT (List ℕ) × (RefT (List ℕ) × (RefT (List ℕ) × (RefT (List ℕ) × (ℕ × (RefT (List ℕ) × (RefT (List ℕ) × (RefT (List ℕ) × (RefT (List ℕ) × Unit {0}))))))))
+  object c l t o = (groups, (tracks, (segments, (text, (number, (at-last out c, (at-last length l, (at-last track t, (at-last octet o, tt)))))))))
+
+  pub group-object-settled : (n₁ n₂ : ℕ) (c₁ c₂ l₁ l₂ t₁ t₂ o₁ o₂ : List ℕ) → group-object.Post κs asked n₁ (object c₁ l₁ t₁ o₁) → group-object.Post κs asked n₂ (object c₂ l₂ t₂ o₂)
+      → (n₁ ≡ n₂) × (c₁ ≡ c₂) × (l₁ ≡ l₂) × (t₁ ≡ t₂) × (o₁ ≡ o₂)
+  group-object-settled n₁ n₂ c₁ c₂ l₁ l₂ t₁ t₂ o₁ o₂ = five
+
+  pub segments-object-settled : (n₁ n₂ : ℕ) (c₁ c₂ l₁ l₂ t₁ t₂ o₁ o₂ : List ℕ) → segments-object.Post κs asked n₁ (object c₁ l₁ t₁ o₁) → segments-object.Post κs asked n₂ (object c₂ l₂ t₂ o₂)
+      → (n₁ ≡ n₂) × (c₁ ≡ c₂) × (l₁ ≡ l₂) × (t₁ ≡ t₂) × (o₁ ≡ o₂)
+  segments-object-settled n₁ n₂ c₁ c₂ l₁ l₂ t₁ t₂ o₁ o₂ = five
+
+-- the words of entries, and their number
+module _ (κs : Lfts 3) (octets words count : RefT (List ℕ)) where
+  three : {n n₁ n₂ : ℕ} {a a₁ a₂ b b₁ b₂ : List ℕ} → (n₁ ≡ n) × ((a₁ ≡ a) × (b₁ ≡ b)) → (n₂ ≡ n) × ((a₂ ≡ a) × (b₂ ≡ b)) → (n₁ ≡ n₂) × (a₁ ≡ a₂) × (b₁ ≡ b₂)
+  three p q = (p .0 ∙ sym (q .0), p .1 .0 ∙ sym (q .1 .0), p .1 .1 ∙ sym (q .1 .1))
+
+  -- what is lent, with other contents
+  abbrev entries : List ℕ → List ℕ → RefT (List ℕ) × (RefT (List ℕ) × (RefT (List ℕ) × Unit {0}))
+  entries w c = (octets, (at-last words w, (at-last count c, tt)))
+
+  pub group-entries-settled : (n₁ n₂ : ℕ) (w₁ w₂ c₁ c₂ : List ℕ) → group-entries.Post κs (octets, (words, (count, tt))) n₁ (entries w₁ c₁) → group-entries.Post κs (octets, (words, (count, tt))) n₂ (entries w₂ c₂)
+      → (n₁ ≡ n₂) × (w₁ ≡ w₂) × (c₁ ≡ c₂)
+  group-entries-settled n₁ n₂ w₁ w₂ c₁ c₂ = three
+
+  pub segment-entries-settled : (n₁ n₂ : ℕ) (w₁ w₂ c₁ c₂ : List ℕ) → segment-entries.Post κs (octets, (words, (count, tt))) n₁ (entries w₁ c₁) → segment-entries.Post κs (octets, (words, (count, tt))) n₂ (entries w₂ c₂)
+      → (n₁ ≡ n₂) × (w₁ ≡ w₂) × (c₁ ≡ c₂)
+  segment-entries-settled n₁ n₂ w₁ w₂ c₁ c₂ = three

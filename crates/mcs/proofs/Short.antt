@@ -1,22 +1,23 @@
 -- What a call says fits words of 32 bits, so C is told the numbers themselves. Assumes nothing.
-use mathlib.Core.Path.{_≡_, refl, sym, subst}
+use mathlib.Core.Path.{_≡_, refl, sym, ap, _∙_, subst}
 use mathlib.Core.Bool.{Bool, true, false, _&&_, not}
 use mathlib.Core.List.{List, [], _∷_, _++_}
 use Prim.Native.Nat.{ℕ, zero, suc, _+_, _-_, _/_, _%_, _≤_, _<_}
 use native.Mathlib.Omega.{arith}
-use borrow.Author.Tests.{eqb-true, not-false, leb-true, leb-false}
+use borrow.Author.Tests.{eqb-true, not-false, ltb-true, leb-true, leb-false}
 use lib.Dec.{eqb, leb, ltb, lit≤}
-use lib.ListN.{length, take, drop, getD, length-take}
+use lib.ListN.{length, take, drop, getD, set, length-take}
 use Rattle.ground.specs.Cases.{pick, has}
+use Rattle.ground.specs.Lists.{tableAfter}
 use Rattle.ground.specs.Refusals.{Said, granted, refusedWith, Row, row, answered, saidThrough, Left, leaves, keeping}
 use Rattle.ground.specs.Limits.{mostGroups, mostTracks, mostSegments, mostText, groupWords, trackWords, leastOutput}
 use Rattle.ground.proofs.Cases.{and-left, and-right}
-use Rattle.catalogue_tables.specs.Tables.{Tables}
+use Rattle.catalogue_tables.specs.Tables.{Tables, trackCount}
 use Rattle.card_block.specs.Block.{kindOf}
 use Rattle.card_load.specs.Card.{lengthRule, blocksOf, blocksRows, recordCount}
 use Rattle.card_load.specs.Load.{fits, roomRule, roomRow, counted, loadSaid}
 use Rattle.card_load.proofs.Blocks.{blocks-length}
-use Rattle.catalogue_check.specs.Catalogue.{catalogueCarries}
+use Rattle.catalogue_check.specs.Catalogue.{catalogueCarries, catalogueRow, Right}
 use Rattle.catalogue_check.proofs.Laws.{is-right, carries-small as title-small}
 use Rattle.player_check.specs.Standing.{nameCarries}
 use Rattle.player_check.proofs.Laws.{carries-small as name-small}
@@ -30,6 +31,8 @@ use Rattle.card_write.specs.Write.{writeRows, writeSaid}
 use Rattle.card_write.proofs.Answers.{most-blocks}
 use Rattle.catalogue_cue.specs.Sheet.{cueSaid}
 use Rattle.catalogue_cue.proofs.Small.{cue-small}
+use Rattle.catalogue_objects.specs.Objects.{groupOctets, segmentsOctets, hasGroup, hasSegments, writeRows as objectRows, writeSaid as objectSaid}
+use Rattle.catalogue_objects.proofs.Few.{group-few, segments-few}
 use Rattle.desk_slots.specs.Slots.{placeCount, clientCount, slotTable, characteristicOf, serviceOf, slotAt}
 use Rattle.desk_slots.proofs.NextLaws.{next-le}
 use Rattle.ground.proofs.Rows.{NoneApplies, parted}
@@ -43,6 +46,7 @@ use Rattle.desk_exchange.specs.Write.{writerRows, writeCall}
 use Rattle.desk_exchange.specs.Read.{valueNow, readerRows, readOctets, readCall}
 use Rattle.desk_take.specs.Serving.{placesOwed, nextPlace, handedOctets, handedValues, afterServing}
 use Rattle.desk_take.specs.Take.{nextClient, playersOf, withServed, takeCall}
+use Rattle.mcs.specs.declared.Told.{Told}
 use Rattle.mcs.specs.Calls.{AllWords, lowWord, carries, carriesTwo, toldOf, toldAfter, saidWords, wordsAfter, carriedAfter, trackAfter, offsetAfter}
 
 at-word : (xs : List ℕ) (i : ℕ) → AllWords xs → getD xs i 0 < 4294967296
@@ -68,6 +72,17 @@ pub offset-as-said : (said : Said) (old : List ℕ) → AllWords (said .values)
 offset-as-said said old h =
     let v : List ℕ = said .values in
     λ k. toldAfter (carries said) (pick (carriesTwo said) (low (getD v 1 0) (at-word v 1 h) k) (low (getD v 0 0) (at-word v 0 h) k) ∷ []) old
+
+-- the words for where a title is wrong, of what is told
+pub place-as-said : (t : Told) (said : Said) → t ≡ toldOf said → AllWords (said .values) → (track octet track′ octet′ : List ℕ)
+    → (track′ ≡ toldAfter (t .titled) (t .values) track) × (octet′ ≡ toldAfter (t .carries) (pick (t .titled) (getD (t .values) 1 0) (getD (t .values) 0 0) ∷ []) octet)
+    → (track′ ≡ trackAfter said track) × (octet′ ≡ offsetAfter said octet)
+place-as-said t said told small track octet track′ octet′ e = (
+  e .0 ∙ ap (λ (x : Told). toldAfter (x .titled) (x .values) track) told ∙ track-as-said said track small,
+  e .1
+      ∙ ap (λ (x : Told). toldAfter (x .carries) (pick (x .titled) (getD (x .values) 1 0) (getD (x .values) 0 0) ∷ []) octet) told
+      ∙ offset-as-said said octet small,
+)
 
 pub carried-as-said : (said : Said) (old : List ℕ) → AllWords (said .values) → toldAfter (toldOf said .carries) (toldOf said .values) old ≡ carriedAfter said old
 carried-as-said said old h = told-by-places (carries said) said old (λ i. at-word (said .values) i h)
@@ -161,6 +176,37 @@ write-words k room =
     behind-rows (λ said. said) (λ said. said) (λ said. refl) (writeRows k room) (title-words k, (tt, tt)) _
     (λ n. (omega (arith, most-blocks k (is-right k (not-false _ (n .0)))), tt))
 
+-- what is said of an answer is said of the call
+pub front-as-said : (of said : Said) → of ≡ said → (front out out′ count count′ : List ℕ) (n : ℕ) → out′ ≡ tableAfter of front out
+    → (n ≡ of .number) × (count′ ≡ wordsAfter of count) → (n ≡ said .number) × ((out′ ≡ tableAfter said front out) × (count′ ≡ wordsAfter said count))
+front-as-said of said told front out out′ count count′ n put e = (
+  e .0 ∙ ap (λ (x : Said). x .number) told,
+  (put ∙ ap (λ (x : Said). tableAfter x front out) told, e .1 ∙ ap (λ (x : Said). wordsAfter x count) told),
+)
+
+-- one word for the number of entries
+pub one-count : (n : ℕ) (old : List ℕ) → length old ≡ 1 → set old 0 n ≡ wordsAfter (granted (n ∷ [])) old
+one-count n [] e = absurd (let z : ⊥ = omega arith in z)
+one-count n (x ∷ []) e = refl
+one-count n (x ∷ y ∷ old) e = absurd (let z : ⊥ = omega arith in z)
+
+-- an object of a right catalogue has few octets
+object-words : (k : Tables) (there : Bool) (octets : List ℕ) (room : ℕ) → (Right k → there ≡ true → length octets < 4294967296)
+    → AllWords (objectSaid k there octets room .values)
+unfolding objectSaid SmallRows
+object-words k there octets room few =
+    behind-rows (λ said. said) (λ said. said) (λ said. refl) (catalogueRow k ∷ objectRows there octets room) (title-words k, (tt, (tt, tt))) _
+    (λ n. (few (is-right k (not-false _ (n .0))) (not-false _ (n .1 .0)), tt))
+
+pub group-words : (k : Tables) (g room : ℕ) → AllWords (objectSaid k (hasGroup k g) (groupOctets (k .groups) g) room .values)
+group-words k g room =
+    object-words k (hasGroup k g) (groupOctets (k .groups) g) room (λ right there. omega (arith, group-few k right g (ltb-true _ _ there)))
+
+pub segments-words : (k : Tables) (t room : ℕ) → AllWords (objectSaid k (hasSegments k t) (segmentsOctets (k .tracks) (k .segments) t) room .values)
+segments-words k t room =
+    object-words k (hasSegments k t) (segmentsOctets (k .tracks) (k .segments) t) room
+    (λ right there. omega (arith, segments-few k right t (ltb-true _ _ (and-left (ltb t (trackCount (k .tracks))) _ there))))
+
 -- start says nothing besides
 pub start-words : (k : Tables) (generic named : Beginning) → AllWords (startCall k generic named .said .values)
 unfolding startCall SmallRows
@@ -218,7 +264,7 @@ module _ (k : Tables) (d : Desk) where
   pub written-words : (who service characteristic : ℕ) (value : List ℕ) → AllWords (writeCall k d who service characteristic value .said .values)
   unfolding writeCall SmallRows
   written-words who service characteristic value =
-      asked-words (writerRows d who service characteristic value) (tt, (tt, (tt, (tt, (tt, (tt, (tt, (tt, (tt, tt))))))))) _ refl
+      asked-words (writerRows k d who service characteristic value) (tt, (tt, (tt, (tt, (tt, (tt, (tt, (tt, (tt, tt))))))))) _ refl
 
   -- a read's length is at most ATT_MTU - 1, a take's at most ATT_MTU - 3; clients, services and characteristics are few
   part-small : (most : ℕ) (value : List ℕ) → most < 4294967296 → length (take most value) < 4294967296
@@ -235,7 +281,7 @@ module _ (k : Tables) (d : Desk) where
 
   few : (s : ℕ) → characteristicOf s < 4294967296
   unfolding characteristicOf
-  few s = at-word slotTable s (lit≤ tt, (lit≤ tt, (lit≤ tt, (lit≤ tt, (lit≤ tt, (lit≤ tt, (lit≤ tt, (lit≤ tt, (lit≤ tt, (lit≤ tt, tt))))))))))
+  few s = at-word slotTable s (lit≤ tt, (lit≤ tt, (lit≤ tt, (lit≤ tt, (lit≤ tt, (lit≤ tt, (lit≤ tt, (lit≤ tt, (lit≤ tt, (lit≤ tt, (lit≤ tt, (lit≤ tt, (lit≤ tt, (lit≤ tt, tt))))))))))))))
 
   service-small : (place : ℕ) → place ≤ placeCount → serviceOf place < 4294967296
   unfolding serviceOf

@@ -67,7 +67,7 @@ offsetAfter said old = toldAfter (carries said) (pick (carriesTwo said) (getD (s
 
 -- the octets of the next state, or as they were
 abbrev pub stateAfter : Left Desk → List ℕ → List ℕ
-stateAfter l old = pick (l .said .isGranted) (deskOctets (l .state) ++ drop 633 old) old
+stateAfter l old = pick (l .said .isGranted) (deskOctets (l .state) ++ drop 641 old) old
 
 -- the number, the octets afterwards, and the state that they are
 pub record Leaves (l : Left Desk) (old : List ℕ) (number : ℕ) (new : List ℕ) : Type 0 where

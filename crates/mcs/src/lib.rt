@@ -1,4 +1,4 @@
-// What C calls (include/mcs.h). The state is 633 octets that the caller keeps (`mcs_state`); each call reads it out of them, makes its call, and writes it back
+// What C calls (include/mcs.h). The state is 641 octets that the caller keeps (`mcs_state`); each call reads it out of them, makes its call, and writes it back
 // where that is accepted. A call returns 0, or the number of the refusal: then nothing that was lent is altered, but for the words that are lent for what a
 // refusal carries.
 ghost use mathlib.Core.Path.{_≡_};
@@ -16,6 +16,9 @@ ghost use Rattle.card_write.specs.Card.{cardOf};
 ghost use Rattle.card_write.specs.Write.{saidOf as writeSaidOf, writeSaid};
 ghost use Rattle.ground.specs.Refusals.{refusalOf, granted as grantedWith};
 ghost use Rattle.catalogue_cue.specs.Sheet.{saidOf as cueSaidOf, cueSaid, sheetLines, startsOf};
+ghost use Rattle.catalogue_objects.specs.Objects.{saidOf as objectSaidOf, groupOctets, segmentsOctets, hasGroup, hasSegments, writeSaid as objectSaid};
+ghost use Rattle.catalogue_objects.specs.Reading.{entriesOf, readSaid};
+ghost use Rattle.catalogue_objects.specs.declared.Kind.the-variants.{Group, Segments};
 ghost use Rattle.mcs_state.specs.Codec.{flag, deskOf};
 ghost use Rattle.desk_console.specs.Console.{startCall, nameCall, activateCall, deactivateCall, advanceCall};
 ghost use Rattle.desk_links.specs.Links.{connectCall, disconnectCall, subscribeCall, unsubscribeCall};
@@ -91,7 +94,7 @@ fn granted(first: usize, second: usize, third: usize, fourth: usize) -> Told
     }
 }
 
-// What is told of an answer of the calls on the state, of card load's, of card write's, and of cue sheet's.
+// What is told of an answer of the calls on the state, of card load's, of card write's, of cue sheet's, and of an object's.
 fn told_of(a: Answer) -> Told
     ensures { λ r. ⌜ r ≡ toldOf (saidOf a) ⌝ }
 {
@@ -145,6 +148,30 @@ fn told_of_cue(c: Cued) -> Told
     }
 }
 
+fn told_of_object(a: catalogue_objects::Answer) -> Told
+    ensures { λ r. ⌜ r ≡ toldOf (objectSaidOf a) ⌝ }
+{
+    match a {
+        catalogue_objects::Answer::Filled(n) => granted(n, 0, 0, 0),
+        catalogue_objects::Answer::Refused(r) => refused(r),
+    }
+}
+
+// The number of an object that was read, and its entries counted: octets may be so many that their entries are more than a word of 32 bits counts.
+fn tell_count(a: catalogue_objects::Answer, count: &mut [usize]) -> u32
+    requires { ⌜ len (now count) ≡ 1 ⌝ }
+    ensures { λ r. ⌜ r ≡ objectSaidOf a .number ⌝ }
+    ensures { λ _. ⌜ now (count .exit) ≡ wordsAfter (objectSaidOf a) (now (count .entry)) ⌝ }
+{
+    match a {
+        catalogue_objects::Answer::Filled(n) => {
+            count[0] = n;
+            0
+        }
+        catalogue_objects::Answer::Refused(r) => r.number,
+    }
+}
+
 // The values, over words that the caller has for them, where `on` says so.
 fn tell(on: bool, values: [u32; 4], words: &mut [u32])
     requires { ⌜ len (now words) ≤ 4 ⌝ }
@@ -179,7 +206,7 @@ fn tell_place(t: Told, track: &mut [u32], octet: &mut [u32])
 
 // What every call on the state does at its end.
 fn finish(o: Outcome, state: &mut [u8], track: &mut [u32], octet: &mut [u32]) -> u32
-    requires { ⌜ 633 ≤ len (now state) ⌝ }
+    requires { ⌜ 641 ≤ len (now state) ⌝ }
     requires { ⌜ len (now track) ≡ 1 ⌝ }
     requires { ⌜ len (now octet) ≡ 1 ⌝ }
     requires { ⌜ AllWords (leftBy o .said .values) ⌝ }
@@ -269,6 +296,104 @@ pub extern "C" fn mcs_cue_sheet(
     t.number
 }
 
+// The Group object of a group, written.
+#[no_mangle]
+pub extern "C" fn mcs_group_object_write(
+    groups: &[u32],
+    tracks: &[u32],
+    segments: &[u32],
+    text: &[u8],
+    group: u32,
+    out: &mut [u8],
+    written: &mut [u32; 1],
+    track: &mut [u32; 1],
+    octet: &mut [u32; 1],
+) -> u32
+    ensures { λ r. ⌜ r ≡ (objectSaid (tables (now (groups .entry)) (now (tracks .entry)) (now (segments .entry)) (now (text .entry))) (hasGroup (tables (now (groups .entry)) (now (tracks .entry)) (now (segments .entry)) (now (text .entry))) group) (groupOctets (now (groups .entry)) group) (len (now (out .entry)))) .number ⌝ }
+    ensures { λ r. ⌜ now (out .exit) ≡ tableAfter (objectSaid (tables (now (groups .entry)) (now (tracks .entry)) (now (segments .entry)) (now (text .entry))) (hasGroup (tables (now (groups .entry)) (now (tracks .entry)) (now (segments .entry)) (now (text .entry))) group) (groupOctets (now (groups .entry)) group) (len (now (out .entry)))) (groupOctets (now (groups .entry)) group) (now (out .entry)) ⌝ }
+    ensures { λ r. ⌜ now (written .exit) ≡ wordsAfter (objectSaid (tables (now (groups .entry)) (now (tracks .entry)) (now (segments .entry)) (now (text .entry))) (hasGroup (tables (now (groups .entry)) (now (tracks .entry)) (now (segments .entry)) (now (text .entry))) group) (groupOctets (now (groups .entry)) group) (len (now (out .entry)))) (now (written .entry)) ⌝ }
+    ensures { λ r. ⌜ now (track .exit) ≡ trackAfter (objectSaid (tables (now (groups .entry)) (now (tracks .entry)) (now (segments .entry)) (now (text .entry))) (hasGroup (tables (now (groups .entry)) (now (tracks .entry)) (now (segments .entry)) (now (text .entry))) group) (groupOctets (now (groups .entry)) group) (len (now (out .entry)))) (now (track .entry)) ⌝ }
+    ensures { λ r. ⌜ now (octet .exit) ≡ offsetAfter (objectSaid (tables (now (groups .entry)) (now (tracks .entry)) (now (segments .entry)) (now (text .entry))) (hasGroup (tables (now (groups .entry)) (now (tracks .entry)) (now (segments .entry)) (now (text .entry))) group) (groupOctets (now (groups .entry)) group) (len (now (out .entry)))) (now (octet .entry)) ⌝ }
+{
+    let a = catalogue_objects::write_group(
+        groups,
+        tracks,
+        segments,
+        text,
+        catalogue_tables::GroupNo(group),
+        out,
+    );
+    let t = told_of_object(a);
+    let values = t.values;
+    tell(t.granted, values, written);
+    tell_place(t, track, octet);
+    t.number
+}
+
+// The Track Segments object of a track, written.
+#[no_mangle]
+pub extern "C" fn mcs_segments_object_write(
+    groups: &[u32],
+    tracks: &[u32],
+    segments: &[u32],
+    text: &[u8],
+    ofTrack: u32,
+    out: &mut [u8],
+    written: &mut [u32; 1],
+    track: &mut [u32; 1],
+    octet: &mut [u32; 1],
+) -> u32
+    ensures { λ r. ⌜ r ≡ (objectSaid (tables (now (groups .entry)) (now (tracks .entry)) (now (segments .entry)) (now (text .entry))) (hasSegments (tables (now (groups .entry)) (now (tracks .entry)) (now (segments .entry)) (now (text .entry))) ofTrack) (segmentsOctets (now (tracks .entry)) (now (segments .entry)) ofTrack) (len (now (out .entry)))) .number ⌝ }
+    ensures { λ r. ⌜ now (out .exit) ≡ tableAfter (objectSaid (tables (now (groups .entry)) (now (tracks .entry)) (now (segments .entry)) (now (text .entry))) (hasSegments (tables (now (groups .entry)) (now (tracks .entry)) (now (segments .entry)) (now (text .entry))) ofTrack) (segmentsOctets (now (tracks .entry)) (now (segments .entry)) ofTrack) (len (now (out .entry)))) (segmentsOctets (now (tracks .entry)) (now (segments .entry)) ofTrack) (now (out .entry)) ⌝ }
+    ensures { λ r. ⌜ now (written .exit) ≡ wordsAfter (objectSaid (tables (now (groups .entry)) (now (tracks .entry)) (now (segments .entry)) (now (text .entry))) (hasSegments (tables (now (groups .entry)) (now (tracks .entry)) (now (segments .entry)) (now (text .entry))) ofTrack) (segmentsOctets (now (tracks .entry)) (now (segments .entry)) ofTrack) (len (now (out .entry)))) (now (written .entry)) ⌝ }
+    ensures { λ r. ⌜ now (track .exit) ≡ trackAfter (objectSaid (tables (now (groups .entry)) (now (tracks .entry)) (now (segments .entry)) (now (text .entry))) (hasSegments (tables (now (groups .entry)) (now (tracks .entry)) (now (segments .entry)) (now (text .entry))) ofTrack) (segmentsOctets (now (tracks .entry)) (now (segments .entry)) ofTrack) (len (now (out .entry)))) (now (track .entry)) ⌝ }
+    ensures { λ r. ⌜ now (octet .exit) ≡ offsetAfter (objectSaid (tables (now (groups .entry)) (now (tracks .entry)) (now (segments .entry)) (now (text .entry))) (hasSegments (tables (now (groups .entry)) (now (tracks .entry)) (now (segments .entry)) (now (text .entry))) ofTrack) (segmentsOctets (now (tracks .entry)) (now (segments .entry)) ofTrack) (len (now (out .entry)))) (now (octet .entry)) ⌝ }
+{
+    let a = catalogue_objects::write_segments(
+        groups,
+        tracks,
+        segments,
+        text,
+        catalogue_tables::TrackNo(ofTrack),
+        out,
+    );
+    let t = told_of_object(a);
+    let values = t.values;
+    tell(t.granted, values, written);
+    tell_place(t, track, octet);
+    t.number
+}
+
+// A Group object, read back.
+#[no_mangle]
+pub extern "C" fn mcs_group_object_read(
+    octets: &[u8],
+    members: &mut [u32],
+    count: &mut [usize; 1],
+) -> u32
+    ensures { λ r. ⌜ r ≡ (readSaid Group (now (octets .entry)) (len (now (members .entry)))) .number ⌝ }
+    ensures { λ r. ⌜ now (members .exit) ≡ tableAfter (readSaid Group (now (octets .entry)) (len (now (members .entry)))) (entriesOf Group (now (octets .entry)) .words) (now (members .entry)) ⌝ }
+    ensures { λ r. ⌜ now (count .exit) ≡ wordsAfter (readSaid Group (now (octets .entry)) (len (now (members .entry)))) (now (count .entry)) ⌝ }
+{
+    let a = catalogue_objects::read(octets, catalogue_objects::Kind::Group, members);
+    tell_count(a, count)
+}
+
+// A Track Segments object, read back.
+#[no_mangle]
+pub extern "C" fn mcs_segments_object_read(
+    octets: &[u8],
+    positions: &mut [u32],
+    count: &mut [usize; 1],
+) -> u32
+    ensures { λ r. ⌜ r ≡ (readSaid Segments (now (octets .entry)) (len (now (positions .entry)))) .number ⌝ }
+    ensures { λ r. ⌜ now (positions .exit) ≡ tableAfter (readSaid Segments (now (octets .entry)) (len (now (positions .entry)))) (entriesOf Segments (now (octets .entry)) .words) (now (positions .entry)) ⌝ }
+    ensures { λ r. ⌜ now (count .exit) ≡ wordsAfter (readSaid Segments (now (octets .entry)) (len (now (positions .entry)))) (now (count .entry)) ⌝ }
+{
+    let a = catalogue_objects::read(octets, catalogue_objects::Kind::Segments, positions);
+    tell_count(a, count)
+}
+
 // Start.
 #[no_mangle]
 pub extern "C" fn mcs_start(
@@ -282,7 +407,7 @@ pub extern "C" fn mcs_start(
     name1: &[u8],
     mask1: u32,
     ccid1: u8,
-    state: &mut [u8; 633],
+    state: &mut [u8; 641],
     track: &mut [u32; 1],
     octet: &mut [u32; 1],
 ) -> u32
@@ -310,7 +435,7 @@ pub extern "C" fn mcs_set_name(
     tracks: &[u32],
     segments: &[u32],
     text: &[u8],
-    state: &mut [u8; 633],
+    state: &mut [u8; 641],
     service: u32,
     name: &[u8],
     track: &mut [u32; 1],
@@ -330,7 +455,7 @@ pub extern "C" fn mcs_activate(
     tracks: &[u32],
     segments: &[u32],
     text: &[u8],
-    state: &mut [u8; 633],
+    state: &mut [u8; 641],
     service: u32,
     group: u32,
     track: &mut [u32; 1],
@@ -351,7 +476,7 @@ pub extern "C" fn mcs_deactivate(
     tracks: &[u32],
     segments: &[u32],
     text: &[u8],
-    state: &mut [u8; 633],
+    state: &mut [u8; 641],
     service: u32,
     track: &mut [u32; 1],
     octet: &mut [u32; 1],
@@ -370,7 +495,7 @@ pub extern "C" fn mcs_advance(
     tracks: &[u32],
     segments: &[u32],
     text: &[u8],
-    state: &mut [u8; 633],
+    state: &mut [u8; 641],
     service: u32,
     step: u32,
     track: &mut [u32; 1],
@@ -390,7 +515,7 @@ pub extern "C" fn mcs_connect(
     tracks: &[u32],
     segments: &[u32],
     text: &[u8],
-    state: &mut [u8; 633],
+    state: &mut [u8; 641],
     client: u32,
     mtu: u32,
     encrypted: u8,
@@ -420,7 +545,7 @@ pub extern "C" fn mcs_disconnect(
     tracks: &[u32],
     segments: &[u32],
     text: &[u8],
-    state: &mut [u8; 633],
+    state: &mut [u8; 641],
     client: u32,
     track: &mut [u32; 1],
     octet: &mut [u32; 1],
@@ -439,7 +564,7 @@ pub extern "C" fn mcs_subscribe(
     tracks: &[u32],
     segments: &[u32],
     text: &[u8],
-    state: &mut [u8; 633],
+    state: &mut [u8; 641],
     client: u32,
     service: u32,
     characteristic: u32,
@@ -469,7 +594,7 @@ pub extern "C" fn mcs_unsubscribe(
     tracks: &[u32],
     segments: &[u32],
     text: &[u8],
-    state: &mut [u8; 633],
+    state: &mut [u8; 641],
     client: u32,
     service: u32,
     characteristic: u32,
@@ -499,7 +624,7 @@ pub extern "C" fn mcs_read(
     tracks: &[u32],
     segments: &[u32],
     text: &[u8],
-    state: &mut [u8; 633],
+    state: &mut [u8; 641],
     client: u32,
     service: u32,
     characteristic: u32,
@@ -540,7 +665,7 @@ pub extern "C" fn mcs_take(
     tracks: &[u32],
     segments: &[u32],
     text: &[u8],
-    state: &mut [u8; 633],
+    state: &mut [u8; 641],
     out: &mut [u8],
     served: &mut [u32; 4],
     track: &mut [u32; 1],
@@ -566,7 +691,7 @@ pub extern "C" fn mcs_write(
     tracks: &[u32],
     segments: &[u32],
     text: &[u8],
-    state: &mut [u8; 633],
+    state: &mut [u8; 641],
     client: u32,
     service: u32,
     characteristic: u32,

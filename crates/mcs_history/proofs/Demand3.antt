@@ -89,23 +89,23 @@ module _ (k : Tables) (gen nam : Beginning) where
     ledger = ledgerAt k gen nam h
 
     module _ (who v : ℕ) (client : who < clientCount) (service : v < serviceCount) {ks : List Call} {l : List Handout} (on : Onward k state ks l) where
-      -- "while a client stays connected and subscribed, a value owed to it is handed out by the 80th answered take from when it fell due"
-      pub value-by-the-80th : (s : ℕ) → s < slotCount → Stays k gen nam who v s h ks → owes (ledger .service v .account who) s ≡ true → bound ≤ length l
+      -- "while a client stays connected and subscribed, a value owed to it is handed out by the 112th answered take from when it fell due"
+      pub value-by-the-112th : (s : ℕ) → s < slotCount → Stays k gen nam who v s h ks → owes (ledger .service v .account who) s ≡ true → bound ≤ length l
           → 1 ≤ countFor who (placeOf v s) (firsts bound l)
-      value-by-the-80th s slot stays due enough =
+      value-by-the-112th s slot stays due enough =
           let e = hears-given run on in
           subst (λ (x : List Handout). 1 ≤ countFor who (placeOf v s) (firsts bound x)) (sym e)
-          (desk.value-by-the-80th k right gen nam gt nt who v s client service slot h ks stays due (subst (λ (x : List Handout). bound ≤ length x) e enough))
+          (desk.value-by-the-112th k right gen nam gt nt who v s client service slot h ks stays due (subst (λ (x : List Handout). bound ≤ length x) e enough))
 
-      -- "and its result at place k of its waiting results by the 80·k-th, though the other clients write without pause"
-      pub results-by-80-each : Stays k gen nam who v controlSlot h ks → (j : ℕ) → j ≤ length (shown (ledger .service v .account who .waiting)) → bound * j ≤ length l
+      -- "and its result at place k of its waiting results by the 112·k-th, though the other clients write without pause"
+      pub results-by-112-each : Stays k gen nam who v controlSlot h ks → (j : ℕ) → j ≤ length (shown (ledger .service v .account who .waiting)) → bound * j ≤ length l
           → (j ≤ countFor who (placeOf v controlSlot) (firsts (bound * j) l))
           × (firsts j (handoutsTo who v controlSlot (firsts (bound * j) l)) ≡ firsts j (shown (ledger .service v .account who .waiting)))
-      results-by-80-each stays j place enough =
+      results-by-112-each stays j place enough =
           let e = hears-given run on in
           subst
           (λ (x : List Handout). (j ≤ countFor who (placeOf v controlSlot) (firsts (bound * j) x)) × (firsts j (handoutsTo who v controlSlot (firsts (bound * j) x)) ≡ firsts j (shown (ledger .service v .account who .waiting))))
-          (sym e) (desk.results-by-80-each k right gen nam gt nt who v client service h ks stays j place (subst (λ (x : List Handout). bound * j ≤ length x) e enough))
+          (sym e) (desk.results-by-112-each k right gen nam gt nt who v client service h ks stays j place (subst (λ (x : List Handout). bound * j ≤ length x) e enough))
 
       -- while it stays subscribed, what waited and then what it wrote to the service is what it hears and then what still waits
       pub none-lost : Stays k gen nam who v controlSlot h ks

@@ -78,7 +78,7 @@ keeps k (read who v c offset room) d =
     asked-keeps k (ltb room leastOutput) d (readerRows d who v c offset (length (valueNow k d v c)))
     (leaves (granted (length (readOctets k d who v c offset) ∷ [])) (withService v (withAccount who (afterRead c offset (accountOf d who v)) (serviceAt d v)) d)) refl
 keeps k (write who v c value) d =
-    asked-keeps k false d (writerRows d who v c value) (leaves (granted []) (withService v (written k (serviceAt d v) who c value) d)) refl
+    asked-keeps k false d (writerRows k d who v c value) (leaves (granted []) (withService v (written k (serviceAt d v) who c value) d)) refl
 keeps k (take room) d =
     asked-keeps k (ltb room leastOutput) d [] (takenBy k d (nextClient d))
     (either-granted (leb clientCount (nextClient d)) (leaves (granted []) d)

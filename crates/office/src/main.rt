@@ -1,12 +1,14 @@
 // Plays a script of the twelve calls on the whole from standard input, over the sample catalogue of document 01, and writes a line for each call: its
-// answer; and for each of the two services the media state, order and both speeds; the group, track and position; and each of the four clients, as
-// ATT_MTU: subscribed; owed; waiting results, or - while it is unconnected. A ! ends the line where lent octets behind the answer did not stay.
+// answer; and for each of the two services the media state, order and both speeds; the group, track and position and the named next track, or - where
+// none is named; and each of the four clients, as ATT_MTU: subscribed; owed; waiting results, or - while it is unconnected. A ! ends the line where lent
+// octets behind the answer did not stay.
 // A frame of the script: an octet for the catalogue (0 the sample, 1 the sample with long titles, 2 and 3 wrong ones, 4 the sample with segments close
-// to each other, 5 the sample with recordings that are still running, 6 the sample with two titles that are not UTF-8, 7 the same with wrong groups), one
-// for the call (0 a note, 1 to 12 in document 01's order from start to take, 13 damage to the state), one for the client, one for the service and one for
-// the characteristic, a little endian word that the call takes, an octet for the room of the lent output, two, little endian, for the length of the text,
-// the text. The text of a start: an octet with the length of service 0's name, that name, a little endian word with service 1's mask, an octet with its
-// Content Control ID, and service 1's name; what is missing counts as 0, and names as what is there.
+// to each other, 5 the sample with recordings that are still running, 6 the sample with two titles that are not UTF-8, 7 the same with wrong groups, 8 the
+// sample with folders, 9 one of 64 groups and 256 tracks), one for the call (0 a note, 1 to 12 in document 01's order from start to take, 13 damage to the
+// state), one for the client, one for the service and one for the characteristic, a little endian word that the call takes, an octet for the room of the
+// lent output, two, little endian, for the length of the text, the text. The text of a start: an octet with the length of service 0's name, that name, a
+// little endian word with service 1's mask, an octet with its Content Control ID, and service 1's name; what is missing counts as 0, and names as what is
+// there.
 ghost use Prim.Native.Nat.{_-_, _<_, _≤_};
 ghost use lib.ListN.{length};
 ghost use Rattle.desk_slots.specs.Slots.{slotCount};
@@ -19,6 +21,8 @@ const GROUPS: [u32; 12] = [0, 0, 0, 0, 0, 3, 0, 3, 0, 0, 3, 1];
 const WRONG_GROUPS: [u32; 12] = [0, 0, 0, 0, 0, 3, 0, 3, 0, 3, 3, 1];
 // The last record of the groups lacks its count.
 const CUT_GROUPS: [u32; 11] = [0, 0, 0, 0, 0, 3, 0, 3, 0, 0, 3];
+// Group 0 has track 0, group 1 in it tracks 1 and 2, and in that one are group 2, without tracks, and group 3, with track 3.
+const FOLDER_GROUPS: [u32; 12] = [0, 0, 1, 0, 1, 2, 1, 3, 0, 1, 3, 1];
 // "Track, duration, stamp: 0, 6000, 30 with starts 0, 1500, 4000; 1, 300, 10; 2, 0, 10; 3, 900, 5." The titles are Überfahrt, Rast, an empty one, Ziel.
 const TRACKS: [u32; 24] = [
     6000,
@@ -263,6 +267,15 @@ fn write_media(media: u8) {
     }
 }
 
+// The named next track by its number; the state holds it plus 1, and 0 where none is named.
+fn write_upcoming(upcoming: u32) {
+    if upcoming == 0 {
+        io::write_all(1, b" -");
+        return;
+    }
+    write_number(upcoming - 1);
+}
+
 fn write_player(p: player_state::Player) {
     write_media(p.mode.media);
     write_number(ground::wide_octet(p.mode.order));
@@ -272,6 +285,7 @@ fn write_player(p: player_state::Player) {
     write_number(p.place.group.0);
     write_number(p.place.track.0);
     write_number(p.place.position.0);
+    write_upcoming(p.upcoming);
 }
 
 fn write_slot(w: u32, s: u32)
@@ -508,6 +522,29 @@ fn take(
     report_lent(o, &out)
 }
 
+// The player elsewhere, and nothing else of it altered.
+fn with_place(
+    p: player_state::Player,
+    group: u32,
+    track: u32,
+    position: u32,
+) -> player_state::Player {
+    let place = player_state::Place {
+        group: catalogue_tables::GroupNo(group),
+        track: catalogue_tables::TrackNo(track),
+        position: catalogue_tables::Position(position),
+    };
+    let mut q = p;
+    q.place = place;
+    q
+}
+
+fn with_upcoming(p: player_state::Player, upcoming: u32) -> player_state::Player {
+    let mut q = p;
+    q.upcoming = upcoming;
+    q
+}
+
 fn with_name_length(p: player_state::Player, len: u8) -> player_state::Player {
     let octets = p.name.octets;
     let name = player_state::Name {
@@ -537,21 +574,12 @@ fn damage_player(p: player_state::Player, part: u8, number: u32) -> player_state
         1 => player_state::in_mode(p, low(number), p.mode.seeking),
         2 => player_state::with_order(p, low(number)),
         3 => player_state::in_mode(p, p.mode.media, low(number)),
-        4 => player_state::at_place(
-            p,
-            catalogue_tables::GroupNo(number),
-            p.place.track,
-            p.place.position,
-        ),
-        5 => player_state::at_place(
-            p,
-            p.place.group,
-            catalogue_tables::TrackNo(number),
-            p.place.position,
-        ),
-        6 => player_state::at_position(p, catalogue_tables::Position(number)),
-        7 => with_name_length(p, low(number)),
-        8 => with_first_octet(p, low(number)),
+        4 => with_place(p, number, p.place.track.0, p.place.position.0),
+        5 => with_place(p, p.place.group.0, number, p.place.position.0),
+        6 => with_place(p, p.place.group.0, p.place.track.0, number),
+        7 => with_upcoming(p, number),
+        8 => with_name_length(p, low(number)),
+        9 => with_first_octet(p, low(number)),
         _ => p,
     }
 }
@@ -574,16 +602,16 @@ fn with_code(a: desk_client::Account, number: u32) -> desk_client::Account {
 fn damage_link(l: desk_client::Link, part: u8, number: u32) -> desk_client::Link {
     let mut m = l;
     match part {
-        10 => {
+        11 => {
             m.connected = number != 0;
         }
-        11 => {
+        12 => {
             m.encrypted = number != 0;
         }
-        12 => {
+        13 => {
             m.mtu = number;
         }
-        16 => {
+        17 => {
             m.mark = number;
         }
         _ => {}
@@ -595,19 +623,19 @@ fn damage_link(l: desk_client::Link, part: u8, number: u32) -> desk_client::Link
 fn damage_account(a: desk_client::Account, part: u8, number: u32) -> desk_client::Account {
     let mut b = a;
     match part {
-        13 => {
+        14 => {
             b.subscribed = number;
         }
-        14 => {
+        15 => {
             b.owed = number;
         }
-        15 => {
+        16 => {
             b.fresh = number;
         }
-        17 => {
+        18 => {
             b.waiting = ground::wide_word(number);
         }
-        18 => {
+        19 => {
             return with_code(a, number);
         }
         _ => {}
@@ -615,9 +643,9 @@ fn damage_account(a: desk_client::Account, part: u8, number: u32) -> desk_client
     b
 }
 
-// The parts up to 8 are those of the service's player, from 10 on of the client's account in it.
+// The parts up to 9 are those of the service's player, from 11 on of the client's account in it.
 fn damage_service(s: desk_state::Service, who: u32, part: u8, number: u32) -> desk_state::Service {
-    if part < 9 {
+    if part < 10 {
         let p = s.player;
         let mut t = s;
         t.player = damage_player(p, part, number);
@@ -631,9 +659,9 @@ fn damage_service(s: desk_state::Service, who: u32, part: u8, number: u32) -> de
     s
 }
 
-// The parts that are of no service: 9 is the round of the clients, from 10 on those of the client's link.
+// The parts that are of no service: 10 is the round of the clients, from 11 on those of the client's link.
 fn damage_shared(d: desk_state::Desk, who: u32, part: u8, number: u32) -> desk_state::Desk {
-    if part == 9 {
+    if part == 10 {
         let mut e = d;
         e.turn = number;
         return e;
@@ -822,6 +850,16 @@ fn call(
     call_client(groups, tracks, segments, text, d, c, words)
 }
 
+// 64 groups, of which the last has all tracks, and 256 tracks of duration 0, without segments and with empty titles.
+fn call_over_many(d: desk_state::Desk, c: Ask, words: &[u8]) -> desk_state::Desk {
+    let mut groups = [0u32; 192];
+    groups[191] = 256;
+    let tracks = [0u32; 1536];
+    let segments: [u32; 0] = [];
+    let text: [u8; 0] = [];
+    call(&groups, &tracks, &segments, &text, d, c, words)
+}
+
 fn call_over(catalogue: u8, d: desk_state::Desk, c: Ask, words: &[u8]) -> desk_state::Desk {
     let text = b"\xC3\x9CberfahrtRastZiel";
     let bad = b"Pr\xC3\xA9ludeInter\xC3ezzoCod\xFF";
@@ -849,7 +887,9 @@ fn call_over(catalogue: u8, d: desk_state::Desk, c: Ask, words: &[u8]) -> desk_s
             words,
         ),
         6 => call(&GROUPS, &BAD_TRACKS, &SEGMENTS, bad, d, c, words),
-        _ => call(&WRONG_GROUPS, &BAD_TRACKS, &SEGMENTS, bad, d, c, words),
+        7 => call(&WRONG_GROUPS, &BAD_TRACKS, &SEGMENTS, bad, d, c, words),
+        8 => call(&FOLDER_GROUPS, &TRACKS, &SEGMENTS, text, d, c, words),
+        _ => call_over_many(d, c, words),
     }
 }
 

@@ -2,7 +2,7 @@
 use mathlib.Core.Path.{_≡_, refl, sym}
 use mathlib.Core.Bool.{Bool, true, false, _&&_}
 use mathlib.Core.List.{List, [], _∷_}
-use Prim.Native.Nat.{ℕ, zero, suc, _+_, _<_, _≤_, zero-le}
+use Prim.Native.Nat.{ℕ, zero, suc, _+_, _-_, _<_, _≤_, zero-le}
 use native.Mathlib.Omega.{arith}
 use borrow.Author.Tests.{ltb-true, leb-true, eqb-true, lt-ltb, le-ltb, le-leb, eq-eqb, ne-eqb}
 use lib.Dec.{eqb, ltb, leb}
@@ -18,7 +18,7 @@ use Rattle.player_state.specs.declared.Mode.{Mode}
 use Rattle.player_state.specs.declared.Player.{Player}
 use Rattle.player_state.specs.Player.{inactive, seeking, named}
 use Rattle.player_state.specs.Modes.{rungs}
-use Rattle.player_check.specs.Standing.{textRule, nameCarries, groupRule, nameRule, member, modeRule, noPlace, inGroup, somePlace, placeRule, playerRule}
+use Rattle.player_check.specs.Standing.{textRule, nameCarries, groupRule, nameRule, member, modeRule, noPlace, inGroup, somePlace, placeRule, upcomingRule, playerRule}
 
 -- the side of a choice that its test leaves
 chosen : {t : Bool} (a b : Bool) → t ≡ true → pick t a b ≡ true → a ≡ true
@@ -103,10 +103,23 @@ module _ (groups tracks : List ℕ) (p : Player) where
   abbrev count : ℕ
   count = tracksIn groups group
 
+  abbrev nextRule : Bool
+  nextRule = upcomingRule groups (ltb inactive media) group (p .upcoming)
+
   pub stands : nameRule (p .name) ≡ true → modeRule (p .mode) ≡ true → placeRule groups tracks (ltb inactive media) (p .place) ≡ true
-      → playerRule groups tracks p ≡ true
+      → upcomingRule groups (ltb inactive media) group (p .upcoming) ≡ true → playerRule groups tracks p ≡ true
   unfolding playerRule
-  stands name mode place = and-both (and-both name mode) place
+  stands name mode place next = and-both (and-both (and-both name mode) place) next
+
+  -- no track is named; or one of the current group is
+  pub none-stands : p .upcoming ≡ 0 → upcomingRule groups (ltb inactive media) group (p .upcoming) ≡ true
+  unfolding upcomingRule
+  none-stands e = sym (here _ (eq-eqb _ _ e) refl)
+
+  pub named-stands : inactive < media → (p .upcoming ≡ 0 → ⊥) → inGroup groups group (p .upcoming - 1) ≡ true
+      → upcomingRule groups (ltb inactive media) group (p .upcoming) ≡ true
+  unfolding upcomingRule
+  named-stands active some within = sym (past _ (ne-eqb _ _ some) (sym (and-both (lt-ltb inactive media active) within)))
 
   pub place-stands : inactive < media → group < groupCount groups → first ≤ track → track < first + count → position ≤ endOf tracks track
       → placeRule groups tracks (ltb inactive media) (p .place) ≡ true
@@ -122,9 +135,12 @@ module _ (groups tracks : List ℕ) (p : Player) where
       sym (past _ (le-ltb inactive media (omega arith)) (sym (and-both (and-both (eq-eqb _ _ g) (eq-eqb _ _ t)) (eq-eqb _ _ at))))
 
   module _ (right : playerRule groups tracks p ≡ true) where
-    name-and-mode : (nameRule (p .name) && modeRule (p .mode)) ≡ true
+    all-but-next : (nameRule (p .name) && modeRule (p .mode) && placeRule groups tracks (ltb inactive media) (p .place)) ≡ true
     unfolding playerRule
-    name-and-mode = and-left (nameRule (p .name) && modeRule (p .mode)) (placeRule groups tracks (ltb inactive media) (p .place)) right
+    all-but-next = and-left (nameRule (p .name) && modeRule (p .mode) && placeRule groups tracks (ltb inactive media) (p .place)) nextRule right
+
+    name-and-mode : (nameRule (p .name) && modeRule (p .mode)) ≡ true
+    name-and-mode = and-left (nameRule (p .name) && modeRule (p .mode)) (placeRule groups tracks (ltb inactive media) (p .place)) all-but-next
 
     pub name-kept : nameRule (p .name) ≡ true
     name-kept = and-left (nameRule (p .name)) (modeRule (p .mode)) name-and-mode
@@ -133,8 +149,22 @@ module _ (groups tracks : List ℕ) (p : Player) where
     mode-kept = and-right (nameRule (p .name)) (modeRule (p .mode)) name-and-mode
 
     pub place-kept : placeRule groups tracks (ltb inactive media) (p .place) ≡ true
+    place-kept = and-right (nameRule (p .name) && modeRule (p .mode)) (placeRule groups tracks (ltb inactive media) (p .place)) all-but-next
+
+    pub next-kept : upcomingRule groups (ltb inactive media) group (p .upcoming) ≡ true
     unfolding playerRule
-    place-kept = and-right (nameRule (p .name) && modeRule (p .mode)) (placeRule groups tracks (ltb inactive media) (p .place)) right
+    next-kept = and-right (nameRule (p .name) && modeRule (p .mode) && placeRule groups tracks (ltb inactive media) (p .place)) nextRule right
+
+    -- a track that is named is one of the current group, and there is one
+    named-right : (p .upcoming ≡ 0 → ⊥) → (ltb inactive media && inGroup groups group (p .upcoming - 1)) ≡ true
+    unfolding upcomingRule
+    named-right some = left-over true (ltb inactive media && inGroup groups group (p .upcoming - 1)) (ne-eqb _ _ some) next-kept
+
+    pub named-active : (p .upcoming ≡ 0 → ⊥) → inactive < media
+    named-active some = ltb-true inactive media (and-left (ltb inactive media) _ (named-right some))
+
+    pub named-within : (p .upcoming ≡ 0 → ⊥) → inGroup groups group (p .upcoming - 1) ≡ true
+    named-within some = and-right (ltb inactive media) _ (named-right some)
 
     pub few-states : media ≤ 3
     few-states = leb-true media 3 (and-left (leb media seeking) (within 1 8 (p .mode .order)) (front-kept (p .mode) mode-kept))

@@ -1,9 +1,9 @@
 -- The player's part of 201 (document 01, "Refusal numbers"): "the state breaks a player rule above for this catalogue (group, track in it, position,
--- state, seeking speed, order), its name breaks 207".
+-- state, seeking speed, order), its name breaks 207"; and the track that is named to come next (document 02, W-209).
 -- Assumes nothing.
 use mathlib.Core.Bool.{Bool, true, false, _&&_, not}
 use mathlib.Core.List.{List, [], _∷_}
-use Prim.Native.Nat.{ℕ, _+_}
+use Prim.Native.Nat.{ℕ, _+_, _-_}
 use lib.Dec.{eqb, ltb, leb}
 use lib.ListN.{length, take}
 use Rattle.ground.specs.Cases.{pick, within}
@@ -66,6 +66,13 @@ somePlace groups tracks l =
 unfoldable pub placeRule : List ℕ → List ℕ → Bool → Place → Bool
 placeRule groups tracks active l = pick active (somePlace groups tracks l) (noPlace l)
 
+-- "201 also for a named next track while Inactive or not of the current group"
+unfoldable pub upcomingRule : List ℕ → Bool → ℕ → ℕ → Bool
+upcomingRule groups active g upcoming = pick (eqb upcoming 0) true (active && inGroup groups g (upcoming - 1))
+
 unfoldable pub playerRule : List ℕ → List ℕ → Player → Bool
 playerRule groups tracks p =
-    nameRule (p .name) && modeRule (p .mode) && placeRule groups tracks (ltb inactive (p .mode .media)) (p .place)
+    nameRule (p .name)
+    && modeRule (p .mode)
+    && placeRule groups tracks (ltb inactive (p .mode .media)) (p .place)
+    && upcomingRule groups (ltb inactive (p .mode .media)) (p .place .group .0) (p .upcoming)

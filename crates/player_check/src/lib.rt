@@ -3,7 +3,7 @@ ghost use mathlib.Core.Path.{_≡_};
 ghost use mathlib.Core.List.{_∷_, []};
 ghost use Rattle.ground.specs.Refusals.{saidBy};
 ghost use Rattle.text.specs.Utf8.{saidOf};
-ghost use Rattle.player_check.specs.Standing.{nameRow, groupRule, nameRule, member, modeRule, inGroup, placeRule, playerRule};
+ghost use Rattle.player_check.specs.Standing.{nameRow, groupRule, nameRule, member, modeRule, inGroup, placeRule, upcomingRule, playerRule};
 ghost use Rattle.player_state.specs.Modes.{rungs};
 
 // A name that is handed in: at most 128 octets of UTF-8, or where it is wrong.
@@ -55,14 +55,14 @@ fn mode_right(m: player_state::Mode) -> bool
     state & order & (m.seeking == 0)
 }
 
-fn in_group(groups: &[u32], g: catalogue_tables::GroupNo, t: catalogue_tables::TrackNo) -> bool
-    ensures { λ r. ⌜ r ≡ inGroup (now (groups .entry)) (g .0) (t .0) ⌝ }
+// Whether a track, by any number, is one of a group.
+pub fn in_group(groups: &[u32], g: catalogue_tables::GroupNo, track: usize) -> bool
+    ensures { λ r. ⌜ r ≡ inGroup (now (groups .entry)) (g .0) track ⌝ }
 {
     let first = catalogue_tables::first_track(groups, g);
     let start = ground::wide_word(first.0);
     let count = ground::wide_word(catalogue_tables::tracks_in(groups, g));
     let number = ground::wide_word(g.0);
-    let track = ground::wide_word(t.0);
     (number < catalogue_tables::group_count(groups)) & (start <= track) & (track < start + count)
 }
 
@@ -70,11 +70,22 @@ fn place_right(groups: &[u32], tracks: &[u32], active: bool, l: player_state::Pl
     ensures { λ r. ⌜ r ≡ placeRule (now (groups .entry)) (now (tracks .entry)) active l ⌝ }
 {
     if active {
-        let within = in_group(groups, l.group, l.track);
+        let within = in_group(groups, l.group, ground::wide_word(l.track.0));
         let end = catalogue_tables::end(tracks, l.track);
         return within & (l.position.0 <= end.0);
     }
     (l.group.0 == 0) & (l.track.0 == 0) & (l.position.0 == 0)
+}
+
+// Whether the track that is named to come next, if one is, is one of the current group.
+fn upcoming_right(groups: &[u32], active: bool, g: catalogue_tables::GroupNo, upcoming: u32) -> bool
+    ensures { λ r. ⌜ r ≡ upcomingRule (now (groups .entry)) active (g .0) upcoming ⌝ }
+{
+    if upcoming == 0 {
+        return true;
+    }
+    let within = in_group(groups, g, ground::wide_word(upcoming - 1));
+    active & within
 }
 
 // Whether the state keeps the player's part of 201.
@@ -85,7 +96,8 @@ pub fn player_right(groups: &[u32], tracks: &[u32], p: player_state::Player) -> 
     let name = name_right(p.name);
     let mode = mode_right(p.mode);
     let place = place_right(groups, tracks, active, p.place);
-    name & mode & place
+    let named = upcoming_right(groups, active, p.place.group, p.upcoming);
+    name & mode & place & named
 }
 
 // 208: whether a group is there and has tracks.

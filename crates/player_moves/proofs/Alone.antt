@@ -12,7 +12,6 @@ use Rattle.ground.proofs.Cases.{past, here, and-left, clash, true-or}
 use Rattle.player_walk.specs.Signed.{signedWord, isNegative}
 use Rattle.player_walk.specs.declared.Near.{Near}
 use Rattle.player_walk.specs.declared.Near.the-variants.{At, Nothing}
-use Rattle.player_walk.specs.declared.Step.the-variants.{Next}
 use Rattle.player_opcodes.specs.Opcodes.{maskBit, offered, actionOf}
 use Rattle.player_opcodes.specs.declared.Action.{Action}
 use Rattle.player_opcodes.specs.declared.Action.the-variants.{Play, Pause, Rewind, Forward, Stop, Relative, Segment, Track, Group, Unknown}
@@ -20,10 +19,10 @@ use Rattle.player_opcodes.proofs.Laws.{action-known}
 use Rattle.player_state.specs.declared.Name.{Name}
 use Rattle.player_state.specs.declared.Offer.{Offer}
 use Rattle.player_state.specs.declared.Player.{Player}
-use Rattle.player_state.specs.Player.{inactive, playing, seeking, isActive, inMode, withName, atPosition, atPlace, renamed, deactivated, withOrder, withSpeed}
+use Rattle.player_state.specs.Player.{inactive, playing, seeking, isActive, inMode, withName, withUpcoming, atPosition, atPlace, renamed, deactivated, withOrder, withSpeed}
 use Rattle.player_state.specs.Modes.{forwarded, rewound, movedTo}
-use Rattle.player_moves.specs.Moves.{endNow, runningNow, segmentAfter, trackAfter, groupAfter, entryOf}
-use Rattle.player_moves.specs.Control.{failed, entered, acted, controlled}
+use Rattle.player_moves.specs.Moves.{endNow, runningNow, segmentAfter, nextTrack, groupAfter, entryOf}
+use Rattle.player_moves.specs.Control.{failed, entered, trackReached, leftNamed, trackMoved, acted, controlled}
 use Rattle.player_moves.specs.Clock.{staysBelow, afterEnd, playedOn, soughtOn, advanced, positioned, activatedOn, activated}
 use Rattle.player_moves.specs.declared.Controlled.{Controlled}
 use Rattle.player_moves.proofs.Choices.{by-test, by-found, by-control}
@@ -59,10 +58,11 @@ module _ (p : Player) where
   abbrev Alike : Player → Type 0
   Alike q = setting q ≡ setting p
 
-  moved-setting : (g t : ℕ) → Alike (movedTo g t p)
+  -- with any track named
+  moved-setting : (n g t : ℕ) → Alike (movedTo g t (withUpcoming n p))
   unfolding movedTo
-  moved-setting g t =
-      by-test (λ q. Alike (atPlace g t 0 q)) (eqb (p .mode .media) seeking) (inMode playing 0 p) p (λ e. refl) (λ e. refl)
+  moved-setting n g t =
+      by-test (λ q. Alike (atPlace g t 0 q)) (eqb (p .mode .media) seeking) (inMode playing 0 (withUpcoming n p)) (withUpcoming n p) (λ e. refl) (λ e. refl)
 
   -- what was changed, put back as it was, gives the player as before
   pub positioned-alone : (tracks : List ℕ) (number : ℕ) → atPosition (p .place .position .0) (positioned tracks number p) ≡ p
@@ -108,7 +108,7 @@ module _ (p : Player) where
         by-test Alike (eqb (p .mode .media) playing) _ _
         (λ e. by-test Alike (staysBelow tracks d p) _ _
         (λ t. refl)
-        (λ t. by-test Alike (runningNow tracks p) _ _ (λ r. refl) (λ r. after-setting (trackAfter groups tracks Next p))))
+        (λ t. by-test Alike (runningNow tracks p) _ _ (λ r. refl) (λ r. after-setting (nextTrack groups tracks p))))
         (λ n. by-test Alike (eqb (p .mode .media) seeking) _ _ (λ e. refl) (λ m. refl))
 
     pub advanced-within : (d : ℕ) → p .mode .media ≡ playing → staysBelow tracks d p ≡ true
@@ -138,7 +138,7 @@ module _ (p : Player) where
 
     module _ (segments : List ℕ) where
       acted-setting : (a : Action) → Alike (acted groups tracks segments a p .player)
-      unfolding acted forwarded rewound
+      unfolding acted trackMoved forwarded rewound
       acted-setting Play = refl
       acted-setting Pause = refl
       acted-setting Rewind = refl
@@ -148,15 +148,15 @@ module _ (p : Player) where
       acted-setting (Segment step) =
           by-found (λ c. Alike (c .player)) (segmentAfter tracks segments step p) _ p (λ x e. refl) refl
       acted-setting (Track step) =
-          by-found (λ c. Alike (c .player)) (trackAfter groups tracks step p) _ p (λ t e. moved-setting (p .place .group .0) t) refl
+          by-found (λ c. Alike (c .player)) (trackReached groups tracks step p) _ p (λ t e. moved-setting (leftNamed step (p .upcoming)) (p .place .group .0) t) refl
       acted-setting (Group step) =
           by-found (λ c. Alike (c .player)) (groupAfter groups step p) (entered groups tracks p) p
-          (λ g e. by-found (λ c. Alike (c .player)) (entryOf groups tracks (p .mode .order) g) _ p (λ t i. moved-setting g t) refl)
+          (λ g e. by-found (λ c. Alike (c .player)) (entryOf groups tracks (p .mode .order) g) _ p (λ t i. moved-setting (p .upcoming) g t) refl)
           refl
       acted-setting Unknown = refl
 
       acted-ends : (a : Action) → (a ≡ Unknown → ⊥) → Ends p (acted groups tracks segments a p)
-      unfolding acted
+      unfolding acted trackMoved
       acted-ends Play known = inl refl
       acted-ends Pause known = inl refl
       acted-ends Rewind known = inl refl
@@ -164,7 +164,7 @@ module _ (p : Player) where
       acted-ends Stop known = inl refl
       acted-ends (Relative n) known = inl refl
       acted-ends (Segment step) known = by-found (Ends p) (segmentAfter tracks segments step p) _ p (λ x e. inl refl) (inr refl)
-      acted-ends (Track step) known = by-found (Ends p) (trackAfter groups tracks step p) _ p (λ t e. inl refl) (inr refl)
+      acted-ends (Track step) known = by-found (Ends p) (trackReached groups tracks step p) _ p (λ t e. inl refl) (inr refl)
       acted-ends (Group step) known =
           by-found (Ends p) (groupAfter groups step p) (entered groups tracks p) p
           (λ g e. by-found (Ends p) (entryOf groups tracks (p .mode .order) g) _ p (λ t i. inl refl) (inr refl))

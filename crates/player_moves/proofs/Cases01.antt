@@ -28,8 +28,8 @@ use Rattle.player_opcodes.specs.Opcodes.{maskBit, offered, stepOf, actionOf}
 use Rattle.player_state.specs.Player.{atPosition, startedPlayer}
 use Rattle.player_state.specs.Modes.{movedTo}
 use Rattle.player_state.specs.Positions.{heldSum, written}
-use Rattle.player_moves.specs.Moves.{pastLast, segmentAfter, trackAfter, groupAfter, entryOf}
-use Rattle.player_moves.specs.Control.{success, onward, acted, controlled}
+use Rattle.player_moves.specs.Moves.{pastLast, segmentAfter, trackAfter, nextTrack, groupAfter, entryOf}
+use Rattle.player_moves.specs.Control.{success, onward, trackMoved, acted, controlled}
 use Rattle.player_moves.specs.Clock.{positioned}
 use Rattle.player_moves.specs.Cases01.{sampleGroups, sampleTracks, sampleSegments, minus, gotoSegment, gotoTrack, inGroup1, inTrack0, came, outcome, control, cases, AllHold}
 use Rattle.player_moves.proofs.Past.{past-starts}
@@ -66,10 +66,10 @@ far-found =
     ∙ rw (sym (back (minus 2147483648) (omega arith)))
 
 far-track : control gotoTrack (minus 2147483648) (inGroup1 4 0 1500) ≡ came 1 1 1 0
-unfolding controlled offered maskBit has actionOf stepOf acted movedTo startedPlayer
+unfolding controlled offered maskBit has actionOf stepOf acted trackMoved movedTo startedPlayer
 far-track = ap (λ (n : Near). outcome (onward n (λ t. success (movedTo 1 t (inGroup1 4 0 1500))) (inGroup1 4 0 1500))) far-found
 
 pub cases-hold : AllHold cases
-unfolding controlled positioned offered maskBit has actionOf stepOf acted movedTo startedPlayer segmentAfter startsOf endOf segmentStarts moveAlong previousStart nextStart goto signedWord heldSum written trackAfter tracksInOrder ordered comesBefore moveIn groupAfter siblings entryOf
+unfolding controlled positioned offered maskBit has actionOf stepOf acted trackMoved nextTrack movedTo startedPlayer segmentAfter startsOf endOf segmentStarts moveAlong previousStart nextStart goto signedWord heldSum written trackAfter tracksInOrder ordered comesBefore moveIn groupAfter siblings entryOf
 cases-hold =
     (refl, (refl, (refl, (refl, (refl, (refl, (refl, (refl, (refl, (far-segment, (refl, (refl, (refl, (refl, (refl, (refl, (far-track, (refl, (refl, tt)))))))))))))))))))

@@ -3,7 +3,9 @@ pub mod Ready
 pub mod Choices
 pub mod Held
 pub mod Past
+pub mod Named
 pub mod Kept
+pub mod Names
 pub mod Alone
 pub mod Tracks
 pub mod Cases01

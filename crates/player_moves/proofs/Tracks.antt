@@ -10,15 +10,14 @@ use Rattle.player_walk.specs.Signed.{signedWord, isNegative}
 use Rattle.player_walk.specs.declared.Near.{Near}
 use Rattle.player_walk.specs.declared.Near.the-variants.{At, Nothing}
 use Rattle.player_walk.specs.declared.Step.{Step}
-use Rattle.player_walk.specs.declared.Step.the-variants.{Next}
 use Rattle.player_opcodes.specs.Opcodes.{actionOf}
 use Rattle.player_opcodes.specs.declared.Action.{Action}
 use Rattle.player_opcodes.specs.declared.Action.the-variants.{Play, Pause, Rewind, Forward, Stop, Relative, Segment, Track, Group, Unknown}
 use Rattle.player_state.specs.declared.Player.{Player}
-use Rattle.player_state.specs.Player.{playing, seeking, isActive, inMode, atPlace, renamed, withOrder, withSpeed}
+use Rattle.player_state.specs.Player.{playing, seeking, isActive, inMode, withUpcoming, atPlace, renamed, withOrder, withSpeed}
 use Rattle.player_state.specs.Modes.{forwarded, rewound, movedTo}
-use Rattle.player_moves.specs.Moves.{runningNow, segmentAfter, trackAfter, groupAfter, entryOf}
-use Rattle.player_moves.specs.Control.{entered, acted, controlled}
+use Rattle.player_moves.specs.Moves.{runningNow, segmentAfter, nextTrack, groupAfter, entryOf}
+use Rattle.player_moves.specs.Control.{entered, trackReached, leftNamed, trackMoved, acted, controlled}
 use Rattle.player_moves.specs.Clock.{staysBelow, afterEnd, playedOn, soughtOn, advanced, positioned}
 use Rattle.player_moves.proofs.Choices.{by-test, by-found, by-control}
 use Rattle.player_moves.proofs.Alone.{refused-alone, advanced-running}
@@ -82,19 +81,20 @@ module _ (p : Player) where
         (λ t. refl)
         (λ t. by-test Same (runningNow tracks p) _ _
         (λ r. refl)
-        (λ r. after-active (trackAfter groups tracks Next p) (rw (eqb-true (p .mode .media) playing e)))))
+        (λ r. after-active (nextTrack groups tracks p) (rw (eqb-true (p .mode .media) playing e)))))
         (λ n. by-test Same (eqb (p .mode .media) seeking) _ _ (λ e. refl) (λ m. refl))
 
     module _ (segments : List ℕ) where
       module _ (active : isActive p ≡ true) where
-        moved-active : (g t : ℕ) → Same (movedTo g t p)
+        -- with any track named
+        moved-active : (n g t : ℕ) → Same (movedTo g t (withUpcoming n p))
         unfolding movedTo
-        moved-active g t =
-            by-test (λ q. Same (atPlace g t 0 q)) (eqb (p .mode .media) seeking) (inMode playing 0 p) p (λ e. sym active) (λ e. refl)
+        moved-active n g t =
+            by-test (λ q. Same (atPlace g t 0 q)) (eqb (p .mode .media) seeking) (inMode playing 0 (withUpcoming n p)) (withUpcoming n p) (λ e. sym active) (λ e. refl)
 
         acted-stays : (a : Action) → ((step : Step) → a ≡ Track step → ⊥) → ((step : Step) → a ≡ Group step → ⊥)
             → Stays (acted groups tracks segments a p .player)
-        unfolding acted forwarded rewound
+        unfolding acted trackMoved forwarded rewound
         acted-stays Play n m = rw active
         acted-stays Pause n m = rw active
         acted-stays Rewind n m = rw active
@@ -108,7 +108,7 @@ module _ (p : Player) where
         acted-stays Unknown n m = refl
 
         acted-active : (a : Action) → Same (acted groups tracks segments a p .player)
-        unfolding acted forwarded rewound
+        unfolding acted trackMoved forwarded rewound
         acted-active Play = sym active
         acted-active Pause = sym active
         acted-active Rewind = sym active
@@ -118,10 +118,10 @@ module _ (p : Player) where
         acted-active (Segment step) =
             by-found (λ c. Same (c .player)) (segmentAfter tracks segments step p) _ p (λ x e. refl) refl
         acted-active (Track step) =
-            by-found (λ c. Same (c .player)) (trackAfter groups tracks step p) _ p (λ t e. moved-active (p .place .group .0) t) refl
+            by-found (λ c. Same (c .player)) (trackReached groups tracks step p) _ p (λ t e. moved-active (leftNamed step (p .upcoming)) (p .place .group .0) t) refl
         acted-active (Group step) =
             by-found (λ c. Same (c .player)) (groupAfter groups step p) (entered groups tracks p) p
-            (λ g e. by-found (λ c. Same (c .player)) (entryOf groups tracks (p .mode .order) g) _ p (λ t i. moved-active g t) refl)
+            (λ g e. by-found (λ c. Same (c .player)) (entryOf groups tracks (p .mode .order) g) _ p (λ t i. moved-active (p .upcoming) g t) refl)
             refl
         acted-active Unknown = refl
 

@@ -1,4 +1,5 @@
--- Advance, the written position, and activation (document 01, "Player rules"; document 02, W-202).
+-- Advance, what is written of the position, the track, the next track and the group, and activation (document 01, "Player rules"; document 02, W-202 and
+-- W-209).
 -- Assumes nothing.
 use mathlib.Core.Bool.{Bool, _&&_}
 use mathlib.Core.List.{List}
@@ -8,26 +9,26 @@ use Rattle.ground.specs.Cases.{pick}
 use Rattle.player_walk.specs.Signed.{signedWord, isNegative}
 use Rattle.player_walk.specs.declared.Near.{Near}
 use Rattle.player_walk.specs.declared.Near.the-variants.{At, Nothing}
-use Rattle.player_walk.specs.declared.Step.the-variants.{Next}
 use Rattle.player_state.specs.declared.Player.{Player}
-use Rattle.player_state.specs.Player.{playing, seeking, isActive, atPlace, atPosition}
-use Rattle.player_state.specs.Modes.{pausedAt, activatedAt}
+use Rattle.player_state.specs.Player.{playing, seeking, isActive, unnamed, atPlace, atPosition}
+use Rattle.player_state.specs.Modes.{pausedAt, movedTo, activatedAt}
 use Rattle.player_state.specs.Positions.{written, sought}
-use Rattle.player_moves.specs.Moves.{endNow, runningNow, trackAfter, entryOf}
+use Rattle.player_moves.specs.Control.{entered}
+use Rattle.player_moves.specs.Moves.{endNow, runningNow, nextTrack, entryOf}
 
 -- an advance by d "stays below D"
 abbrev pub staysBelow : List ℕ → ℕ → Player → Bool
 staysBelow tracks d p = ltb (p .place .position .0 + d) (endNow tracks p)
 
--- "at D or beyond, the next track at 0, or, where none, Paused at D"
+-- "at D or beyond, the next track at 0, or, where none, Paused at D"; a name is then used (W-209)
 abbrev pub afterEnd : List ℕ → Near → Player → Player
-afterEnd tracks (At t) p = atPlace (p .place .group .0) t 0 p
+afterEnd tracks (At t) p = atPlace (p .place .group .0) t 0 (unnamed p)
 afterEnd tracks Nothing p = pausedAt (endNow tracks p) p
 
 -- at D or beyond: a running recording never ends, "at 8,640,000 it stays there in its state"
 abbrev pub atEnd : List ℕ → List ℕ → Player → Player
 atEnd groups tracks p =
-    pick (runningNow tracks p) (atPosition (endNow tracks p) p) (afterEnd tracks (trackAfter groups tracks Next p) p)
+    pick (runningNow tracks p) (atPosition (endNow tracks p) p) (afterEnd tracks (nextTrack groups tracks p) p)
 
 -- "Playing adds d"
 unfoldable pub playedOn : List ℕ → List ℕ → ℕ → Player → Player
@@ -52,6 +53,14 @@ positionedIn tracks number p =
 -- "While Inactive the write is taken and alters nothing."
 unfoldable pub positioned : List ℕ → ℕ → Player → Player
 positioned tracks number p = pick (isActive p) (positionedIn tracks number p) p
+
+-- "11 goes to a track of the current group at 0"
+unfoldable pub trackWritten : ℕ → Player → Player
+trackWritten t p = movedTo (p .place .group .0) t p
+
+-- "14 to a group as Activate does but keeping the state (Seeking becomes Playing)"
+unfoldable pub groupWritten : List ℕ → List ℕ → ℕ → Player → Player
+groupWritten groups tracks g p = entered groups tracks p g .player
 
 -- "Activate: the group's first track in the order, position 0, Paused, seeking speed 0."
 abbrev pub activatedOn : ℕ → Near → Player → Player

@@ -1,20 +1,22 @@
 -- The control point (document 01, "Player rules"): "First that applies: 2, 3, 4, 1. After 2, 3, 4 the player is as before."
 -- Assumes nothing.
-use mathlib.Core.Bool.{not}
+use mathlib.Core.Bool.{Bool, true, false, not}
 use mathlib.Core.List.{List}
 use Prim.Native.Nat.{ℕ}
 use Rattle.ground.specs.Cases.{pick}
 use Rattle.player_walk.specs.Signed.{signedWord}
 use Rattle.player_walk.specs.declared.Near.{Near}
 use Rattle.player_walk.specs.declared.Near.the-variants.{At, Nothing}
+use Rattle.player_walk.specs.declared.Step.{Step}
+use Rattle.player_walk.specs.declared.Step.the-variants.{Previous, Next, First, Last, Goto}
 use Rattle.player_opcodes.specs.Opcodes.{offered, actionOf}
 use Rattle.player_opcodes.specs.declared.Action.{Action}
 use Rattle.player_opcodes.specs.declared.Action.the-variants.{Play, Pause, Rewind, Forward, Stop, Relative, Segment, Track, Group, Unknown}
 use Rattle.player_state.specs.declared.Player.{Player}
-use Rattle.player_state.specs.Player.{paused, isActive, inMode, atPosition}
+use Rattle.player_state.specs.Player.{paused, isActive, inMode, withUpcoming, atPosition}
 use Rattle.player_state.specs.Modes.{played, pausedAt, forwarded, rewound, movedTo}
 use Rattle.player_state.specs.Positions.{heldSum}
-use Rattle.player_moves.specs.Moves.{endNow, segmentAfter, trackAfter, groupAfter, entryOf}
+use Rattle.player_moves.specs.Moves.{endNow, segmentAfter, trackAfter, nextTrack, groupAfter, entryOf}
 use Rattle.player_moves.specs.declared.Controlled.{Controlled}
 
 -- "1 Success; 2 opcode unknown or not in the mask; 3 Inactive; 4 cannot be completed"
@@ -33,6 +35,45 @@ onward Nothing f p = failed 4 p
 abbrev pub entered : List ℕ → List ℕ → Player → ℕ → Controlled
 entered groups tracks p g = onward (entryOf groups tracks (p .mode .order) g) (λ t. success (movedTo g t p)) p
 
+-- where a track move leads: Next Track to the next track, which a client may have named; the other moves, "Goto's steps" among them, along the order alone
+-- (document 02, W-209)
+abbrev pub trackReached : List ℕ → List ℕ → Step → Player → Near
+trackReached groups tracks Next p = nextTrack groups tracks p
+trackReached groups tracks Previous p = trackAfter groups tracks Previous p
+trackReached groups tracks First p = trackAfter groups tracks First p
+trackReached groups tracks Last p = trackAfter groups tracks Last p
+trackReached groups tracks (Goto n) p = trackAfter groups tracks (Goto n) p
+
+-- Next Track uses the name
+abbrev pub isNext : Step → Bool
+isNext Next = true
+isNext Previous = false
+isNext First = false
+isNext Last = false
+isNext (Goto n) = false
+
+abbrev pub leftNamed : Step → ℕ → ℕ
+leftNamed step upcoming = pick (isNext step) 0 upcoming
+
+abbrev pub used : Step → Player → Player
+used step p = withUpcoming (leftNamed step (p .upcoming)) p
+
+unfoldable pub trackMoved : List ℕ → List ℕ → Step → Player → Controlled
+trackMoved groups tracks step p =
+    onward (trackReached groups tracks step p) (λ t. success (movedTo (p .place .group .0) t (used step p))) p
+
+abbrev pub isNextTrack : Action → Bool
+isNextTrack Play = false
+isNextTrack Pause = false
+isNextTrack Rewind = false
+isNextTrack Forward = false
+isNextTrack Stop = false
+isNextTrack (Relative n) = false
+isNextTrack (Segment step) = false
+isNextTrack (Track step) = isNext step
+isNextTrack (Group step) = false
+isNextTrack Unknown = false
+
 -- what each action does to an active player
 unfoldable pub acted : List ℕ → List ℕ → List ℕ → Action → Player → Controlled
 acted groups tracks segments Play p = success (played p)
@@ -44,8 +85,7 @@ acted groups tracks segments (Relative n) p =
     success (atPosition (heldSum (endNow tracks p) (p .place .position .0) (signedWord n)) p)
 acted groups tracks segments (Segment step) p =
     onward (segmentAfter tracks segments step p) (λ x. success (atPosition x p)) p
-acted groups tracks segments (Track step) p =
-    onward (trackAfter groups tracks step p) (λ t. success (movedTo (p .place .group .0) t p)) p
+acted groups tracks segments (Track step) p = trackMoved groups tracks step p
 acted groups tracks segments (Group step) p = onward (groupAfter groups step p) (entered groups tracks p) p
 acted groups tracks segments Unknown p = failed 2 p
 

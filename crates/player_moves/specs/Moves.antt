@@ -1,8 +1,8 @@
--- Where moves lead (document 01, "Player rules"; document 02, W-202): along the segments, the tracks in their order, and the groups.
+-- Where moves lead (document 01, "Player rules"; document 02, W-202 and W-209): along the segments, the tracks in their order, and the groups.
 -- Assumes nothing.
 use mathlib.Core.Bool.{Bool, false}
 use mathlib.Core.List.{List}
-use Prim.Native.Nat.{ℕ, _+_, _<_, _≤_}
+use Prim.Native.Nat.{ℕ, zero, suc, _+_, _<_, _≤_}
 use lib.ListN.{length}
 use Rattle.ground.specs.Cases.{pick}
 use Rattle.ground.specs.Limits.{mostGroups, mostTracks}
@@ -11,6 +11,7 @@ use Rattle.player_walk.specs.Steps.{firstOf, moveIn}
 use Rattle.player_walk.specs.declared.Near.{Near}
 use Rattle.player_walk.specs.declared.Near.the-variants.{At, Nothing}
 use Rattle.player_walk.specs.declared.Step.{Step}
+use Rattle.player_walk.specs.declared.Step.the-variants.{Next}
 use Rattle.player_orders.specs.Order.{tracksInOrder, repeats, Run, InRun}
 use Rattle.player_groups.specs.Family.{siblings}
 use Rattle.player_segments.specs.Segments.{segmentMove, Rising, Below}
@@ -44,6 +45,19 @@ trackAfter groups tracks step p =
 unfoldable pub groupAfter : List ℕ → Step → Player → Near
 groupAfter groups step p = moveIn step false (siblings groups (p .place .group .0)) (p .place .group .0)
 
+-- "12 names a track of the current group that Next Track or the end of a track uses once" (document 02, W-209): the track that is named, else that of the
+-- order
+abbrev pub named : ℕ → Near
+named zero = Nothing
+named (suc t) = At t
+
+abbrev pub orInOrder : Near → Near → Near
+orInOrder (At t) next = At t
+orInOrder Nothing next = next
+
+unfoldable pub nextTrack : List ℕ → List ℕ → Player → Near
+nextTrack groups tracks p = orInOrder (named (p .upcoming)) (trackAfter groups tracks Next p)
+
 -- the group's first track in the order; "when a group is activated or moved to, its lowest track comes first" in orders 1 and 2
 unfoldable pub entryOf : List ℕ → List ℕ → ℕ → ℕ → Near
 entryOf groups tracks order g = firstOf (inOrder groups tracks order g (firstTrackOf groups g))
@@ -60,6 +74,10 @@ pub record Shaped (groups tracks segments : List ℕ) : Type 0 where
 abbrev pub Seated : List ℕ → List ℕ → Player → Type 0
 Seated groups tracks p =
     InRun (length tracks) (firstTrackOf groups (p .place .group .0)) (tracksIn groups (p .place .group .0)) (p .place .track .0)
+
+-- so it does where there is one
+abbrev pub Sits : List ℕ → List ℕ → Player → Type 0
+Sits groups tracks p = 0 < p .mode .media → Seated groups tracks p
 
 abbrev pub RunOf : List ℕ → List ℕ → ℕ → Type 0
 RunOf groups tracks g = Run (length tracks) (firstTrackOf groups g) (tracksIn groups g)

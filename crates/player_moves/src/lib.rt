@@ -2,7 +2,7 @@
 ghost use mathlib.Core.Path.{_≡_};
 ghost use mathlib.Core.Bool.{true};
 ghost use Prim.Native.Nat.{ℕ, _<_};
-ghost use Rattle.player_state.specs.Player.{atPosition, deactivated};
+ghost use Rattle.player_state.specs.Player.{atPosition};
 ghost use Rattle.player_state.specs.Positions.{heldSum};
 ghost use Rattle.player_walk.specs.Signed.{signedWord};
 ghost use Rattle.player_orders.specs.Order.{nearTrack};
@@ -11,9 +11,9 @@ ghost use Rattle.player_groups.specs.Family.{Current};
 ghost use Rattle.player_segments.specs.Segments.{nearPosition, Rising, Below};
 ghost use Rattle.player_check.specs.Standing.{playerRule};
 ghost use Rattle.catalogue_tables.specs.Tables.{startsOf, endOf};
-ghost use Rattle.player_moves.specs.Moves.{endNow, pastLast, segmentAfter, trackAfter, groupAfter, entryOf, Shaped, Seated, RunOf};
-ghost use Rattle.player_moves.specs.Control.{success, failed, onward, entered, acted, controlled};
-ghost use Rattle.player_moves.specs.Clock.{staysBelow, playedOn, soughtOn, advanced, positioned, activated};
+ghost use Rattle.player_moves.specs.Moves.{endNow, pastLast, segmentAfter, trackAfter, nextTrack, groupAfter, entryOf, Shaped, Seated, Sits, RunOf};
+ghost use Rattle.player_moves.specs.Control.{success, failed, onward, entered, trackMoved, acted, controlled};
+ghost use Rattle.player_moves.specs.Clock.{staysBelow, playedOn, soughtOn, advanced, positioned, groupWritten, activated};
 
 // The result codes of the control point (document 01, "Player rules").
 const SUCCESS: u8 = 1;
@@ -99,7 +99,42 @@ fn near_track(
     player_orders::track_after(tracks, p.mode.order, first, count, t, step)
 }
 
-fn move_track(
+// The next track: the one that a client named, else that of the order.
+pub fn next_track(
+    groups: &[u32],
+    tracks: &[u32],
+    p: player_state::Player,
+) -> player_orders::NearTrack
+    requires { ⌜ Seated (now groups) (now tracks) p ⌝ }
+    ensures { λ r. ⌜ nearTrack r ≡ nextTrack (now (groups .entry)) (now (tracks .entry)) p ⌝ }
+{
+    if p.upcoming != 0 {
+        let t = catalogue_tables::TrackNo(p.upcoming - 1);
+        return player_orders::NearTrack::Found(t);
+    }
+    near_track(groups, tracks, p, player_walk::Step::Next)
+}
+
+// The player `from` goes to what was found of a group; where nothing was, p stays.
+fn go_to(
+    near: player_orders::NearTrack,
+    g: catalogue_tables::GroupNo,
+    from: player_state::Player,
+    p: player_state::Player,
+) -> Controlled
+    ensures { λ r. ⌜ r ≡ onward (nearTrack near) (λ (t : ℕ). success (movedTo (g .0) t from)) p ⌝ }
+{
+    match near {
+        player_orders::NearTrack::Found(t) => {
+            let q = player_state::move_to(from, g, t);
+            done(q)
+        }
+        player_orders::NearTrack::None => undone(p, CANNOT_COMPLETE),
+    }
+}
+
+// A track move by the order.
+fn along_order(
     groups: &[u32],
     tracks: &[u32],
     p: player_state::Player,
@@ -109,13 +144,29 @@ fn move_track(
     ensures { λ r. ⌜ r ≡ onward (trackAfter (now (groups .entry)) (now (tracks .entry)) step p) (λ (t : ℕ). success (movedTo (p .place .group .0) t p)) p ⌝ }
 {
     let near = near_track(groups, tracks, p, step);
-    match near {
-        player_orders::NearTrack::Found(t) => {
-            let g = p.place.group;
-            let q = player_state::move_to(p, g, t);
-            done(q)
+    go_to(near, p.place.group, p, p)
+}
+
+// Next Track goes to the next track, which a client may have named, and no track is named afterwards; the other moves go by the order.
+fn move_track(
+    groups: &[u32],
+    tracks: &[u32],
+    p: player_state::Player,
+    step: player_walk::Step,
+) -> Controlled
+    requires { ⌜ Seated (now groups) (now tracks) p ⌝ }
+    ensures { λ r. ⌜ r ≡ trackMoved (now (groups .entry)) (now (tracks .entry)) step p ⌝ }
+{
+    match step {
+        player_walk::Step::Next => {
+            let near = next_track(groups, tracks, p);
+            let used = player_state::drop_named(p);
+            go_to(near, p.place.group, used, p)
         }
-        player_orders::NearTrack::None => undone(p, CANNOT_COMPLETE),
+        player_walk::Step::Previous => along_order(groups, tracks, p, step),
+        player_walk::Step::First => along_order(groups, tracks, p, step),
+        player_walk::Step::Last => along_order(groups, tracks, p, step),
+        player_walk::Step::Goto(_) => along_order(groups, tracks, p, step),
     }
 }
 
@@ -144,13 +195,7 @@ fn enter(
     ensures { λ r. ⌜ r ≡ entered (now (groups .entry)) (now (tracks .entry)) p (g .0) ⌝ }
 {
     let near = entry(groups, tracks, p.mode.order, g);
-    match near {
-        player_orders::NearTrack::Found(t) => {
-            let q = player_state::move_to(p, g, t);
-            done(q)
-        }
-        player_orders::NearTrack::None => undone(p, CANNOT_COMPLETE),
-    }
+    go_to(near, g, p, p)
 }
 
 fn move_group(
@@ -258,7 +303,7 @@ pub fn stays_below(tracks: &[u32], p: player_state::Player, d: u32) -> bool
     to < (end.0 as u64)
 }
 
-// Playing: on by d; at the end a running recording stays there, any other goes to the next track, or is Paused at the end.
+// Playing: on by d; at the end a running recording stays there, any other goes to the next track, which may be a named one, or is Paused at the end.
 fn play_on(groups: &[u32], tracks: &[u32], p: player_state::Player, d: u32) -> player_state::Player
     requires { ⌜ Seated (now groups) (now tracks) p ⌝ }
     ensures { λ r. ⌜ r ≡ playedOn (now (groups .entry)) (now (tracks .entry)) d p ⌝ }
@@ -274,12 +319,13 @@ fn play_on(groups: &[u32], tracks: &[u32], p: player_state::Player, d: u32) -> p
         let last = catalogue_tables::end(tracks, t);
         return player_state::at_position(p, last);
     }
-    let near = near_track(groups, tracks, p, player_walk::Step::Next);
+    let near = next_track(groups, tracks, p);
     match near {
         player_orders::NearTrack::Found(t) => {
             let g = p.place.group;
             let begin = catalogue_tables::Position(0);
-            player_state::at_place(p, g, t, begin)
+            let used = player_state::drop_named(p);
+            player_state::at_place(used, g, t, begin)
         }
         player_orders::NearTrack::None => {
             let q = player_state::in_mode(p, player_state::PAUSED, 0);
@@ -304,7 +350,7 @@ pub fn advance(
     p: player_state::Player,
     d: u32,
 ) -> player_state::Player
-    requires { ⌜ (0 < p .mode .media → Seated (now groups) (now tracks) p) ⌝ }
+    requires { ⌜ Sits (now groups) (now tracks) p ⌝ }
     ensures { λ r. ⌜ r ≡ advanced (now (groups .entry)) (now (tracks .entry)) d p ⌝ }
 {
     if p.mode.media == player_state::PLAYING {
@@ -333,6 +379,20 @@ pub fn write_position(tracks: &[u32], p: player_state::Player, number: u32) -> p
     player_state::at_position(p, to)
 }
 
+// A group that has tracks is gone to by a write.
+pub fn write_group(
+    groups: &[u32],
+    tracks: &[u32],
+    p: player_state::Player,
+    g: catalogue_tables::GroupNo,
+) -> player_state::Player
+    requires { ⌜ RunOf (now groups) (now tracks) (g .0) ⌝ }
+    ensures { λ r. ⌜ r ≡ groupWritten (now (groups .entry)) (now (tracks .entry)) (g .0) p ⌝ }
+{
+    let gone = enter(groups, tracks, p, g);
+    gone.player
+}
+
 // A group that has tracks is activated.
 pub fn activate(
     groups: &[u32],
@@ -352,14 +412,4 @@ pub fn activate(
         }
         player_orders::NearTrack::None => p,
     }
-}
-
-pub fn deactivate(p: player_state::Player) -> player_state::Player
-    ensures { λ r. ⌜ r ≡ deactivated p ⌝ }
-{
-    let q = player_state::in_mode(p, player_state::INACTIVE, 0);
-    let g = catalogue_tables::GroupNo(0);
-    let t = catalogue_tables::TrackNo(0);
-    let x = catalogue_tables::Position(0);
-    player_state::at_place(q, g, t, x)
 }

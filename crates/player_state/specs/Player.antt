@@ -1,10 +1,11 @@
 -- The player's state (document 01, "Player rules"), its parts by meaning. antt has no record update: a setter for each part that is changed.
 -- Assumes nothing.
-use mathlib.Core.Bool.{Bool, not}
+use mathlib.Core.Bool.{Bool, not, _&&_}
 use mathlib.Core.List.{List}
-use Prim.Native.Nat.{ℕ}
+use Prim.Native.Nat.{ℕ, _+_}
 use lib.Dec.{eqb}
 use lib.ListN.{length, take, replicate}
+use Rattle.ground.specs.Cases.{pick}
 use Rattle.ground.specs.Limits.{mostTitle}
 use Rattle.ground.specs.Lists.{filled}
 use Rattle.player_state.specs.declared.Name.{Name}
@@ -30,13 +31,23 @@ abbrev pub isActive : Player → Bool
 isActive p = not (eqb (p .mode .media) inactive)
 
 abbrev pub withName : Name → Player → Player
-withName n p = record { name = n; offer = p .offer; mode = p .mode; place = p .place }
+withName n p = record { name = n; offer = p .offer; mode = p .mode; place = p .place; upcoming = p .upcoming }
 
 abbrev pub withMode : Mode → Player → Player
-withMode m p = record { name = p .name; offer = p .offer; mode = m; place = p .place }
+withMode m p = record { name = p .name; offer = p .offer; mode = m; place = p .place; upcoming = p .upcoming }
 
 abbrev pub withPlace : Place → Player → Player
-withPlace l p = record { name = p .name; offer = p .offer; mode = p .mode; place = l }
+withPlace l p = record { name = p .name; offer = p .offer; mode = p .mode; place = l; upcoming = p .upcoming }
+
+-- "12 names a track of the current group" (document 02, W-209): 0 where none is named, else its number and one
+abbrev pub withUpcoming : ℕ → Player → Player
+withUpcoming n p = record { name = p .name; offer = p .offer; mode = p .mode; place = p .place; upcoming = n }
+
+abbrev pub naming : ℕ → Player → Player
+naming t p = withUpcoming (t + 1) p
+
+abbrev pub unnamed : Player → Player
+unnamed p = withUpcoming 0 p
 
 -- a place, by its numbers
 abbrev pub placeAt : ℕ → ℕ → ℕ → Place
@@ -62,6 +73,7 @@ startedPlayer name mask ccid =
       offer = record { mask = mask; ccid = ccid };
       mode = record { media = inactive; order = 3; speed = 0; seeking = 0 };
       place = placeAt 0 0 0;
+      upcoming = 0;
     }
 
 unfoldable pub renamed : List ℕ → Player → Player
@@ -72,12 +84,20 @@ abbrev pub inMode : ℕ → ℕ → Player → Player
 inMode media speed p =
     withMode (record { media = media; order = p .mode .order; speed = p .mode .speed; seeking = speed }) p
 
-abbrev pub atPlace : ℕ → ℕ → ℕ → Player → Player
-atPlace group track position p = withPlace (placeAt group track position) p
+-- the player is on this track of this group
+abbrev pub isOn : ℕ → ℕ → Player → Bool
+isOn group track p = eqb (p .place .group .0) group && eqb (p .place .track .0) track
 
--- "Deactivate leaves Inactive, order and playback speed kept."
+-- "any call that ends on another track or group than it began on drops it, what lies between does not": a call goes where it ends in one step
+abbrev pub keptOn : ℕ → ℕ → Player → ℕ
+keptOn group track p = pick (isOn group track p) (p .upcoming) 0
+
+abbrev pub atPlace : ℕ → ℕ → ℕ → Player → Player
+atPlace group track position p = withUpcoming (keptOn group track p) (withPlace (placeAt group track position) p)
+
+-- "Deactivate leaves Inactive, order and playback speed kept."; it drops the named track, whichever track was current
 abbrev pub deactivated : Player → Player
-deactivated p = atPlace 0 0 0 (inMode inactive 0 p)
+deactivated p = unnamed (withPlace (placeAt 0 0 0) (inMode inactive 0 p))
 
 -- the order and the playback speed are written and kept in every state
 abbrev pub withOrder : ℕ → Player → Player

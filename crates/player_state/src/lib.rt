@@ -1,11 +1,11 @@
 // The player's state, and what alters it without a look at the catalogue.
 ghost use mathlib.Core.Path.{_≡_};
-ghost use Prim.Native.Nat.{min, _-_, _≤_};
+ghost use Prim.Native.Nat.{min, _-_, _≤_, _<_};
 ghost use lib.ListN.{length};
 ghost use Rattle.ground.specs.Limits.{mostTitle};
 ghost use Rattle.ground.specs.Lists.{filled};
 ghost use Rattle.player_walk.specs.Signed.{signedWord};
-ghost use Rattle.player_state.specs.Player.{startedPlayer, renamed, inMode, atPlace, atPosition, withOrder, withSpeed};
+ghost use Rattle.player_state.specs.Player.{startedPlayer, renamed, inMode, keptOn, atPlace, naming, unnamed, deactivated, atPosition, withOrder, withSpeed};
 ghost use Rattle.player_state.specs.Modes.{rungUp, rungDown, forwarded, rewound, movedTo};
 ghost use Rattle.player_state.specs.Positions.{heldSum, written, sought};
 
@@ -45,11 +45,13 @@ pub struct Place {
     pub position: catalogue_tables::Position,
 }
 
+// upcoming: 0, or the number and one of the track that a client named to come next.
 pub struct Player {
     pub name: Name,
     pub offer: Offer,
     pub mode: Mode,
     pub place: Place,
+    pub upcoming: u32,
 }
 
 // Copies a name of at most 128 octets over the front of an array.
@@ -99,6 +101,7 @@ pub fn start(name: &[u8], mask: u32, ccid: u8) -> Player
         offer: offer,
         mode: mode,
         place: place,
+        upcoming: 0,
     }
 }
 
@@ -128,6 +131,16 @@ pub fn in_mode(p: Player, media: u8, seeking: u8) -> Player
     q
 }
 
+// The track that is named stays so where a call ends on the track of the group on which it began.
+fn kept_on(p: Player, group: catalogue_tables::GroupNo, track: catalogue_tables::TrackNo) -> u32
+    ensures { λ r. ⌜ r ≡ keptOn (group .0) (track .0) p ⌝ }
+{
+    if (p.place.group.0 == group.0) & (p.place.track.0 == track.0) {
+        return p.upcoming;
+    }
+    0
+}
+
 pub fn at_place(
     p: Player,
     group: catalogue_tables::GroupNo,
@@ -136,10 +149,43 @@ pub fn at_place(
 ) -> Player
     ensures { λ r. ⌜ r ≡ atPlace (group .0) (track .0) (position .0) p ⌝ }
 {
+    let kept = kept_on(p, group, track);
     let mut q = p;
     q.place.group.0 = group.0;
     q.place.track.0 = track.0;
     q.place.position.0 = position.0;
+    q.upcoming = kept;
+    q
+}
+
+// A track is named to come next.
+pub fn name_track(p: Player, track: catalogue_tables::TrackNo) -> Player
+    requires { ⌜ track .0 < 4294967295 ⌝ }
+    ensures { λ r. ⌜ r ≡ naming (track .0) p ⌝ }
+{
+    let mut q = p;
+    q.upcoming = track.0 + 1;
+    q
+}
+
+// No track is named.
+pub fn drop_named(p: Player) -> Player
+    ensures { λ r. ⌜ r ≡ unnamed p ⌝ }
+{
+    let mut q = p;
+    q.upcoming = 0;
+    q
+}
+
+// No track is current, and none is named.
+pub fn deactivate(p: Player) -> Player
+    ensures { λ r. ⌜ r ≡ deactivated p ⌝ }
+{
+    let mut q = in_mode(p, INACTIVE, 0);
+    q.place.group.0 = 0;
+    q.place.track.0 = 0;
+    q.place.position.0 = 0;
+    q.upcoming = 0;
     q
 }
 

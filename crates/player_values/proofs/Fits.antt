@@ -1,4 +1,5 @@
--- What a value asks of catalogue and state: the name and the title have at most 128 octets, and so has every value. Assumes nothing.
+-- What a value asks of catalogue and state: the current track lies in the current group's run, the name and the title have at most 128 octets; and so has
+-- every value. Assumes nothing.
 use mathlib.Core.Path.{_≡_}
 use mathlib.Core.Bool.{true}
 use mathlib.Core.Logic.{⊎-elim}
@@ -18,15 +19,19 @@ use Rattle.player_check.specs.Standing.{nameRule, playerRule}
 use Rattle.player_check.proofs.Laws.{name-kept}
 use Rattle.player_values.specs.Values.{sourceOf, titleValue, valueOf}
 use Rattle.player_values.proofs.Laws.{value-short}
+use Rattle.player_moves.specs.Moves.{Sits}
 use Rattle.player_moves.proofs.Choices.{active-above}
-use Rattle.player_moves.proofs.Ready.{shaped, track-there}
+use Rattle.player_moves.proofs.Ready.{shaped, seated, track-there}
 
 module _ (k : Tables) (right : Right k) (p : Player) (stands : playerRule (k .groups) (k .tracks) p ≡ true) where
+  pub player-sits : Sits (k .groups) (k .tracks) p
+  player-sits active = seated _ _ _ (shaped k right) p stands active
+
   pub name-short : p .name .len ≤ mostTitle
   unfolding nameRule
   name-short = leb-true _ _ (and-left (leb (p .name .len) mostTitle) _ (name-kept (k .groups) (k .tracks) p stands))
 
-  pub title-fits : length (titleValue (sourceOf k) p) ≤ mostTitle
+  pub title-fits : length (titleValue (k .tracks) (k .text) p) ≤ mostTitle
   unfolding titleValue
   title-fits =
       ⊎-elim
@@ -35,4 +40,4 @@ module _ (k : Tables) (right : Right k) (p : Player) (stands : playerRule (k .gr
       (true-or (isActive p))
 
   pub value-fits : (c : ℕ) → length (valueOf (sourceOf k) p c) ≤ mostTitle
-  value-fits c = value-short (k .tracks) (k .text) p name-short title-fits c
+  value-fits c = value-short (k .groups) (k .tracks) (k .text) p name-short title-fits c

@@ -1,13 +1,14 @@
 // The values of the characteristics, written over the front of lent octets; and a value on its way out: held, and then a part of it put over the front
 // of lent octets.
 ghost use mathlib.Core.Path.{_≡_};
-ghost use Prim.Native.Nat.{_≤_, min};
+ghost use Prim.Native.Nat.{_≤_, _<_, min};
 ghost use mathlib.Core.List.{_∷_, []};
 ghost use lib.ListN.{length, take};
 ghost use Rattle.ground.specs.Limits.{mostTitle};
 ghost use Rattle.ground.specs.Lists.{filled};
 ghost use Rattle.player_state.specs.Player.{nameOf};
-ghost use Rattle.player_values.specs.Values.{source, wordOctets, titleValue, durationValue, positionValue, valueOf};
+ghost use Rattle.player_values.specs.Values.{source, wordOctets, titleValue, durationValue, positionValue, segmentsNow, trackNow, nextNow, parentNow, groupNow, objectOctets, valueOf};
+ghost use Rattle.player_moves.specs.Moves.{Sits};
 ghost use Rattle.player_values.specs.Handing.{heldOf, partFrom};
 
 // What the duration and the position read while there is no current track.
@@ -62,7 +63,7 @@ fn put_name(out: &mut [u8], p: player_state::Player) -> usize
 
 // The title; empty while there is no current track.
 pub fn title_of<'a>(tracks: &[u32], text: &'a [u8], p: player_state::Player) -> &'a [u8]
-    ensures { λ r. ⌜ now r ≡ titleValue (source (now (tracks .entry)) (now (text .entry))) p ⌝ }
+    ensures { λ r. ⌜ now r ≡ titleValue (now (tracks .entry)) (now (text .entry)) p ⌝ }
 {
     if p.mode.media == player_state::INACTIVE {
         return &text[0..0];
@@ -72,9 +73,9 @@ pub fn title_of<'a>(tracks: &[u32], text: &'a [u8], p: player_state::Player) -> 
 
 fn put_title(out: &mut [u8], tracks: &[u32], text: &[u8], p: player_state::Player) -> usize
     requires { ⌜ mostTitle ≤ length (now out) ⌝ }
-    requires { ⌜ length (titleValue (source (now tracks) (now text)) p) ≤ mostTitle ⌝ }
-    ensures { λ r. ⌜ r ≡ length (titleValue (source (now (tracks .entry)) (now (text .entry))) p) ⌝ }
-    ensures { λ _. ⌜ now (out .exit) ≡ filled (titleValue (source (now (tracks .entry)) (now (text .entry))) p) (now (out .entry)) ⌝ }
+    requires { ⌜ length (titleValue (now tracks) (now text) p) ≤ mostTitle ⌝ }
+    ensures { λ r. ⌜ r ≡ length (titleValue (now (tracks .entry)) (now (text .entry)) p) ⌝ }
+    ensures { λ _. ⌜ now (out .exit) ≡ filled (titleValue (now (tracks .entry)) (now (text .entry)) p) (now (out .entry)) ⌝ }
 {
     let title = title_of(tracks, text, p);
     put(out, title)
@@ -100,13 +101,94 @@ pub fn position_word(p: player_state::Player) -> u32
     p.place.position.0
 }
 
-// The value of a characteristic, over the front of out; none of 4, of 18 and of what is no characteristic.
-pub fn value(out: &mut [u8], tracks: &[u32], text: &[u8], p: player_state::Player, c: u32) -> usize
+// The object of the current track's segments; 0 where there is none.
+pub fn segments_now(tracks: &[u32], p: player_state::Player) -> usize
+    ensures { λ r. ⌜ (r ≡ segmentsNow (now (tracks .entry)) p) × (r < 281474976710656) ⌝ }
+{
+    if p.mode.media == player_state::INACTIVE {
+        return 0;
+    }
+    let t = p.place.track;
+    if catalogue_tables::segments_in(tracks, t) == 0 {
+        return 0;
+    }
+    catalogue_tables::segments_object(t)
+}
+
+// The object of the current track; 0 where there is none.
+pub fn track_now(p: player_state::Player) -> usize
+    ensures { λ r. ⌜ (r ≡ trackNow p) × (r < 281474976710656) ⌝ }
+{
+    if p.mode.media == player_state::INACTIVE {
+        return 0;
+    }
+    catalogue_tables::track_object(p.place.track)
+}
+
+// The object of the next track; 0 where there is none.
+pub fn next_now(groups: &[u32], tracks: &[u32], p: player_state::Player) -> usize
+    requires { ⌜ Sits (now groups) (now tracks) p ⌝ }
+    ensures { λ r. ⌜ (r ≡ nextNow (now (groups .entry)) (now (tracks .entry)) p) × (r < 281474976710656) ⌝ }
+{
+    if p.mode.media == player_state::INACTIVE {
+        return 0;
+    }
+    let near = player_moves::next_track(groups, tracks, p);
+    match near {
+        player_orders::NearTrack::Found(t) => catalogue_tables::track_object(t),
+        player_orders::NearTrack::None => 0,
+    }
+}
+
+// The object of the current group's parent; 0 where there is none.
+pub fn parent_now(groups: &[u32], p: player_state::Player) -> usize
+    ensures { λ r. ⌜ (r ≡ parentNow (now (groups .entry)) p) × (r < 281474976710656) ⌝ }
+{
+    if p.mode.media == player_state::INACTIVE {
+        return 0;
+    }
+    let above = catalogue_tables::parent(groups, p.place.group);
+    catalogue_tables::group_object(above)
+}
+
+// The object of the current group; 0 where there is none.
+pub fn group_now(p: player_state::Player) -> usize
+    ensures { λ r. ⌜ (r ≡ groupNow p) × (r < 281474976710656) ⌝ }
+{
+    if p.mode.media == player_state::INACTIVE {
+        return 0;
+    }
+    catalogue_tables::group_object(p.place.group)
+}
+
+// The six octets of an object's number; none of 0.
+fn put_object(out: &mut [u8], object: usize) -> usize
     requires { ⌜ mostTitle ≤ length (now out) ⌝ }
+    ensures { λ r. ⌜ r ≡ length (objectOctets object) ⌝ }
+    ensures { λ _. ⌜ now (out .exit) ≡ filled (objectOctets object) (now (out .entry)) ⌝ }
+{
+    if object == 0 {
+        return 0;
+    }
+    let octets = ground::six_octets(object);
+    put(out, &octets)
+}
+
+// The value of a characteristic, over the front of out; none of 4, of 18 and of what is no characteristic.
+pub fn value(
+    out: &mut [u8],
+    groups: &[u32],
+    tracks: &[u32],
+    text: &[u8],
+    p: player_state::Player,
+    c: u32,
+) -> usize
+    requires { ⌜ mostTitle ≤ length (now out) ⌝ }
+    requires { ⌜ Sits (now groups) (now tracks) p ⌝ }
     requires { ⌜ p .name .len ≤ mostTitle ⌝ }
-    requires { ⌜ length (titleValue (source (now tracks) (now text)) p) ≤ mostTitle ⌝ }
-    ensures { λ r. ⌜ r ≡ length (valueOf (source (now (tracks .entry)) (now (text .entry))) p c) ⌝ }
-    ensures { λ _. ⌜ now (out .exit) ≡ filled (valueOf (source (now (tracks .entry)) (now (text .entry))) p c) (now (out .entry)) ⌝ }
+    requires { ⌜ length (titleValue (now tracks) (now text) p) ≤ mostTitle ⌝ }
+    ensures { λ r. ⌜ r ≡ length (valueOf (source (now (groups .entry)) (now (tracks .entry)) (now (text .entry))) p c) ⌝ }
+    ensures { λ _. ⌜ now (out .exit) ≡ filled (valueOf (source (now (groups .entry)) (now (tracks .entry)) (now (text .entry))) p c) (now (out .entry)) ⌝ }
 {
     match c {
         1 => put_name(out, p),
@@ -115,6 +197,11 @@ pub fn value(out: &mut [u8], tracks: &[u32], text: &[u8], p: player_state::Playe
         7 => put_word(out, position_word(p)),
         8 => put_octet(out, p.mode.speed),
         9 => put_octet(out, p.mode.seeking),
+        10 => put_object(out, segments_now(tracks, p)),
+        11 => put_object(out, track_now(p)),
+        12 => put_object(out, next_now(groups, tracks, p)),
+        13 => put_object(out, parent_now(groups, p)),
+        14 => put_object(out, group_now(p)),
         15 => put_octet(out, p.mode.order),
         16 => {
             let octets = [0xFF, 0x00];
@@ -134,13 +221,14 @@ pub struct Held {
 }
 
 // The value of a characteristic.
-pub fn hold(tracks: &[u32], text: &[u8], p: player_state::Player, c: u32) -> Held
+pub fn hold(groups: &[u32], tracks: &[u32], text: &[u8], p: player_state::Player, c: u32) -> Held
+    requires { ⌜ Sits (now groups) (now tracks) p ⌝ }
     requires { ⌜ p .name .len ≤ mostTitle ⌝ }
-    requires { ⌜ length (titleValue (source (now tracks) (now text)) p) ≤ mostTitle ⌝ }
-    ensures { λ r. ⌜ r ≡ heldOf (valueOf (source (now (tracks .entry)) (now (text .entry))) p c) ⌝ }
+    requires { ⌜ length (titleValue (now tracks) (now text) p) ≤ mostTitle ⌝ }
+    ensures { λ r. ⌜ r ≡ heldOf (valueOf (source (now (groups .entry)) (now (tracks .entry)) (now (text .entry))) p c) ⌝ }
 {
     let mut octets = [0u8; ground::MOST_TITLE];
-    let n = value(&mut octets, tracks, text, p, c);
+    let n = value(&mut octets, groups, tracks, text, p, c);
     Held {
         octets: octets,
         len: n,

@@ -1,12 +1,15 @@
-// Runs card load, the catalogue check, the text check, the reading of a cue sheet and card write on framed cases from standard input, and writes a line for
-// each. A frame: an octet for the kind (1 card, 2 catalogue, 3 text, 4 cue sheet, 5 catalogue to be written), an octet for the length of the name, the name,
-// the case.
+// Runs card load, the catalogue check, the text check, the reading of a cue sheet, card write and the writing and reading of objects on framed cases from
+// standard input, and writes a line for each. A frame: an octet for the kind (1 card, 2 catalogue, 3 text, 4 cue sheet, 5 catalogue to be written, 6 and 7
+// catalogue and group or track whose Group object or Track Segments object is to be written, 8 and 9 such an object that is to be read), an octet for the
+// length of the name, the name, the case.
 ghost use Prim.Native.Nat.{_-_, _≤_};
 ghost use lib.ListN.{length};
 use card_load::Loaded;
 use card_write::Written;
 use catalogue_check::Catalogue;
 use catalogue_cue::Cued;
+use catalogue_objects::Answer;
+use catalogue_objects::Kind;
 use text::Checked;
 
 fn at_most(n: usize, most: usize) -> usize
@@ -237,23 +240,99 @@ fn write_card_into(groups: &[u32], tracks: &[u32], segments: &[u32], text: &[u8]
     write_card(groups, tracks, segments, text, &mut card[0..n]);
 }
 
-// Checks a catalogue, or writes it where the case has a room for its card.
-fn check_or_write(
-    writes: bool,
+// The answer of an object that is written or read: how much of it, or the refusal.
+fn write_filled(answer: Answer) {
+    match answer {
+        Answer::Filled(count) => {
+            write_number(count);
+        }
+        Answer::Refused(r) => {
+            write_refusal(r);
+        }
+    }
+}
+
+// Writes the answer and the check number of all lent octets, so that those behind the object are seen too.
+fn write_group(
     groups: &[u32],
     tracks: &[u32],
     segments: &[u32],
     text: &[u8],
+    g: u32,
+    out: &mut [u8],
+) {
+    let group = catalogue_tables::GroupNo(g);
+    write_filled(catalogue_objects::write_group(groups, tracks, segments, text, group, out));
+    write_sum_of_octets(out);
+}
+
+fn write_group_into(
+    groups: &[u32],
+    tracks: &[u32],
+    segments: &[u32],
+    text: &[u8],
+    g: u32,
     room: usize,
 ) {
-    if writes {
-        write_card_into(groups, tracks, segments, text, room);
-    } else {
-        check_catalogue(groups, tracks, segments, text);
+    let mut out = [0xA5u8; 8192];
+    let n = at_most(room, 8192);
+    write_group(groups, tracks, segments, text, g, &mut out[0..n]);
+}
+
+fn write_segments(
+    groups: &[u32],
+    tracks: &[u32],
+    segments: &[u32],
+    text: &[u8],
+    t: u32,
+    out: &mut [u8],
+) {
+    let track = catalogue_tables::TrackNo(t);
+    write_filled(catalogue_objects::write_segments(groups, tracks, segments, text, track, out));
+    write_sum_of_octets(out);
+}
+
+fn write_segments_into(
+    groups: &[u32],
+    tracks: &[u32],
+    segments: &[u32],
+    text: &[u8],
+    t: u32,
+    room: usize,
+) {
+    let mut out = [0xA5u8; 8192];
+    let n = at_most(room, 8192);
+    write_segments(groups, tracks, segments, text, t, &mut out[0..n]);
+}
+
+// What a kind does with a catalogue. Behind the catalogue its case has nothing; or the room for a card; or a group or a track, and the room for its object.
+fn with_catalogue(
+    kind: u8,
+    groups: &[u32],
+    tracks: &[u32],
+    segments: &[u32],
+    text: &[u8],
+    behind: &[u8],
+) {
+    match kind {
+        2 => {
+            check_catalogue(groups, tracks, segments, text);
+        }
+        5 => {
+            write_card_into(groups, tracks, segments, text, number(behind));
+        }
+        6 => {
+            let room = number(rest(behind, 4));
+            write_group_into(groups, tracks, segments, text, word(behind), room);
+        }
+        _ => {
+            let room = number(rest(behind, 4));
+            write_segments_into(groups, tracks, segments, text, word(behind), room);
+        }
     }
 }
 
-fn read_catalogue(writes: bool, groups: &[u8], g: usize, t: usize, n: usize, x: usize) -> &[u8]
+fn read_catalogue(kind: u8, groups: &[u8], g: usize, t: usize, n: usize, x: usize) -> &[u8]
     ensures { λ r. ⌜ length (now r) ≤ length (now (groups .entry)) ⌝ }
 {
     let mut group_table = [0u32; 2048];
@@ -265,24 +344,24 @@ fn read_catalogue(writes: bool, groups: &[u8], g: usize, t: usize, n: usize, x: 
     read_words(&mut group_table, groups);
     read_words(&mut track_table, tracks);
     read_words(&mut segment_table, segments);
-    let room = rest(text, x);
-    check_or_write(
-        writes,
+    let behind = rest(text, x);
+    with_catalogue(
+        kind,
         front_of_words(&group_table, g),
         front_of_words(&track_table, t),
         front_of_words(&segment_table, n),
         front(text, x),
-        number(room),
+        behind,
     );
-    room
+    behind
 }
 
 // The lengths of the groups, tracks and segments in words and of the text in octets, and then these.
-fn catalogue_case(writes: bool, s: &[u8]) -> &[u8]
+fn catalogue_case(kind: u8, s: &[u8]) -> &[u8]
     ensures { λ r. ⌜ length (now r) ≤ length (now (s .entry)) ⌝ }
 {
     read_catalogue(
-        writes,
+        kind,
         rest(s, 16),
         number(s),
         number(rest(s, 4)),
@@ -295,8 +374,16 @@ fn catalogue_case(writes: bool, s: &[u8]) -> &[u8]
 fn write_case(s: &[u8]) -> &[u8]
     ensures { λ r. ⌜ length (now r) ≤ length (now (s .entry)) ⌝ }
 {
-    let room = catalogue_case(true, s);
+    let room = catalogue_case(5, s);
     rest(room, 4)
+}
+
+// A catalogue, the number of a group or track, and the room for its object in octets.
+fn write_object_case(kind: u8, s: &[u8]) -> &[u8]
+    ensures { λ r. ⌜ length (now r) ≤ length (now (s .entry)) ⌝ }
+{
+    let which = catalogue_case(kind, s);
+    rest(which, 8)
 }
 
 // The length of the text, and the text.
@@ -352,16 +439,62 @@ fn sheet_case(s: &[u8]) -> &[u8]
     rest(room, 4)
 }
 
+fn read_group(octets: &[u8], words: &mut [u32]) {
+    prefill(words);
+    write_filled(catalogue_objects::read(octets, Kind::Group, words));
+    write_sum_of_words(words);
+}
+
+fn read_group_into(octets: &[u8], room: usize) {
+    let mut table = [0u32; 4096];
+    let n = at_most(room, 4096);
+    read_group(octets, &mut table[0..n]);
+}
+
+fn read_segments(octets: &[u8], positions: &mut [u32]) {
+    prefill(positions);
+    write_filled(catalogue_objects::read(octets, Kind::Segments, positions));
+    write_sum_of_words(positions);
+}
+
+fn read_segments_into(octets: &[u8], room: usize) {
+    let mut table = [0u32; 4096];
+    let n = at_most(room, 4096);
+    read_segments(octets, &mut table[0..n]);
+}
+
+// Reads an object of a kind, into as many words as there is room.
+fn read_object(kind: u8, octets: &[u8], room: usize) {
+    if kind == 8 {
+        read_group_into(octets, room);
+    } else {
+        read_segments_into(octets, room);
+    }
+}
+
+// The length of the object, the object, and the room for its entries in words.
+fn object_case(kind: u8, s: &[u8]) -> &[u8]
+    ensures { λ r. ⌜ length (now r) ≤ length (now (s .entry)) ⌝ }
+{
+    let len = number(s);
+    let octets = rest(s, 4);
+    let room = rest(octets, len);
+    read_object(kind, front(octets, len), number(room));
+    rest(room, 4)
+}
+
 // Runs the case of a kind, and hands back what follows it. Any other kind ends the input.
 fn case_of_kind(kind: u8, s: &[u8]) -> &[u8]
     ensures { λ r. ⌜ length (now r) ≤ length (now (s .entry)) ⌝ }
 {
     match kind {
         1 => card_case(s),
-        2 => catalogue_case(false, s),
+        2 => catalogue_case(2, s),
         3 => text_case(s),
         4 => sheet_case(s),
         5 => write_case(s),
+        6..=7 => write_object_case(kind, s),
+        8..=9 => object_case(kind, s),
         _ => rest(s, s.len()),
     }
 }

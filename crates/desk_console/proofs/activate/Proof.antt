@@ -9,14 +9,16 @@ use Rattle.ground.proofs.Rows.{NoneApplies, through}
 use Rattle.catalogue_tables.specs.Tables.{Tables, tables}
 use Rattle.player_state.specs.declared.Player.{Player}
 use Rattle.player_check.specs.Standing.{groupRow}
-use Rattle.player_check.proofs.Laws.{group-there}
+use Rattle.player_check.proofs.Laws.{group-there, group-used}
 use Rattle.player_moves.specs.Clock.{activated}
 use Rattle.player_moves.proofs.Ready.{shaped, run-of}
+use Rattle.player_moves.proofs.Kept.{kept-activated}
 use Rattle.desk_notices.specs.Owed.{settled, noWriter}
 use Rattle.desk_state.specs.Desk.{serviceAt, withService}
 use Rattle.desk_replies.specs.Replies.{fronted, serviceRow}
 use Rattle.desk_replies.proofs.Gates.{refuses, none, right}
-use Rattle.desk_console.specs.Console.{activateCall}
+use Rattle.desk_console.specs.Console.{playerOf, activateCall}
+use Rattle.desk_console.proofs.Sitting as sitting
 use borrow.Author.Needs.{needs}
 use Rattle.desk_console.proofs.activate.Statement.{statement}
 use Rattle.player_values.specs.Values.{source}
@@ -72,7 +74,22 @@ activate-requires c κs =
     (group-there (s .args .groups .now) (s .args .group .0) (sym (t .group-right .ensures) ∙ not-false _ (c .before .if2 .left)))
 
 becoming-requires : tie.Need-becoming-requires
-becoming-requires c κs = leb-false _ _ (passed (c .before .before .before .before) .1 .1 .1 .0)
+becoming-requires c κs =
+    let t = c .before .before .before in
+    let s = begun (t .before) in
+    let k = lent s in
+    let rows = serviceRow (s .args .service) ∷ [] in
+    let there = leb-false _ _ (passed (t .before) .1 .1 .1 .0) in
+    let may = sym (t .group-right .ensures) ∙ not-false _ (c .before .before .if2 .left) in
+    let kept =
+    kept-activated (k .groups) (k .tracks) (k .segments) (sitting.shaped k (s .args .d) rows (passed (t .before)) (s .args .service) there) (playerOf (s .args .d) (s .args .service))
+    (sitting.stands k (s .args .d) rows (passed (t .before)) (s .args .service) there) (s .args .group .0) (group-there (k .groups) (s .args .group .0) may) (group-used (k .groups) (s .args .group .0) may) in (
+      there,
+      (
+        sitting.sits k (s .args .d) rows (passed (t .before)) (s .args .service) there,
+        sitting.sits-after k (s .args .d) rows (passed (t .before)) (s .args .service) there _ _ (c .activate .ensures ∙ ap (activated (k .groups) (k .tracks) (s .args .group .0)) (c .before .player-at .ensures)) kept,
+      ),
+    )
 
 returns-3 : tie.Need-returns-3
 unfolding activateCall
@@ -82,7 +99,7 @@ returns-3 c =
     let s = begun (t .before) in
     through (keeping (s .args .d)) (front s) (passed (t .before))
     (past _ (sym (ap not (t .group-right .ensures)) ∙ e .if2 .left)
-    (c .becoming .ensures ∙ ap (λ (q : Player). leaves (granted []) (withService (s .args .service) (settled (source (s .args .tracks .now) (s .args .text .now)) (noWriter false) q (serviceAt (s .args .d) (s .args .service))) (s .args .d)))
+    (c .becoming .ensures ∙ ap (λ (q : Player). leaves (granted []) (withService (s .args .service) (settled (source (s .args .groups .now) (s .args .tracks .now) (s .args .text .now)) (noWriter false) q (serviceAt (s .args .d) (s .args .service))) (s .args .d)))
     (c .before .activate .ensures ∙ ap (activated (s .args .groups .now) (s .args .tracks .now) (s .args .group .0)) (c .before .before .player-at .ensures))))
 
 pub activate-spec : {M : Type 1} → statement M

@@ -9,11 +9,13 @@ use Rattle.catalogue_tables.specs.Tables.{Tables, tables}
 use Rattle.player_check.specs.Standing.{playerRule}
 use Rattle.player_moves.specs.Clock.{advanced}
 use Rattle.player_moves.proofs.Ready.{shaped, seated}
+use Rattle.player_moves.proofs.Kept.{kept-advanced}
 use Rattle.desk_notices.specs.Owed.{settled, noWriter}
 use Rattle.desk_state.specs.Desk.{serviceAt, withService}
 use Rattle.desk_replies.specs.Replies.{fronted, serviceRow}
 use Rattle.desk_replies.proofs.Gates.{refuses, none, right, player}
-use Rattle.desk_console.specs.Console.{quietAdvance, advanceCall}
+use Rattle.desk_console.specs.Console.{playerOf, quietAdvance, advanceCall}
+use Rattle.desk_console.proofs.Sitting as sitting
 use borrow.Author.Needs.{needs}
 use Rattle.desk_console.proofs.advance.Statement.{statement}
 use Rattle.player_values.specs.Values.{source}
@@ -59,7 +61,21 @@ is-quiet-requires : tie.Need-is-quiet-requires
 is-quiet-requires c κs = search needs
 
 becoming-requires : tie.Need-becoming-requires
-becoming-requires c κs = leb-false _ _ (passed (c .before .before .before) .1 .1 .1 .0)
+becoming-requires c κs =
+    let e = c .before .before .before in
+    let s = begun e in
+    let k = lent s in
+    let rows = serviceRow (s .args .service) ∷ [] in
+    let there = leb-false _ _ (passed e .1 .1 .1 .0) in
+    let kept =
+    kept-advanced (k .groups) (k .tracks) (k .segments) (sitting.shaped k (s .args .d) rows (passed e) (s .args .service) there) (playerOf (s .args .d) (s .args .service))
+    (sitting.stands k (s .args .d) rows (passed e) (s .args .service) there) (s .args .step) in (
+      there,
+      (
+        sitting.sits k (s .args .d) rows (passed e) (s .args .service) there,
+        sitting.sits-after k (s .args .d) rows (passed e) (s .args .service) there _ _ (c .before .advance .ensures ∙ ap (advanced (k .groups) (k .tracks) (s .args .step)) (c .before .before .player-at .ensures)) kept,
+      ),
+    )
 
 returns-2 : tie.Need-returns-2
 unfolding advanceCall
@@ -71,7 +87,7 @@ returns-2 c =
     let next = c .before .before .advance .ensures ∙ ap (advanced (s .args .groups .now) (s .args .tracks .now) (s .args .step)) now in
     through (keeping (s .args .d)) (front s) (passed e)
     (c .becoming .ensures
-    ∙ (λ k. leaves (granted []) (withService (s .args .service) (settled (source (s .args .tracks .now) (s .args .text .now)) (noWriter (quiet k)) (next k) (serviceAt (s .args .d) (s .args .service))) (s .args .d))))
+    ∙ (λ k. leaves (granted []) (withService (s .args .service) (settled (source (s .args .groups .now) (s .args .tracks .now) (s .args .text .now)) (noWriter (quiet k)) (next k) (serviceAt (s .args .d) (s .args .service))) (s .args .d))))
 
 pub advance-spec : {M : Type 1} → statement M
 advance-spec =

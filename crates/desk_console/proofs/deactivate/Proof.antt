@@ -8,11 +8,13 @@ use Rattle.ground.proofs.Rows.{NoneApplies, through}
 use Rattle.catalogue_tables.specs.Tables.{Tables, tables}
 use Rattle.player_state.specs.declared.Player.{Player}
 use Rattle.player_state.specs.Player.{deactivated}
+use Rattle.player_moves.proofs.Kept.{kept-deactivated}
 use Rattle.desk_notices.specs.Owed.{settled, noWriter}
 use Rattle.desk_state.specs.Desk.{serviceAt, withService}
 use Rattle.desk_replies.specs.Replies.{fronted, serviceRow}
 use Rattle.desk_replies.proofs.Gates.{refuses, none}
-use Rattle.desk_console.specs.Console.{deactivateCall}
+use Rattle.desk_console.specs.Console.{playerOf, deactivateCall}
+use Rattle.desk_console.proofs.Sitting as sitting
 use borrow.Author.Needs.{needs}
 use Rattle.desk_console.proofs.deactivate.Statement.{statement}
 use Rattle.player_values.specs.Values.{source}
@@ -50,7 +52,19 @@ deactivate-requires : tie.Need-deactivate-requires
 deactivate-requires c κs = search needs
 
 becoming-requires : tie.Need-becoming-requires
-becoming-requires c κs = leb-false _ _ (passed (c .before .before) .1 .1 .1 .0)
+becoming-requires c κs =
+    let e = c .before .before in
+    let s = begun e in
+    let k = lent s in
+    let rows = serviceRow (s .args .service) ∷ [] in
+    let there = leb-false _ _ (passed e .1 .1 .1 .0) in
+    let kept = kept-deactivated (k .groups) (k .tracks) (playerOf (s .args .d) (s .args .service)) (sitting.stands k (s .args .d) rows (passed e) (s .args .service) there) in (
+      there,
+      (
+        sitting.sits k (s .args .d) rows (passed e) (s .args .service) there,
+        sitting.sits-after k (s .args .d) rows (passed e) (s .args .service) there _ _ (c .deactivate .ensures ∙ ap deactivated (c .before .player-at .ensures)) kept,
+      ),
+    )
 
 returns-2 : tie.Need-returns-2
 unfolding deactivateCall
@@ -58,7 +72,7 @@ returns-2 c =
     let e = c .before .before .before in
     let s = begun e in
     through (keeping (s .args .d)) (front s) (passed e)
-    (c .becoming .ensures ∙ ap (λ (q : Player). leaves (granted []) (withService (s .args .service) (settled (source (s .args .tracks .now) (s .args .text .now)) (noWriter false) q (serviceAt (s .args .d) (s .args .service))) (s .args .d)))
+    (c .becoming .ensures ∙ ap (λ (q : Player). leaves (granted []) (withService (s .args .service) (settled (source (s .args .groups .now) (s .args .tracks .now) (s .args .text .now)) (noWriter false) q (serviceAt (s .args .d) (s .args .service))) (s .args .d)))
     (c .before .deactivate .ensures ∙ ap deactivated (c .before .before .player-at .ensures)))
 
 pub deactivate-spec : {M : Type 1} → statement M

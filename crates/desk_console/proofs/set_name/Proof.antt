@@ -11,11 +11,13 @@ use Rattle.player_state.specs.declared.Player.{Player}
 use Rattle.player_state.specs.Player.{renamed}
 use Rattle.player_check.specs.Standing.{nameRow}
 use Rattle.player_check.proofs.Laws.{text-short}
+use Rattle.player_moves.proofs.Kept.{kept-renamed}
 use Rattle.desk_notices.specs.Owed.{settled, noWriter}
 use Rattle.desk_state.specs.Desk.{serviceAt, withService}
 use Rattle.desk_replies.specs.Replies.{fronted, serviceRow}
 use Rattle.desk_replies.proofs.Gates.{refuses, none}
-use Rattle.desk_console.specs.Console.{nameCall}
+use Rattle.desk_console.specs.Console.{playerOf, nameCall}
+use Rattle.desk_console.proofs.Sitting as sitting
 use borrow.Author.Needs.{needs}
 use Rattle.desk_console.proofs.set_name.Statement.{statement}
 use Rattle.player_values.specs.Values.{source}
@@ -71,7 +73,22 @@ set-name-requires : tie.Need-set-name-requires
 set-name-requires c κs = text-short _ (not-false _ (good (c .before) .0))
 
 becoming-requires : tie.Need-becoming-requires
-becoming-requires c κs = leb-false _ _ (passed (c .before .before .before .before .before) .1 .1 .1 .0)
+becoming-requires c κs =
+    let g = c .before .before in
+    let e = g .before .before .before in
+    let s = begun e in
+    let k = lent s in
+    let rows = serviceRow (s .args .service) ∷ [] in
+    let there = leb-false _ _ (passed e .1 .1 .1 .0) in
+    let kept =
+    kept-renamed (k .groups) (k .tracks) (playerOf (s .args .d) (s .args .service)) (sitting.stands k (s .args .d) rows (passed e) (s .args .service) there)
+    (s .args .name .now) (not-false _ (good g .0)) in (
+      there,
+      (
+        sitting.sits k (s .args .d) rows (passed e) (s .args .service) there,
+        sitting.sits-after k (s .args .d) rows (passed e) (s .args .service) there _ _ (c .set-name .ensures ∙ ap (renamed (s .args .name .now)) (c .before .player-at .ensures)) kept,
+      ),
+    )
 
 returns-3 : tie.Need-returns-3
 unfolding nameCall
@@ -81,7 +98,7 @@ returns-3 c =
     let s = begun (t .before) in
     through (keeping (s .args .d)) (front s) (passed (t .before))
     (past _ (good e .0)
-    (c .becoming .ensures ∙ ap (λ (q : Player). leaves (granted []) (withService (s .args .service) (settled (source (s .args .tracks .now) (s .args .text .now)) (noWriter false) q (serviceAt (s .args .d) (s .args .service))) (s .args .d)))
+    (c .becoming .ensures ∙ ap (λ (q : Player). leaves (granted []) (withService (s .args .service) (settled (source (s .args .groups .now) (s .args .tracks .now) (s .args .text .now)) (noWriter false) q (serviceAt (s .args .d) (s .args .service))) (s .args .d)))
     (c .before .set-name .ensures ∙ ap (renamed (s .args .name .now)) (c .before .before .player-at .ensures))))
 
 pub set-name-spec : {M : Type 1} → statement M

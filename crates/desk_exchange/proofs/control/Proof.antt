@@ -1,9 +1,14 @@
 -- `desk_exchange::control`: what the opcode comes to is settled, and then its result is noted.
-use mathlib.Core.Path.{ap, _∙_}
+use mathlib.Core.Path.{sym, ap, subst, _∙_}
 use native.Mathlib.Omega.{arith}
 use Rattle.catalogue_tables.specs.Tables.{Tables, tables}
+use Rattle.player_moves.specs.declared.Controlled.{Controlled}
+use Rattle.player_moves.specs.Moves.{Sits}
 use Rattle.player_moves.specs.Control.{controlled}
 use Rattle.player_moves.proofs.Ready.{shaped}
+use Rattle.player_moves.proofs.Kept.{kept-controlled}
+use Rattle.player_values.specs.Values.{sourceOf}
+use Rattle.player_values.proofs.Fits.{player-sits}
 use Rattle.desk_client.specs.Duties.{resulted}
 use Rattle.desk_state.specs.declared.Service.{Service}
 use Rattle.desk_state.specs.Desk.{accountIn, withAccount}
@@ -11,7 +16,6 @@ use Rattle.desk_notices.specs.Owed.{settled}
 use Rattle.desk_exchange.specs.Write.{controlWritten}
 use borrow.Author.Needs.{needs}
 use Rattle.desk_exchange.proofs.control.Statement.{statement}
-use Rattle.player_values.specs.Values.{source}
 use Rattle.desk_exchange.proofs.control.Tie as tie
 
 abbrev lent : tie.Start → Tables
@@ -32,7 +36,18 @@ by-writer-requires : tie.Need-by-writer-requires
 by-writer-requires c κs = search needs
 
 settle-requires : tie.Need-settle-requires
-settle-requires c κs = search needs
+settle-requires c κs =
+    let after-control = c .before .before in
+    let after-number-of = after-control .before in
+    let after-octet-or-zero = after-number-of .before in
+    let s = after-octet-or-zero .before .before .before .before .before .before .before in
+    let a = s .args in (
+      player-sits (lent s) (s .pre .0) (a .s .player) (s .pre .1 .0),
+      subst (λ (done : Controlled). Sits (a .groups .now) (a .tracks .now) (done .player)) (sym (after-control .control .ensures))
+          (player-sits (lent s) (s .pre .0) _
+          (kept-controlled (a .groups .now) (a .tracks .now) (a .segments .now) (shaped (lent s) (s .pre .0)) (a .s .player) (s .pre .1 .0)
+          (after-octet-or-zero .octet-or-zero .result) (after-number-of .number-of .result))),
+    )
 
 account-in-requires : tie.Need-account-in-requires
 account-in-requires c κs =
@@ -59,7 +74,7 @@ returns c =
     let s = after-octet-or-zero .before .before .before .before .before .before .before in
     let opcode = after-octet-or-zero .octet-or-zero .ensures in
     let done = after-control .control .ensures ∙ (λ k. controlled (s .args .groups .now) (s .args .tracks .now) (s .args .segments .now) (opcode k) (after-number-of .number-of .ensures k) (s .args .s .player)) in
-    let told = after-settle .settle .ensures ∙ (λ k. settled (source (s .args .tracks .now) (s .args .text .now)) (after-by-writer .by-writer .ensures k) (done k .player) (s .args .s)) in
+    let told = after-settle .settle .ensures ∙ (λ k. settled (sourceOf (lent s)) (after-by-writer .by-writer .ensures k) (done k .player) (s .args .s)) in
     let note = c .before .note-result .ensures ∙ (λ k. resulted (opcode k) (done k .result) ((after-account-in .account-in .ensures ∙ ap (λ (t : Service). accountIn t (s .args .who)) told) k)) in
     c .with-account .ensures ∙ (λ k. withAccount (s .args .who) (note k) (told k))
 

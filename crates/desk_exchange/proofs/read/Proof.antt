@@ -20,7 +20,7 @@ use Rattle.desk_slots.proofs.SetLaws.{in-below}
 use Rattle.player_values.specs.declared.Held.{Held}
 use Rattle.player_values.specs.Values.{sourceOf, valueOf}
 use Rattle.player_values.specs.Handing.{heldOf, partFrom}
-use Rattle.player_values.proofs.Fits.{name-short, title-fits, value-fits}
+use Rattle.player_values.proofs.Fits.{player-sits, name-short, title-fits, value-fits}
 use Rattle.ground.proofs.Rows.{NoneApplies, through}
 use Rattle.desk_client.specs.declared.Link.{Link}
 use Rattle.desk_client.proofs.Rule.{mtu-least}
@@ -136,7 +136,7 @@ hold-requires c κs =
     let s = start (v .before) in
     let r = catalogue s (passed (v .before)) in
     let p = v .service-at .result .player in
-    (name-short (lent s) r p (standing v), title-fits (lent s) r p (standing v))
+    (player-sits (lent s) r p (standing v), (name-short (lent s) r p (standing v), title-fits (lent s) r p (standing v)))
 
 wide-word-requires : tie.Need-wide-word-requires
 wide-word-requires c κs = search needs

@@ -16,7 +16,7 @@ use Rattle.catalogue_tables.specs.Tables.{Tables, tables}
 use Rattle.player_check.specs.Standing.{playerRule}
 use Rattle.player_values.specs.Values.{sourceOf, valueOf}
 use Rattle.player_values.specs.Handing.{heldOf}
-use Rattle.player_values.proofs.Fits.{name-short, title-fits}
+use Rattle.player_values.proofs.Fits.{player-sits, name-short, title-fits}
 use Rattle.desk_slots.specs.Slots.{serviceCount}
 use Rattle.desk_slots.specs.Characteristics.{readables, isIn}
 use Rattle.desk_slots.proofs.SetLaws.{in-below}
@@ -138,7 +138,7 @@ hold-requires c κs =
     let s = begun (e .before .before) in
     let r = right (lent s) (ltb (s .args .room) leastOutput) (s .args .d) (mine s) (passed e) in
     let p = v .service-at .result .player in
-    (name-short (lent s) r p (fine v), title-fits (lent s) r p (fine v))
+    (player-sits (lent s) r p (fine v), (name-short (lent s) r p (fine v), title-fits (lent s) r p (fine v)))
 
 wide-word-requires : tie.Need-wide-word-requires
 wide-word-requires c κs = search needs

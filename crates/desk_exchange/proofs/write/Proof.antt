@@ -1,11 +1,10 @@
 -- `desk_exchange::write`: its rows, then what it does.
-use mathlib.Core.Path.{_≡_, ap, subst, _∙_}
-use mathlib.Core.Bool.{true, false}
+use mathlib.Core.Path.{ap, _∙_}
+use mathlib.Core.Bool.{false}
 use mathlib.Core.List.{List, [], _++_}
-use Prim.Native.Nat.{ℕ, _≤_, _<_}
+use Prim.Native.Nat.{_<_}
 use native.Mathlib.Omega.{arith}
-use borrow.Author.Tests.{eqb-true, leb-false, not-true, not-false}
-use lib.ListN.{length}
+use borrow.Author.Tests.{leb-false, not-true, not-false}
 use Rattle.ground.specs.Refusals.{granted, leaves, keeping, Row}
 use Rattle.catalogue_tables.specs.Tables.{Tables, tables}
 use Rattle.player_check.specs.Standing.{playerRule}
@@ -15,8 +14,7 @@ use Rattle.desk_state.specs.Desk.{withService}
 use Rattle.desk_replies.specs.Replies.{fronted}
 use Rattle.desk_replies.proofs.Gates.{refuses, none, right, player}
 use Rattle.desk_slots.specs.Slots.{serviceCount, clientCount}
-use Rattle.desk_slots.specs.Table.{sizeOf}
-use Rattle.desk_exchange.specs.Write.{lengthRight, writerRows, written, writeCall}
+use Rattle.desk_exchange.specs.Write.{allowed, writerRows, written, writeCall}
 use borrow.Author.Needs.{needs}
 use Rattle.desk_exchange.proofs.write.Statement.{statement}
 use Rattle.desk_exchange.proofs.write.Tie as tie
@@ -28,7 +26,7 @@ abbrev begin : tie.After-write-gate → tie.Start
 begin g = g .before .before .before .before .before .before
 
 abbrev mine : tie.Start → List Row
-mine s = writerRows (s .args .d) (s .args .who) (s .args .service) (s .args .characteristic) (s .args .value .now)
+mine s = writerRows (lent s) (s .args .d) (s .args .who) (s .args .service) (s .args .characteristic) (s .args .value .now)
 
 abbrev rows : tie.Start → List Row
 rows s = fronted (lent s) false (s .args .d) ++ mine s
@@ -47,11 +45,6 @@ client e = leb-false _ _ (passed e .1 .1 .1 .0)
 
 served : (e : tie.Else1) → start e .args .service < serviceCount
 served e = leb-false _ _ (passed e .1 .1 .1 .1 .0)
-
--- a write of the position has its four octets
-four : (value : List ℕ) (characteristic : ℕ) → lengthRight characteristic value ≡ true → characteristic ≡ 7 → 4 ≤ length value
-unfolding lengthRight sizeOf
-four value characteristic e q = omega (arith, eqb-true (length value) 4 (subst (λ (n : ℕ). lengthRight n value ≡ true) q e))
 
 write-gate-requires : tie.Need-write-gate-requires
 write-gate-requires c κs = search needs
@@ -78,7 +71,14 @@ carry-out-requires c κs =
       (
         ap (λ (t : Service). playerRule (s .args .groups .now) (s .args .tracks .now) (t .player)) (c .service-at .ensures)
             ∙ player (lent s) false (s .args .d) (mine s) n (s .args .service) (served e),
-        (client e, four (s .args .value .now) (s .args .characteristic) (not-false _ (n .1 .1 .1 .1 .1 .1 .1 .1 .1 .0))),
+        (
+          client e,
+          (
+            not-false _ (n .1 .1 .1 .1 .1 .1 .1 .1 .1 .0),
+            ap (λ (t : Service). allowed (s .args .groups .now) (t .player) (s .args .characteristic) (s .args .value .now)) (c .service-at .ensures)
+                ∙ not-false _ (n .1 .1 .1 .1 .1 .1 .1 .1 .1 .1 .0),
+          ),
+        ),
       ),
     )
 

@@ -5,20 +5,20 @@ use mathlib.Core.List.{List, [], _∷_, _++_}
 use Prim.Native.Nat.{ℕ}
 use borrow.Author.Tests.{leb-false, not-true, not-false}
 use lib.Dec.{eqb, leb}
-use Rattle.ground.specs.Cases.{within}
 use Rattle.ground.specs.Refusals.{refused, Row, row}
 use Rattle.ground.proofs.Cases.{past, here}
 use Rattle.ground.proofs.Rows.{NoneApplies, beyond}
 use Rattle.catalogue_tables.specs.Tables.{Tables, tables}
+use Rattle.catalogue_check.proofs.Laws.{few-groups}
 use Rattle.desk_slots.specs.Characteristics.{writables, isIn}
 use Rattle.desk_client.specs.declared.Link.{Link}
 use Rattle.desk_client.specs.declared.Account.{Account}
 use Rattle.desk_client.specs.Client.{mostResults}
 use Rattle.desk_state.specs.declared.Service.{Service}
-use Rattle.desk_state.specs.Desk.{accountIn}
+use Rattle.desk_state.specs.Desk.{serviceAt, accountIn}
 use Rattle.desk_replies.specs.Replies.{Gated, fronted, ofCaller, ofCharacteristic, linkOf, accountOf}
-use Rattle.desk_replies.proofs.Gates.{says, none, stays-shut, stays-open}
-use Rattle.desk_exchange.specs.Write.{firstOctet, lengthRight}
+use Rattle.desk_replies.proofs.Gates.{says, none, stays-shut, stays-open, right}
+use Rattle.desk_exchange.specs.Write.{lengthRight, allowed}
 use borrow.Author.Needs.{needs}
 use Rattle.desk_exchange.proofs.write_gate.Statement.{statement}
 use Rattle.desk_exchange.proofs.write_gate.Tie as tie
@@ -30,13 +30,14 @@ abbrev own : tie.Start → Link
 own s = linkOf (s .args .d) (s .args .who)
 
 -- the rows that the gate asked, and those behind them
-abbrev asked : tie.Start → List Row
-asked s =
-    fronted (lent s) false (s .args .d)
-    ++ (ofCaller (s .args .who) (s .args .service) (own s .connected) ++ ofCharacteristic (own s .encrypted) (s .args .characteristic) 0x03 (isIn writables (s .args .characteristic)))
+abbrev mine : tie.Start → List Row
+mine s = ofCaller (s .args .who) (s .args .service) (own s .connected) ++ ofCharacteristic (own s .encrypted) (s .args .characteristic) 0x03 (isIn writables (s .args .characteristic))
 
-abbrev badOrder : tie.Start → ℕ → Bool
-badOrder s first = eqb (s .args .characteristic) 15 && not (within 1 8 first)
+abbrev asked : tie.Start → List Row
+asked s = fronted (lent s) false (s .args .d) ++ mine s
+
+abbrev may : tie.Start → Service → Bool
+may s t = allowed (s .args .groups .now) (t .player) (s .args .characteristic) (s .args .value .now)
 
 abbrev tooMany : tie.Start → ℕ → Bool
 tooMany s waiting = eqb (s .args .characteristic) 18 && leb mostResults waiting
@@ -44,43 +45,48 @@ tooMany s waiting = eqb (s .args .characteristic) 18 && leb mostResults waiting
 abbrev behind : tie.Start → List Row
 behind s =
     row 0x0D (not (lengthRight (s .args .characteristic) (s .args .value .now)))
-    ∷ row 0x13 (badOrder s (firstOctet (s .args .value .now)))
+    ∷ row 0x13 (not (may s (serviceAt (s .args .d) (s .args .service))))
     ∷ row 0x11 (tooMany s (accountOf (s .args .d) (s .args .who) (s .args .service) .waiting))
     ∷ []
 
 abbrev begun : tie.After-characteristic-gate → tie.Start
 begun g = g .before .before .before .before .before .before .before
 
+abbrev start : tie.Else1 → tie.Start
+start e = begun (e .before .before)
+
 gated : (g : tie.After-characteristic-gate) → Gated (asked (begun g)) (g .characteristic-gate .result)
 gated g =
     let s = begun g in
     subst
-    (λ (allowed : Bool). Gated (fronted (lent s) false (s .args .d) ++ (ofCaller (s .args .who) (s .args .service) (own s .connected) ++ ofCharacteristic (own s .encrypted) (s .args .characteristic) 0x03 allowed)) (g .characteristic-gate .result))
+    (λ (writable : Bool). Gated (fronted (lent s) false (s .args .d) ++ (ofCaller (s .args .who) (s .args .service) (own s .connected) ++ ofCharacteristic (own s .encrypted) (s .args .characteristic) 0x03 writable)) (g .characteristic-gate .result))
     (g .before .may-write .ensures) (g .characteristic-gate .ensures)
 
-passed : (e : tie.Else1) → NoneApplies (asked (begun (e .before .before)))
-passed e = none (asked (begun (e .before .before))) (e .before .before .characteristic-gate .result) (gated (e .before .before)) (not-false _ (e .if1 .left))
+passed : (e : tie.Else1) → NoneApplies (asked (start e))
+passed e = none (asked (start e)) (e .before .before .characteristic-gate .result) (gated (e .before .before)) (not-false _ (e .if1 .left))
 
--- the length, the order and the number of results, as the code and as the definition read them
+-- from the test of the value, the way back to the gate's
+abbrev reached : tie.After-is-allowed → tie.Else1
+reached w = w .before .before .before .before .before
+
+-- the length, the value and the number of results, as the code and as the definition read them
 long : (l : tie.After-length-right)
-    → let s = begun (l .before .before .before) in
+    → let s = start (l .before) in
     not (lengthRight (s .args .characteristic) (s .args .value .now)) ≡ not (l .length-right .result)
 long l = sym (ap not (l .length-right .ensures))
 
-order-is : (o : tie.After-octet-or-zero)
-    → let s = begun (o .before .before .before .before .before) in
-    badOrder s (o .octet-or-zero .result) ≡ badOrder s (firstOctet (s .args .value .now))
-order-is o =
-    let gate = o .before .before .before .before .before in
-    ap (badOrder (begun gate)) (o .octet-or-zero .ensures)
+may-is : (w : tie.After-is-allowed)
+    → let s = start (reached w) in
+    not (w .is-allowed .result) ≡ not (may s (serviceAt (s .args .d) (s .args .service)))
+may-is w = ap not (w .is-allowed .ensures ∙ ap (may (start (reached w))) (w .before .before .service-at .ensures))
 
 many-is : (a : tie.After-account-in)
-    → let s = begun (a .before .before .before .before .before .before .before .before) in
+    → let s = start (reached (a .before .before)) in
     tooMany s (a .account-in .result .waiting) ≡ tooMany s (accountOf (s .args .d) (s .args .who) (s .args .service) .waiting)
 many-is a =
-    let gate = a .before .before .before .before .before .before .before .before in
-    let s = begun gate in
-    ap (λ (r : Account). tooMany s (r .waiting)) (a .account-in .ensures ∙ ap (λ (t : Service). accountIn t (s .args .who)) (a .before .service-at .ensures))
+    let w = a .before .before in
+    let s = start (reached w) in
+    ap (λ (r : Account). tooMany s (r .waiting)) (a .account-in .ensures ∙ ap (λ (t : Service). accountIn t (s .args .who)) (w .before .before .service-at .ensures))
 
 may-write-requires : tie.Need-may-write-requires
 may-write-requires c κs = search needs
@@ -104,30 +110,35 @@ returns-2 : tie.Need-returns-2
 returns-2 c =
     let l = c .before .before in
     let e = l .before in
-    let s = begun (e .before .before) in
+    let s = start e in
     says (asked s ++ behind s) (c .gate-shut .result) (refused 0x0D) (c .gate-shut .ensures .0) (c .gate-shut .ensures .1)
     (beyond (asked s) (behind s) (passed e) (here _ (long l ∙ c .before .if2 .taken) refl))
 
-octet-or-zero-requires : tie.Need-octet-or-zero-requires
-octet-or-zero-requires c κs = search needs
+service-at-requires : tie.Need-service-at-requires
+service-at-requires c κs = leb-false _ _ (passed (c .before .before) .1 .1 .1 .1 .0)
+
+is-allowed-requires : tie.Need-is-allowed-requires
+is-allowed-requires c κs =
+    let test2 = c .before .before in
+    let l = test2 .before in
+    let e = l .before in
+    let s = start e in
+    (sym (l .length-right .ensures) ∙ not-false _ (test2 .if2 .left), few-groups (lent s) (right (lent s) false (s .args .d) (mine s) (passed e)))
 
 gate-shut-requires-2 : tie.Need-gate-shut-requires-2
 gate-shut-requires-2 c κs = search needs
 
 returns-3 : tie.Need-returns-3
 returns-3 c =
-    let o = c .before .before in
-    let l = o .before .before in
-    let e = l .before in
-    let s = begun (e .before .before) in
+    let w = c .before .before in
+    let test2 = w .before .before .before in
+    let e = reached w in
+    let s = start e in
     says (asked s ++ behind s) (c .gate-shut2 .result) (refused 0x13) (c .gate-shut2 .ensures .0) (c .gate-shut2 .ensures .1)
-    (beyond (asked s) (behind s) (passed e) (past _ (long l ∙ o .before .if2 .left) (here _ (sym (order-is o) ∙ c .before .if3 .taken) refl)))
-
-service-at-requires : tie.Need-service-at-requires
-service-at-requires c κs = leb-false _ _ (passed (c .before .before .before .before) .1 .1 .1 .1 .0)
+    (beyond (asked s) (behind s) (passed e) (past _ (long (test2 .before) ∙ test2 .if2 .left) (here _ (sym (may-is w) ∙ c .before .if3 .taken) refl)))
 
 account-in-requires : tie.Need-account-in-requires
-account-in-requires c κs = leb-false _ _ (passed (c .before .before .before .before .before) .1 .1 .1 .0)
+account-in-requires c κs = leb-false _ _ (passed (reached (c .before)) .1 .1 .1 .0)
 
 gate-shut-requires-3 : tie.Need-gate-shut-requires-3
 gate-shut-requires-3 c κs = search needs
@@ -135,26 +146,26 @@ gate-shut-requires-3 c κs = search needs
 returns-4 : tie.Need-returns-4
 returns-4 c =
     let a = c .before .before .before in
-    let test3 = a .before .before in
-    let o = test3 .before in
-    let l = o .before .before in
-    let e = l .before in
-    let s = begun (e .before .before) in
+    let test3 = a .before in
+    let w = test3 .before in
+    let test2 = w .before .before .before in
+    let e = reached w in
+    let s = start e in
     says (asked s ++ behind s) (c .gate-shut3 .result) (refused 0x11) (c .gate-shut3 .ensures .0) (c .gate-shut3 .ensures .1)
     (beyond (asked s) (behind s) (passed e)
-    (past _ (long l ∙ o .before .if2 .left) (past _ (sym (order-is o) ∙ test3 .if3 .left) (here _ (sym (many-is a) ∙ c .before .if4 .taken) refl))))
+    (past _ (long (test2 .before) ∙ test2 .if2 .left) (past _ (sym (may-is w) ∙ test3 .if3 .left) (here _ (sym (many-is a) ∙ c .before .if4 .taken) refl))))
 
 returns-5 : tie.Need-returns-5
 returns-5 c =
     let a = c .before .before in
-    let test3 = a .before .before in
-    let o = test3 .before in
-    let l = o .before .before in
-    let e = l .before in
+    let test3 = a .before in
+    let w = test3 .before in
+    let test2 = w .before .before .before in
+    let e = reached w in
     let g = e .before .before in
     let s = begun g in
     stays-open (asked s) (g .characteristic-gate .result) (gated g) (not-false _ (e .if1 .left)) (behind s)
-    (long l ∙ o .before .if2 .left, (sym (order-is o) ∙ test3 .if3 .left, (sym (many-is a) ∙ c .if4 .left, tt)))
+    (long (test2 .before) ∙ test2 .if2 .left, (sym (may-is w) ∙ test3 .if3 .left, (sym (many-is a) ∙ c .if4 .left, tt)))
 
 pub write-gate-spec : {M : Type 1} → statement M
 write-gate-spec =
@@ -166,10 +177,10 @@ write-gate-spec =
     length-right-requires
     gate-shut-requires
     returns-2
-    octet-or-zero-requires
+    service-at-requires
+    is-allowed-requires
     gate-shut-requires-2
     returns-3
-    service-at-requires
     account-in-requires
     gate-shut-requires-3
     returns-4

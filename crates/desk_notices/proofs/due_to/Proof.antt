@@ -4,6 +4,7 @@ use mathlib.Core.Bool.{not, _&&_}
 use Prim.Native.Nat.{_≤_, _-_}
 use native.Mathlib.Omega.{arith}
 use Rattle.ground.specs.Cases.{has}
+use Rattle.desk_slots.specs.Slots.{slotCount}
 use Rattle.desk_slots.specs.Characteristics.{setOf}
 use Rattle.desk_slots.proofs.SetLaws.{set-turn, set-end}
 use Rattle.desk_notices.specs.Owed.{fallsDue, spared, falls}
@@ -12,10 +13,10 @@ use Rattle.desk_notices.proofs.due_to.Statement.{statement}
 use Rattle.desk_notices.proofs.due_to.Tie as tie
 
 abbrev Inv-loop : tie.InvT-loop
-Inv-loop altered track cause who due₀ s₀ due s = (s ≤ 10) × (due ≡ setOf s (falls altered track cause who))
+Inv-loop altered track cause who due₀ s₀ due s = (s ≤ slotCount) × (due ≡ setOf s (falls altered track cause who))
 
 abbrev μ-loop : tie.MeasureT-loop
-μ-loop altered track cause who due₀ s₀ due s = 10 - s
+μ-loop altered track cause who due₀ s₀ due s = slotCount - s
 
 loop-holds : tie.Need-loop-holds Inv-loop μ-loop
 unfolding setOf

@@ -1,10 +1,7 @@
 -- `desk_notices::title_changed`: the two titles are compared.
 use mathlib.Core.Path.{ap, _∙_}
 use mathlib.Core.Bool.{not}
-use Rattle.player_values.specs.Values.{source}
-use Rattle.player_values.proofs.Laws.{values}
 use Rattle.desk_notices.specs.Changes.{sameOctets}
-use Rattle.desk_notices.proofs.Differing.{by-values}
 use borrow.Author.Needs.{needs}
 use Rattle.desk_notices.proofs.title_changed.Statement.{statement}
 use Rattle.desk_notices.proofs.title_changed.Tie as tie
@@ -20,11 +17,7 @@ same-requires c κs = search needs
 
 returns : tie.Need-returns
 returns c =
-    let p = c .before .before in
-    let a = p .before .before .before .args in
-    let from = source (a .tracks .now) (a .text .now) in
-    ap not (c .same .ensures ∙ (λ k. sameOctets (p .title-of .ensures k) (c .before .title-of2 .ensures k)))
-    ∙ by-values from (a .p) (a .q) 5 (values from (a .p) .title) (values from (a .q) .title)
+    ap not (c .same .ensures ∙ (λ k. sameOctets (c .before .before .title-of .ensures k) (c .before .title-of2 .ensures k)))
 
 pub title-changed-spec : {M : Type 1} → statement M
 title-changed-spec =

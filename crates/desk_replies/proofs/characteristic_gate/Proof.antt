@@ -7,7 +7,7 @@ use Rattle.ground.specs.Refusals.{refused, Row}
 use Rattle.ground.proofs.Cases.{past, here}
 use Rattle.ground.proofs.Rows.{NoneApplies, beyond}
 use Rattle.catalogue_tables.specs.Tables.{Tables, tables}
-use Rattle.desk_slots.specs.Characteristics.{thirteen, isIn}
+use Rattle.desk_slots.specs.Characteristics.{everyOne, isIn}
 use Rattle.desk_client.specs.declared.Link.{Link}
 use Rattle.desk_replies.specs.Replies.{fronted, ofCaller, ofCharacteristic, linkOf}
 use Rattle.desk_replies.proofs.Gates.{says, none, stays-shut, stays-open}
@@ -31,7 +31,7 @@ passed i =
 
 known : (i : tie.After-is-characteristic)
     → let s = i .before .before .before .before .before .before .before .before in
-    not (isIn thirteen (s .args .characteristic)) ≡ not (i .is-characteristic .result)
+    not (isIn everyOne (s .args .characteristic)) ≡ not (i .is-characteristic .result)
 known i = sym (ap not (i .is-characteristic .ensures))
 
 -- the link that is looked at is the caller's

@@ -47,18 +47,38 @@ returns-10 c = (omega arith, rw (c .match .keys10))
 
 returns-11 : tie.Need-returns-11
 unfolding slotOf
-returns-11 c =
+returns-11 c = (omega arith, rw (c .match .keys11))
+
+returns-12 : tie.Need-returns-12
+unfolding slotOf
+returns-12 c = (omega arith, rw (c .match .keys12))
+
+returns-13 : tie.Need-returns-13
+unfolding slotOf
+returns-13 c = (omega arith, rw (c .match .keys13))
+
+returns-14 : tie.Need-returns-14
+unfolding slotOf
+returns-14 c = (omega arith, rw (c .match .keys14))
+
+returns-15 : tie.Need-returns-15
+unfolding slotOf
+returns-15 c =
     let x = c .before .args .characteristic in
     let r = c .match .rest in (
       omega arith,
       simp (
-        ne-eqb x 1 (r .0 .0 .0 .0 .0 .0 .0 .0 .0 .1),
-        ne-eqb x 4 (r .0 .0 .0 .0 .0 .0 .0 .0 .1),
-        ne-eqb x 5 (r .0 .0 .0 .0 .0 .0 .0 .1),
-        ne-eqb x 6 (r .0 .0 .0 .0 .0 .0 .1),
-        ne-eqb x 7 (r .0 .0 .0 .0 .0 .1),
-        ne-eqb x 8 (r .0 .0 .0 .0 .1),
-        ne-eqb x 9 (r .0 .0 .0 .1),
+        ne-eqb x 1 (r .0 .0 .0 .0 .0 .0 .0 .0 .0 .0 .0 .0 .0 .1),
+        ne-eqb x 4 (r .0 .0 .0 .0 .0 .0 .0 .0 .0 .0 .0 .0 .1),
+        ne-eqb x 5 (r .0 .0 .0 .0 .0 .0 .0 .0 .0 .0 .0 .1),
+        ne-eqb x 6 (r .0 .0 .0 .0 .0 .0 .0 .0 .0 .0 .1),
+        ne-eqb x 7 (r .0 .0 .0 .0 .0 .0 .0 .0 .0 .1),
+        ne-eqb x 8 (r .0 .0 .0 .0 .0 .0 .0 .0 .1),
+        ne-eqb x 9 (r .0 .0 .0 .0 .0 .0 .0 .1),
+        ne-eqb x 11 (r .0 .0 .0 .0 .0 .0 .1),
+        ne-eqb x 12 (r .0 .0 .0 .0 .0 .1),
+        ne-eqb x 13 (r .0 .0 .0 .0 .1),
+        ne-eqb x 14 (r .0 .0 .0 .1),
         ne-eqb x 15 (r .0 .0 .1),
         ne-eqb x 17 (r .0 .1),
         ne-eqb x 18 (r .1),
@@ -66,4 +86,6 @@ returns-11 c =
     )
 
 pub slot-of-spec : {M : Type 1} → statement M
-slot-of-spec = tie.close (tie.spec returns returns-2 returns-3 returns-4 returns-5 returns-6 returns-7 returns-8 returns-9 returns-10 returns-11)
+slot-of-spec =
+    tie.close
+    (tie.spec returns returns-2 returns-3 returns-4 returns-5 returns-6 returns-7 returns-8 returns-9 returns-10 returns-11 returns-12 returns-13 returns-14 returns-15)

@@ -17,7 +17,7 @@ use Rattle.player_check.specs.Standing.{playerRule}
 use Rattle.player_values.specs.Values.{source, valueOf}
 use Rattle.player_values.specs.declared.Held.{Held}
 use Rattle.player_values.specs.Handing.{partFrom}
-use Rattle.player_values.proofs.Fits.{name-short, title-fits, value-fits}
+use Rattle.player_values.proofs.Fits.{player-sits, name-short, title-fits, value-fits}
 use Rattle.desk_client.specs.Client.{isControl, blankEntry, accountWith}
 use Rattle.desk_client.specs.Duties.{passedOn}
 use Rattle.desk_client.proofs.Rule.{client-link, mtu-least, mark-within}
@@ -139,8 +139,10 @@ array-copy-out-p c = search needs
 hold-requires : tie.Need-hold-requires
 hold-requires c κs =
     let v = c .before .before .before in
-    let s = begun v in
-    (name-short (lent s) (s .pre .0) (of v) (stands v), title-fits (lent s) (s .pre .0) (of v) (stands v))
+    let s = begun v in (
+      player-sits (lent s) (s .pre .0) (of v) (stands v),
+      (name-short (lent s) (s .pre .0) (of v) (stands v), title-fits (lent s) (s .pre .0) (of v) (stands v)),
+    )
 
 sub-wide-word : tie.Need-sub-wide-word
 sub-wide-word c =
@@ -170,7 +172,7 @@ returns-2 c =
     let s = begun v in
     let hold = held .hold .ensures in
     let most = wide .wide-word .ensures .0 in
-    let from = source (s .args .tracks .now) (s .args .text .now) in
+    let from = source (s .args .groups .now) (s .args .tracks .now) (s .args .text .now) in
     let value = valueOf from (of v) (v .before .characteristic-of .result) in
     let octets : partFrom 0 (wide .wide-word .result) (take (held .hold .result .len) (held .hold .result .octets)) ≡ handedOctets (lent s) (s .args .t5) (s .args .c) =
     (λ k. partFrom 0 (most k) (take (hold k .len) (hold k .octets)))

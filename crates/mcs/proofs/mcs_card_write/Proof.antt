@@ -1,8 +1,6 @@
 -- `mcs::mcs_card_write`: `card_write::write`, and what it says.
 use mathlib.Core.Path.{ap, _∙_}
-use mathlib.Core.List.{[], _∷_}
-use lib.ListN.{length, getD}
-use Rattle.ground.specs.Cases.{pick}
+use lib.ListN.{length}
 use Rattle.ground.specs.Refusals.{Said}
 use Rattle.ground.specs.Lists.{tableAfter}
 use Rattle.catalogue_tables.specs.Tables.{tables}
@@ -10,7 +8,7 @@ use Rattle.card_write.specs.Card.{cardOf}
 use Rattle.card_write.specs.Write.{writeSaid}
 use Rattle.mcs.specs.declared.Told.{Told}
 use Rattle.mcs.specs.Calls.{toldOf, toldAfter}
-use Rattle.mcs.proofs.Short.{write-words, told-as-said, track-as-said, offset-as-said}
+use Rattle.mcs.proofs.Short.{write-words, told-as-said, place-as-said}
 use borrow.Author.Needs.{needs}
 use Rattle.mcs.proofs.mcs_card_write.Statement.{statement}
 use Rattle.mcs.proofs.mcs_card_write.Tie as tie
@@ -46,12 +44,7 @@ returns c =
         write .1 ∙ ap (λ (x : Said). tableAfter x (cardOf k) (a .card .now)) (write .0),
         (
           after-tell .tell .ensures ∙ ap (λ (t : Told). toldAfter (t .granted) (t .values) (a .blocks .now)) told ∙ told-as-said said (a .blocks .now) small,
-          (
-            c .tell-place .ensures .0 ∙ ap (λ (t : Told). toldAfter (t .titled) (t .values) (a .track .now)) told ∙ track-as-said said (a .track .now) small,
-            c .tell-place .ensures .1
-                ∙ ap (λ (t : Told). toldAfter (t .carries) (pick (t .titled) (getD (t .values) 1 0) (getD (t .values) 0 0) ∷ []) (a .octet .now)) told
-                ∙ offset-as-said said (a .octet .now) small,
-          ),
+          place-as-said _ said told small (a .track .now) (a .octet .now) _ _ (c .tell-place .ensures),
         ),
       ),
     )

@@ -42,10 +42,15 @@ word-at-requires-3 c κs = search needs
 word-at-requires-4 : tie.Need-word-at-requires-4
 word-at-requires-4 c κs = search needs
 
+word-at-requires-5 : tie.Need-word-at-requires-5
+word-at-requires-5 c κs = search needs
+
 returns : tie.Need-returns
 unfolding playerFrom
 returns c =
-    let after-word-at2 = c .before .before in
+    let after-word-at4 = c .before in
+    let after-word-at3 = after-word-at4 .before in
+    let after-word-at2 = after-word-at3 .before in
     let after-word-at = after-word-at2 .before .before .before .before .before .before in
     let after-fill = after-word-at .before .before in
     let a = after-fill .before .before .before in
@@ -61,9 +66,10 @@ returns c =
       place =
           record {
             group = record { 0 = after-word-at2 .word-at2 .ensures i };
-            track = record { 0 = c .before .word-at3 .ensures i };
-            position = record { 0 = c .word-at4 .ensures i };
+            track = record { 0 = after-word-at3 .word-at3 .ensures i };
+            position = record { 0 = after-word-at4 .word-at4 .ensures i };
           };
+      upcoming = c .word-at5 .ensures i;
     }
 
 pub player-from-spec : {M : Type 1} → statement M
@@ -81,4 +87,5 @@ player-from-spec =
     word-at-requires-2
     word-at-requires-3
     word-at-requires-4
+    word-at-requires-5
     returns)

@@ -23,9 +23,6 @@ wide-word-requires-2 c κs = search needs
 wide-word-requires-3 : tie.Need-wide-word-requires-3
 wide-word-requires-3 c κs = search needs
 
-wide-word-requires-4 : tie.Need-wide-word-requires-4
-wide-word-requires-4 c κs = search needs
-
 group-count-requires : tie.Need-group-count-requires
 group-count-requires c κs = search needs
 
@@ -34,14 +31,13 @@ add-result c = search needs
 
 returns : tie.Need-returns
 returns c =
-    let s = c .before .before .before .before .before in
-    let n = c .before .before .before in
+    let s = c .before .before .before .before in
+    let n = c .before .before in
     let a = s .before .before .before .args in
     let start : s .wide-word .result ≡ firstTrackOf (a .groups .now) (a .g .0) = s .wide-word .ensures .0 ∙ s .before .first-track .ensures in
     let count : n .wide-word2 .result ≡ tracksIn (a .groups .now) (a .g .0) = n .wide-word2 .ensures .0 ∙ n .before .tracks-in .ensures in
-    let number = c .before .before .wide-word3 .ensures .0 in
-    let track = c .before .wide-word4 .ensures .0 in
-    λ k. ltb (number k) (c .group-count .ensures k) && leb (start k) (track k) && ltb (track k) (start k + count k)
+    let number = c .before .wide-word3 .ensures .0 in
+    λ k. ltb (number k) (c .group-count .ensures k) && leb (start k) (a .track) && ltb (a .track) (start k + count k)
 
 pub in-group-spec : {M : Type 1} → statement M
 in-group-spec =
@@ -52,7 +48,6 @@ in-group-spec =
     tracks-in-requires
     wide-word-requires-2
     wide-word-requires-3
-    wide-word-requires-4
     group-count-requires
     add-result
     returns)

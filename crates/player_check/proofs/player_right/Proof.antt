@@ -1,4 +1,4 @@
--- `player_check::player_right`: the three rules together.
+-- `player_check::player_right`: the four rules together.
 use mathlib.Core.Bool.{_&&_}
 use borrow.Author.Needs.{needs}
 use Rattle.player_check.specs.Standing.{playerRule}
@@ -14,9 +14,14 @@ mode-right-requires c κs = search needs
 place-right-requires : tie.Need-place-right-requires
 place-right-requires c κs = search needs
 
+upcoming-right-requires : tie.Need-upcoming-right-requires
+upcoming-right-requires c κs = search needs
+
 returns : tie.Need-returns
 unfolding playerRule
-returns c = λ k. c .before .before .name-right .ensures k && c .before .mode-right .ensures k && c .place-right .ensures k
+returns c =
+    let m = c .before .before in
+    λ k. m .before .name-right .ensures k && m .mode-right .ensures k && c .before .place-right .ensures k && c .upcoming-right .ensures k
 
 pub player-right-spec : {M : Type 1} → statement M
 player-right-spec =
@@ -25,4 +30,5 @@ player-right-spec =
     name-right-requires
     mode-right-requires
     place-right-requires
+    upcoming-right-requires
     returns)

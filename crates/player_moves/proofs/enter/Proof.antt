@@ -1,8 +1,7 @@
 -- `player_moves::enter`: at the entry of the group, or result 4.
-use mathlib.Core.Path.{sym, ap, _∙_}
+use mathlib.Core.Path.{ap, _∙_}
 use Rattle.player_walk.specs.declared.Near.{Near}
 use Rattle.player_state.specs.Modes.{movedTo}
-use Rattle.player_orders.specs.Order.{nearTrack}
 use Rattle.player_moves.specs.Control.{success, onward}
 use borrow.Author.Needs.{needs}
 use Rattle.player_moves.proofs.enter.Statement.{statement}
@@ -11,44 +10,13 @@ use Rattle.player_moves.proofs.enter.Tie as tie
 entry-requires : tie.Need-entry-requires
 entry-requires c κs = search needs
 
-enum-known-near : tie.Need-enum-known-near
-enum-known-near c = search needs
-
-move-to-requires : tie.Need-move-to-requires
-move-to-requires c κs = search needs
-
-done-requires : tie.Need-done-requires
-done-requires c κs = search needs
-
-enum-told : tie.Need-enum-told
-enum-told c = search needs
-
-undone-requires : tie.Need-undone-requires
-undone-requires c κs = search needs
+go-to-requires : tie.Need-go-to-requires
+go-to-requires c κs = search needs
 
 returns : tie.Need-returns
 returns c =
-    let m = c .before .before .before in
-    let e = m .before .before in
-    let a = e .before .before .before .args in
-    let found = sym (ap nearTrack (m .near .given .1)) ∙ e .entry .ensures in
-    c .done .ensures ∙ ap success (c .before .move-to .ensures) ∙ ap (λ (n : Near). onward n (λ t. success (movedTo (a .g .0) t (a .p))) (a .p)) found
-
-returns-2 : tie.Need-returns-2
-returns-2 c =
-    let e = c .before .before .before in
-    let a = e .before .before .before .args in
-    c .undone .ensures ∙ ap (λ (n : Near). onward n (λ t. success (movedTo (a .g .0) t (a .p))) (a .p)) (sym (ap nearTrack (c .before .enum-told .given .1)) ∙ e .entry .ensures)
+    let a = c .before .before .before .before .args in
+    c .go-to .ensures ∙ ap (λ (n : Near). onward n (λ t. success (movedTo (a .g .0) t (a .p))) (a .p)) (c .before .entry .ensures)
 
 pub enter-spec : {M : Type 1} → statement M
-enter-spec =
-    tie.close
-    (tie.spec
-    entry-requires
-    enum-known-near
-    move-to-requires
-    done-requires
-    enum-told
-    undone-requires
-    returns
-    returns-2)
+enter-spec = tie.close (tie.spec entry-requires go-to-requires returns)

@@ -5,7 +5,7 @@ use native.Mathlib.Omega.{arith}
 use borrow.Author.Tests.{ltb-true}
 use Rattle.player_walk.specs.declared.Near.{Near}
 use Rattle.ground.proofs.Cases.{past, here}
-use Rattle.player_state.specs.Player.{atPosition}
+use Rattle.player_state.specs.Player.{atPosition, atPlace}
 use Rattle.player_orders.specs.Order.{nearTrack}
 use Rattle.player_moves.specs.Moves.{endNow}
 use Rattle.player_moves.specs.Clock.{afterEnd, playedOn}
@@ -52,11 +52,14 @@ returns-2 c =
     (here _ (sym (r .is-running .ensures) ∙ c .before .before .if2 .taken)
     (c .at-position2 .ensures ∙ ap (λ (x : ℕ). atPosition x (a .p)) (c .before .end .ensures)))
 
-near-track-requires : tie.Need-near-track-requires
-near-track-requires c κs = search needs
+next-track-requires : tie.Need-next-track-requires
+next-track-requires c κs = search needs
 
 enum-known-near : tie.Need-enum-known-near
 enum-known-near c = search needs
+
+drop-named-requires : tie.Need-drop-named-requires
+drop-named-requires c κs = search needs
 
 at-place-requires : tie.Need-at-place-requires
 at-place-requires c κs = search needs
@@ -76,15 +79,18 @@ at-position-requires-3 c κs = search needs
 returns-3 : tie.Need-returns-3
 unfolding playedOn
 returns-3 c =
-    let m = c .before .before .before in
+    let u = c .before in
+    let m = u .before .before .before in
     let n = m .before .before in
     let r = n .before .before in
     let e = r .before .before in
     let a = e .before .before .before .before .args in
-    let found = sym (ap nearTrack (m .near .given .1)) ∙ n .near-track .ensures in
+    let found = sym (ap nearTrack (m .near .given .1)) ∙ n .next-track .ensures in
     past _ (sym (e .before .stays-below .ensures) ∙ e .if1 .left)
     (past _ (sym (r .is-running .ensures) ∙ n .before .if2 .left)
-    (c .at-place .ensures ∙ ap (λ (x : Near). afterEnd (a .tracks .now) x (a .p)) found))
+    (c .at-place .ensures
+    ∙ ap (atPlace (a .p .place .group .0) _ 0) (u .drop-named .ensures)
+    ∙ ap (λ (x : Near). afterEnd (a .tracks .now) x (a .p)) found))
 
 returns-4 : tie.Need-returns-4
 unfolding playedOn
@@ -94,7 +100,7 @@ returns-4 c =
     let r = n .before .before in
     let e = r .before .before in
     let a = e .before .before .before .before .args in
-    let found = sym (ap nearTrack (q .before .enum-told .given .1)) ∙ n .near-track .ensures in
+    let found = sym (ap nearTrack (q .before .enum-told .given .1)) ∙ n .next-track .ensures in
     past _ (sym (e .before .stays-below .ensures) ∙ e .if1 .left)
     (past _ (sym (r .is-running .ensures) ∙ n .before .if2 .left)
     (c .at-position3 .ensures ∙ (λ k. atPosition (c .before .end2 .ensures k) (q .in-mode .ensures k)) ∙ ap (λ (x : Near). afterEnd (a .tracks .now) x (a .p)) found))
@@ -111,8 +117,9 @@ play-on-spec =
     end-requires
     at-position-requires-2
     returns-2
-    near-track-requires
+    next-track-requires
     enum-known-near
+    drop-named-requires
     at-place-requires
     enum-told
     in-mode-requires

@@ -15,7 +15,7 @@ returns : tie.Need-returns
 unfolding renamed
 returns c =
     let a = c .before .before .before .args in
-    λ k. record { name = record { octets = c .fill .ensures k; len = length (a .name .now) }; offer = a .p .offer; mode = a .p .mode; place = a .p .place }
+    λ k. record { name = record { octets = c .fill .ensures k; len = length (a .name .now) }; offer = a .p .offer; mode = a .p .mode; place = a .p .place; upcoming = a .p .upcoming }
 
 pub set-name-spec : {M : Type 1} → statement M
 set-name-spec = tie.close (tie.spec fill-requires cast-len returns)

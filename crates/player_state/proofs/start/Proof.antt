@@ -20,6 +20,7 @@ returns c =
       offer = record { mask = a .mask; ccid = a .ccid };
       mode = record { media = 0; order = 3; speed = 0; seeking = 0 };
       place = record { group = record { 0 = 0 }; track = record { 0 = 0 }; position = record { 0 = 0 } };
+      upcoming = 0;
     }
 
 pub start-spec : {M : Type 1} → statement M

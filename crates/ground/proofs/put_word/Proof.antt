@@ -1,10 +1,10 @@
--- `card_fill::put_word`: four stores are four octets laid.
+-- `ground::put_word`: four stores are four octets laid.
 use native.Mathlib.Omega.{arith}
 use lib.ListN.{length-set}
 use Rattle.ground.proofs.Laying.{laid-four}
 use borrow.Author.Needs.{needs}
-use Rattle.card_fill.proofs.put_word.Statement.{statement}
-use Rattle.card_fill.proofs.put_word.Tie as tie
+use Rattle.ground.proofs.put_word.Statement.{statement}
+use Rattle.ground.proofs.put_word.Tie as tie
 
 cast-b : tie.Need-cast-b
 cast-b c = search needs

@@ -1,0 +1,36 @@
+-- What telling the clients asks of the two players, where no row refuses: the player before the call stands, and so does the one after it. Assumes nothing.
+use mathlib.Core.Path.{_≡_, ap, _∙_}
+use mathlib.Core.Bool.{true, false}
+use mathlib.Core.List.{List, _++_}
+use Prim.Native.Nat.{ℕ, _<_}
+use Rattle.ground.specs.Refusals.{Row}
+use Rattle.ground.proofs.Rows.{NoneApplies}
+use Rattle.catalogue_tables.specs.Tables.{Tables}
+use Rattle.catalogue_check.specs.Catalogue.{Right}
+use Rattle.player_state.specs.declared.Player.{Player}
+use Rattle.player_check.specs.Standing.{playerRule}
+use Rattle.player_moves.specs.Moves.{Shaped, Sits}
+use Rattle.player_moves.proofs.Ready as ready
+use Rattle.player_values.proofs.Fits.{player-sits}
+use Rattle.desk_slots.specs.Slots.{serviceCount}
+use Rattle.desk_state.specs.declared.Desk.{Desk}
+use Rattle.desk_replies.specs.Replies.{fronted}
+use Rattle.desk_replies.proofs.Gates as gates
+use Rattle.desk_console.specs.Console.{playerOf}
+
+module _ (k : Tables) (d : Desk) (behind : List Row) (passed : NoneApplies (fronted k false d ++ behind)) (service : ℕ) (there : service < serviceCount) where
+  right : Right k
+  right = gates.right k false d behind passed
+
+  pub shaped : Shaped (k .groups) (k .tracks) (k .segments)
+  shaped = ready.shaped k right
+
+  pub stands : playerRule (k .groups) (k .tracks) (playerOf d service) ≡ true
+  stands = gates.player k false d behind passed service there
+
+  -- the player before, and one that is what stands after
+  pub sits : Sits (k .groups) (k .tracks) (playerOf d service)
+  sits = player-sits k right (playerOf d service) stands
+
+  pub sits-after : (q r : Player) → q ≡ r → playerRule (k .groups) (k .tracks) r ≡ true → Sits (k .groups) (k .tracks) q
+  sits-after q r e kept = player-sits k right q (ap (playerRule (k .groups) (k .tracks)) e ∙ kept)
