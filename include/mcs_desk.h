@@ -83,7 +83,7 @@ static inline int mcs_names_block(uint32_t number)
     ROW(MCS_VALUE_CHANGED, "the value changed during the long read")                                                           \
     ROW(MCS_BEYOND_END, "the offset is above the value's length")                                                              \
     ROW(MCS_BAD_LENGTH, "the value's length is wrong")                                                                         \
-    ROW(MCS_NOT_ALLOWED, "the playing order is not 1 to 8, or there is no such object")                                        \
+    ROW(MCS_NOT_ALLOWED, "the value is not allowed, or there is no such object")                                               \
     ROW(MCS_TOO_MANY_RESULTS, "eight results wait already")                                                                    \
     ROW(MCS_BAD_NAME, "the name has over 128 octets or is not UTF-8")                                                          \
     ROW(MCS_BAD_GROUP, "the group is absent or has no tracks")                                                                 \
