@@ -9,7 +9,7 @@ use borrow.Author.Tests.{eqb-true, eqb-false, ltb-true, leb-true, lt-ltb}
 use lib.Dec.{eqb, ltb, leb}
 use lib.ListN.{length, replicate}
 use Rattle.ground.specs.Limits.{mostTitle}
-use Rattle.ground.proofs.Cases.{here as here-of, past, true-or, and-left, and-right, and-both}
+use Rattle.ground.proofs.Cases.{here, past, true-or, and-left, and-right, and-both}
 use Rattle.catalogue_tables.specs.Tables.{groupCount, firstTrackOf, tracksIn, endOf, startsOf}
 use Rattle.player_walk.specs.Signed.{signedWord, isNegative}
 use Rattle.player_walk.specs.declared.Near.{Near}
@@ -103,7 +103,7 @@ module _ (groups tracks : List ℕ) where
     unfolding upcomingRule
     next-stands active on g e =
         ⊎-elim
-        (λ t. sym (here-of _ t refl))
+        (λ t. sym (here _ t refl))
         (λ t. sym (past _ t (sym (and-both on (rw e (laws.named-within groups tracks p right (eqb-false _ _ t)))))))
         (true-or (eqb (p .upcoming) 0))
 
@@ -160,14 +160,6 @@ module _ (groups tracks : List ℕ) where
         (laws.place-kept groups tracks p right) (laws.next-kept groups tracks p right)
 
     module _ (active : 0 < p .mode .media) where
-      here : Found (p .place .group .0) (p .place .track .0)
-      here =
-          record {
-            exists = laws.group-exists groups tracks p right active;
-            from = laws.track-from groups tracks p right active;
-            to = laws.track-to groups tracks p right active;
-          }
-
       in-stands : (m : Mode) → modeRule m ≡ true → 0 < m .media → Stands (withMode m p)
       in-stands m h above = stay-stands active m h above (p .place .position .0) (laws.position-held groups tracks p right active)
 

@@ -1,10 +1,10 @@
 -- The next track: the one that is named, else that of the order. Assumes nothing.
-use mathlib.Core.Path.{_≡_, refl, ap, _∙_}
+use mathlib.Core.Path.{_≡_, refl, ap}
 use mathlib.Core.List.{List}
 use Prim.Native.Nat.{ℕ, zero, suc, _-_}
 use native.Mathlib.Omega.{arith}
 use Rattle.player_walk.specs.declared.Near.{Near}
-use Rattle.player_walk.specs.declared.Near.the-variants.{At, Nothing}
+use Rattle.player_walk.specs.declared.Near.the-variants.{At}
 use Rattle.player_walk.specs.declared.Step.the-variants.{Next}
 use Rattle.player_state.specs.declared.Player.{Player}
 use Rattle.player_moves.specs.Moves.{trackAfter, named, orInOrder, nextTrack}

@@ -1,6 +1,5 @@
 -- `player_moves::next_track`: the track that is named, or that of the order.
 use mathlib.Core.Path.{sym, _∙_}
-use borrow.Author.Tests.{eqb-true}
 use Rattle.player_moves.proofs.Named.{next-named, next-ordered}
 use borrow.Author.Needs.{needs}
 use Rattle.player_moves.proofs.next_track.Statement.{statement}
