@@ -150,13 +150,18 @@ static const size SIZES[] = {
 
 static void make_rows(void)
 {
-    static catalogue whole[4], grown[SIZES_COUNT];
+    static catalogue whole[4], renamed[2], grown[SIZES_COUNT];
     make_sample(&whole[0]);
     make_even(&whole[1], "full, ASCII", 64, 256, 1024, 32768, ASCII);
     make_even(&whole[2], "full, mixed", 64, 256, 1024, 32768, MIXED);
     make_uneven(&whole[3], "full, uneven");
     for (size_t k = 0; k < 4u; k++) {
         add_calls(&rows, &whole[k]);
+    }
+    make_renamed(&renamed[0], "full, ASCII, all tracks renamed", ASCII);
+    make_renamed(&renamed[1], "full, mixed, all tracks renamed", MIXED);
+    for (size_t k = 0; k < 2u; k++) {
+        add_renamed(&rows, &renamed[k]);
     }
     calls_end = rows.count;
     add_text_checks(&rows);

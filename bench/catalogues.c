@@ -45,7 +45,7 @@ static void put_track(catalogue *c, uint32_t t, uint32_t first, uint32_t count, 
     track[STAMP] = stamp_of(t);
     track[FIRST_SEGMENT] = first;
     track[SEGMENT_COUNT] = count;
-    track[TITLE] = title;
+    track[TITLE_OFFSET] = title;
     track[TITLE_LENGTH] = title_len;
     for (k = 0; k < count; k++) {
         c->tables.segments[first + k] = 150u * k;
@@ -60,6 +60,7 @@ static void put_sizes(catalogue *c, const char *name, uint32_t groups, uint32_t 
     c->tables.length[TRACKS] = MCS_TRACK_WORDS * tracks;
     c->tables.length[SEGMENTS] = segments;
     c->tables.length[TEXT] = text;
+    rename_nothing(&c->tables);
 }
 
 void make_even(catalogue *c, const char *name, uint32_t groups, uint32_t tracks, uint32_t segments, uint32_t text,
@@ -98,6 +99,18 @@ void make_uneven(catalogue *c, const char *name)
         put_track(c, i, first, count, title * i, title, ASCII);
         first += count;
     }
+}
+
+void make_renamed(catalogue *c, const char *name, enum letters letters)
+{
+    const uint32_t title = MCS_MOST_TEXT / MCS_MOST_TRACKS;
+    make_even(c, name, MCS_MOST_GROUPS, MCS_MOST_TRACKS, MCS_MOST_SEGMENTS, MCS_MOST_TEXT, letters);
+    for (uint32_t i = 0; i < MCS_MOST_TRACKS; i++) {
+        c->tables.renames[MCS_RENAME_WORDS * i + RENAME_OFFSET] = title * i;
+        c->tables.renames[MCS_RENAME_WORDS * i + RENAME_LENGTH] = title;
+        make_text(c->tables.office + title * i, title, letters);
+    }
+    c->tables.length[OFFICE] = title * MCS_MOST_TRACKS;
 }
 
 void make_sample(catalogue *c)

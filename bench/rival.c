@@ -21,7 +21,7 @@ uint32_t RIVAL(lent_call)(const call *c)
         state_of_octets(c->state, &state);
     }
     number = RIVAL(call)(&on_struct);
-    if (number == 0 && has_state(c->kind)) {
+    if (number == 0 && has_state(c->kind) && c->kind != TITLE) {
         octets_of_state(&state, c->state);
     }
     return number;

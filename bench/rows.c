@@ -34,6 +34,7 @@ call lend(call made, void *state, answers *a)
     made.word = &a->word;
     made.count = &a->count;
     made.served = a->served;
+    made.part = a->part;
     made.counts = a->counts;
     made.block = &a->block;
     made.line = &a->line;
@@ -85,6 +86,7 @@ int row_agrees(const row *r)
 static void make(desk *d, const catalogue *c, call made)
 {
     made.catalogue = lent(&c->tables);
+    made.titles = lent_titles(&c->tables);
     if (!all_give(&made, d, ACCEPTED)) {
         fprintf(stderr, "bench: the programs differ in '%s' on the catalogue '%s'\n", CALL_NAME[made.kind], c->name);
         exit(1);
@@ -317,6 +319,7 @@ static void add(table *t, const char *name, const catalogue *c, call made, desk 
     r->lent = c;
     r->made = made;
     r->made.catalogue = lent(&c->tables);
+    r->made.titles = lent_titles(&c->tables);
     r->before = before;
     r->number = number;
 }
@@ -461,6 +464,7 @@ void add_calls(table *t, const catalogue *c)
     add(t, "take, a title", c, plain(TAKE, 0, 0, 0), owing_title(c), ACCEPTED);
     add(t, "take, a result", c, plain(TAKE, 0, 0, 0), owing_results(c), ACCEPTED);
     add(t, "take, nothing owed", c, plain(TAKE, 0, 0, 0), plays, ACCEPTED);
+    add(t, "title", c, plain(TITLE, 0, 0, 0), plays, ACCEPTED);
     add(t, "advance, both play, service 1", c, to_named(plain(ADVANCE, 0, 0, 10)), both_play, ACCEPTED);
     add(t, "read, title, both play, service 1", c, to_named(plain(READ, 3, MCS_TITLE, 0)), both_play, ACCEPTED);
     add(t, "write, Next Track, both play, service 1", c, to_named(opcode(0, MCS_OPCODE_NEXT_TRACK)), both_play, ACCEPTED);
@@ -468,6 +472,26 @@ void add_calls(table *t, const catalogue *c)
     add(t, "take, a title of service 1", c, plain(TAKE, 0, 0, 0), owing_named_title(c), ACCEPTED);
     add(t, "take, both owe", c, plain(TAKE, 0, 0, 0), both_owe, ACCEPTED);
     add_refusals(t, c);
+}
+
+void add_renamed(table *t, const catalogue *c)
+{
+    /* The same with a last title of the office that is no UTF-8. */
+    static catalogue copies[2];
+    static size_t used;
+    catalogue *spoilt = &copies[used];
+    desk plays = playing(c);
+    uint32_t end = track_word(&c->tables, plays.state.services[MCS_GENERIC].player.track, DURATION);
+    used += 1u;
+    *spoilt = *c;
+    spoilt->tables.office[spoilt->tables.length[OFFICE] - 1u] = 0xFF;
+    add_check(t, c);
+    add(t, "advance, within a track", c, plain(ADVANCE, 0, 0, 10), plays, ACCEPTED);
+    add(t, "advance, to the next track", c, plain(ADVANCE, 0, 0, end), plays, ACCEPTED);
+    add(t, "read, title", c, plain(READ, 3, MCS_TITLE, 0), plays, ACCEPTED);
+    add(t, "take, a title", c, plain(TAKE, 0, 0, 0), owing_title(c), ACCEPTED);
+    add(t, "title", c, plain(TITLE, 0, 0, 0), plays, ACCEPTED);
+    add(t, "title, refused for the last one (224)", spoilt, plain(TITLE, 0, 0, 0), plays, MCS_BAD_RENAMES);
 }
 
 void add_text_checks(table *t)

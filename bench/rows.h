@@ -17,7 +17,7 @@ typedef struct {
 /* What a call hands back beside its number and the state. */
 typedef struct {
     uint8_t out[MCS_OUTPUT_OCTETS];
-    uint32_t word, served[SERVED_WORDS], counts[4], block, line, track, octet;
+    uint32_t word, served[SERVED_WORDS], part[MCS_PART_WORDS], counts[4], block, line, track, octet;
     size_t count;
     tables loaded;
     uint32_t entries[MOST_STARTS];
@@ -45,6 +45,9 @@ typedef struct {
 
 /* Every call on a catalogue, and refusals of one. */
 void add_calls(table *t, const catalogue *c);
+
+/* Some calls on a catalogue whose tracks the office has renamed. */
+void add_renamed(table *t, const catalogue *c);
 
 /* No call is the text check alone: a name is set where there is no catalogue to check, and the name that stands is empty. */
 void add_text_checks(table *t);

@@ -1,6 +1,9 @@
 #include "alter.h"
 #include "blocks.h"
+#include "catalogue.h"
 #include "lend.h"
+#include "places.h"
+#include "titles.h"
 
 #include <string.h>
 
@@ -11,12 +14,15 @@ void remember(run *r)
     r->undos = 0;
 }
 
-/* Nobody has waited for what a state of another's making owes. */
-static void forget_waits(run *r) { memset(&r->waited, 0, sizeof r->waited); }
+void forget_history(run *r)
+{
+    memset(&r->waited, 0, sizeof r->waited);
+    memset(r->exchanged, 0, sizeof r->exchanged);
+}
 
 static void put_back(run *r)
 {
-    forget_waits(r);
+    forget_history(r);
     memcpy(r->octets, r->kept_octets, sizeof r->octets);
     memcpy(&r->second, &r->kept_second, sizeof r->second);
     while (r->undos > 0) {
@@ -46,7 +52,7 @@ static void alter_state(run *r, const step *s)
     if (at <= MCS_STATE_OCTETS && s->length <= MCS_STATE_OCTETS - at) {
         memcpy(r->octets + at, s->octets, s->length);
         state_of_octets(r->octets, &r->second);
-        forget_waits(r);
+        forget_history(r);
     }
 }
 
@@ -62,6 +68,43 @@ static void alter_tables(run *r, const step *s)
     if (s->kind == TABLE_LENGTH && s->number <= table_room(s->who)) {
         note_undo(r, s, r->lent.length[s->who]);
         r->lent.length[s->who] = s->number;
+    }
+}
+
+/* The octets of the title that a service shows, and how many they are; none where state, catalogue or titles are refused. */
+static uint32_t title_shown(const run *r, uint32_t service, uint8_t octets[MCS_OUTPUT_OCTETS])
+{
+    standing p = standing_in(r->octets, service);
+    part shown;
+    if (!catalogue_is_right(&r->lent) || faults_of_titles(&r->lent) != 0 || p.track >= track_count(&r->lent)) {
+        return 0;
+    }
+    shown = part_shown(&r->lent, &p);
+    memcpy(octets, octets_of_part(&r->lent, &shown), shown.length);
+    return shown.length;
+}
+
+/* Whoever has read a title at 0 has now another in its place. */
+static void new_titles(run *r, uint32_t how)
+{
+    uint8_t was[MCS_SERVICES][MCS_OUTPUT_OCTETS], is[MCS_OUTPUT_OCTETS];
+    uint32_t length[MCS_SERVICES];
+    dice d = dice_of(how, 0);
+    for (uint32_t k = 0; k < MCS_SERVICES; k++) {
+        length[k] = title_shown(r, k, was[k]);
+    }
+    if (how == 0) {
+        rename_nothing(&r->lent);
+    } else {
+        random_titles(&d, &r->lent);
+    }
+    table_changed(r, RENAMES);
+    table_changed(r, OFFICE);
+    for (uint32_t k = 0; k < MCS_SERVICES; k++) {
+        int same = title_shown(r, k, is) == length[k] && memcmp(was[k], is, length[k]) == 0;
+        for (uint32_t client = 0; !same && client < MCS_CLIENTS; client++) {
+            r->exchanged[k] |= read_mark(r->octets, k, client, MCS_TITLE) ? 1u << client : 0;
+        }
     }
 }
 
@@ -134,6 +177,9 @@ void alter(run *r, const step *s)
     case POKE_TABLE:
     case TABLE_LENGTH:
         alter_tables(r, s);
+        break;
+    case NEW_TITLES:
+        new_titles(r, s->number);
         break;
     case SWAP_TABLES:
         swap_tables(r);

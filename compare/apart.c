@@ -13,6 +13,7 @@ const char *wrong_service(const step *s, const answer *a)
         }
         return has_client(s->kind) && s->who >= MCS_CLIENTS ? "both say 219 where 202 comes before it" : NULL;
     case MCS_BAD_CATALOGUE:
+    case MCS_BAD_RENAMES:
     case MCS_SMALL_OUTPUT:
     case MCS_BAD_STATE:
     case MCS_NO_CLIENT:

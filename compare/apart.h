@@ -12,7 +12,7 @@ uint32_t owed_places(const uint8_t state[MCS_STATE_OCTETS], uint32_t client);
 uint32_t next_place(const uint8_t state[MCS_STATE_OCTETS], uint32_t client);
 uint32_t next_client(const uint8_t state[MCS_STATE_OCTETS]);
 
-/* 219 comes where the service is over 1, behind 200, 205, 201 and 202 and before all others, and never else. */
+/* 219 comes where the service is over 1, behind 200, 224, 205, 201 and 202 and before all others, and never else. */
 const char *wrong_service(const step *s, const answer *a);
 
 /* Of an accepted call, with the states before and after it: what is not its own stays, octet by octet. A take is in turn. */

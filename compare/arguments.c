@@ -139,7 +139,9 @@ uint32_t value_length(const run *r, const ref_player *p, uint32_t characteristic
     case MCS_NAME:
         return p->name_len;
     case MCS_TITLE:
-        return has_track(r, p) ? track_word(&r->lent, p->track, TITLE_LENGTH) : 0;
+        return !has_track(r, p)                                   ? 0
+               : rename_word(&r->lent, p->track, RENAME_LENGTH) > 0 ? rename_word(&r->lent, p->track, RENAME_LENGTH)
+                                                                    : track_word(&r->lent, p->track, TITLE_LENGTH);
     case MCS_DURATION:
     case MCS_POSITION:
     case MCS_OPCODES_SUPPORTED:

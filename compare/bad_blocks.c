@@ -20,6 +20,7 @@ static void made(uint32_t groups)
     t.length[TRACKS] = MCS_TRACK_WORDS * (2u * block_room(TRACKS) + 1u);
     t.length[SEGMENTS] = block_room(SEGMENTS) + 1u;
     t.length[TEXT] = block_room(TEXT) + 1u;
+    rename_nothing(&t);
     begin_run(both, &t);
     do_step(both, &s);
 }

@@ -37,23 +37,6 @@ static void spoil_rule(tables *t, uint32_t rule)
     }
 }
 
-/* Every call that is lent a catalogue, with arguments that a later row refuses where there is one. */
-static void all_calls_give(uint32_t number, uint32_t track, uint32_t octet)
-{
-    for (uint32_t kind = 0; kind < CALLS; kind++) {
-        step s = blank(kind);
-        if (has_catalogue(kind)) {
-            s.who = MCS_CLIENTS;
-            s.service = MCS_SERVICES;
-            s.number = MCS_MOST_GROUPS;
-            s.length = s.players[MCS_NAMED].length = LONGEST_NAME + 1;
-            s.room[0] = 0;
-            makes(s, number);
-            carries(track, octet);
-        }
-    }
-}
-
 #define CARRIED_NOWHERE MCS_NOWHERE, MCS_NOWHERE
 
 /* "Among the failures behind 200, a bad title carries the lowest such track and the offset; every other 200 carries neither and comes
@@ -103,15 +86,15 @@ static void title_cases(void)
         memcpy(t.text + CHARACTER_AT, "\xC3\xA9", 2);
         t.length[TEXT] = TEXT_OCTETS;
         for (uint32_t track = 0; track < 4; track++) {
-            t.tracks[MCS_TRACK_WORDS * track + TITLE] = CASES[k].titles[track].at;
+            t.tracks[MCS_TRACK_WORDS * track + TITLE_OFFSET] = CASES[k].titles[track].at;
             t.tracks[MCS_TRACK_WORDS * track + TITLE_LENGTH] = CASES[k].titles[track].length;
         }
         spoil_rule(&t, CASES[k].rule);
         lend_tables(both, &t);
-        all_calls_give(MCS_BAD_CATALOGUE, CASES[k].track, CASES[k].octet);
+        all_calls_give(has_catalogue, MCS_BAD_CATALOGUE, CASES[k].track, CASES[k].octet);
         /* 200 comes before 201. */
         poke_number(MCS_AT_TURN, MCS_CLIENTS, 4);
-        all_calls_give(MCS_BAD_CATALOGUE, CASES[k].track, CASES[k].octet);
+        all_calls_give(has_catalogue, MCS_BAD_CATALOGUE, CASES[k].track, CASES[k].octet);
     }
 }
 

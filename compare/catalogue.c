@@ -1,7 +1,10 @@
 #include "catalogue.h"
+#include "places.h"
 #include "text.h"
 
 #include <string.h>
+
+#define NEVER UINT32_MAX
 
 /* Most are small, since every call checks the whole; some reach a limit in one table, a few in all. */
 typedef struct {
@@ -131,23 +134,24 @@ static void draw_tracks(dice *d, tables *t, const shape *s)
     t->length[SEGMENTS] = first;
 }
 
-/* The text is pieces of whole characters, with octets between them that no title has and that need not be UTF-8. */
-static void draw_titles(dice *d, tables *t, const shape *s)
+/* A text is pieces of whole characters, with octets between them that no title has and that need not be UTF-8. */
+#define MOST_PIECES 512u
+
+typedef struct {
+    uint32_t at, length;
+} piece;
+
+/* Draws the text and its pieces, of at most so many octets each, and returns how many they are. */
+static uint32_t draw_pieces(dice *d, uint8_t *text, uint32_t octets, uint32_t most, piece drawn[MOST_PIECES])
 {
-    struct {
-        uint32_t at, length;
-    } piece[512];
-    uint32_t pieces = 0, at = 0, most = one_in(d, 3) ? 128u : 40u, none = one_in(d, 3) ? 2u : 8u;
-    if (s->text == MCS_MOST_TEXT) {
-        most = 128;
-    }
-    while (at < s->text) {
-        uint32_t left = s->text - at;
+    uint32_t pieces = 0, at = 0;
+    while (at < octets) {
+        uint32_t left = octets - at;
         uint32_t length = one_in(d, 5) ? most : 1u + below(d, most);
-        if (pieces == 512 || one_in(d, 6)) {
-            length = left < 3 || pieces == 512 ? left : between(d, 1, 3);
+        if (pieces == MOST_PIECES || one_in(d, 6)) {
+            length = left < 3 || pieces == MOST_PIECES ? left : between(d, 1, 3);
             for (uint32_t k = 0; k < length; k++) {
-                t->text[at + k] = (uint8_t)any_word(d);
+                text[at + k] = (uint8_t)any_word(d);
             }
             at += length;
             continue;
@@ -155,21 +159,87 @@ static void draw_titles(dice *d, tables *t, const shape *s)
         if (length > left) {
             length = left;
         }
-        right_text(d, t->text + at, length);
-        piece[pieces].at = at;
-        piece[pieces].length = length;
+        right_text(d, text + at, length);
+        drawn[pieces].at = at;
+        drawn[pieces].length = length;
         pieces++;
         at += length;
     }
+    return pieces;
+}
+
+static void draw_titles(dice *d, tables *t, const shape *s)
+{
+    piece drawn[MOST_PIECES];
+    uint32_t most = one_in(d, 3) || s->text == MCS_MOST_TEXT ? 128u : 40u, none = one_in(d, 3) ? 2u : 8u;
+    uint32_t pieces = draw_pieces(d, t->text, s->text, most, drawn);
     for (uint32_t k = 0; k < s->tracks; k++) {
         uint32_t *record = t->tracks + MCS_TRACK_WORDS * k;
         if (pieces == 0 || one_in(d, none)) {
-            record[TITLE] = one_in(d, 2) ? s->text : below(d, s->text + 1u);
+            record[TITLE_OFFSET] = one_in(d, 2) ? s->text : below(d, s->text + 1u);
             record[TITLE_LENGTH] = 0;
         } else {
             uint32_t which = below(d, pieces);
-            record[TITLE] = piece[which].at;
-            record[TITLE_LENGTH] = piece[which].length;
+            record[TITLE_OFFSET] = drawn[which].at;
+            record[TITLE_LENGTH] = drawn[which].length;
+        }
+    }
+}
+
+/* ---- The office's titles */
+
+/* In the place of some pieces a title of the card, or an earlier piece, that fits there: the same octets elsewhere. */
+static void copy_titles(dice *d, tables *t, piece *drawn, uint32_t pieces)
+{
+    for (uint32_t k = 0; k < pieces; k++) {
+        uint32_t track = below(d, track_count(t)), earlier = below(d, k);
+        int fits = duration_and_title_fit(t, track), of_card = fits && one_in(d, 3), of_office = k > 0 && one_in(d, 4);
+        const uint8_t *from = of_card ? t->text + track_word(t, track, TITLE_OFFSET) : t->office + drawn[earlier].at;
+        uint32_t length = of_card ? track_word(t, track, TITLE_LENGTH) : drawn[earlier].length;
+        if ((of_card || of_office) && length > 0 && length <= drawn[k].length) {
+            memcpy(t->office + drawn[k].at, from, length);
+            drawn[k].length = length;
+        }
+    }
+}
+
+/* One in a few has as many octets as all tracks can have titles; and one in two ends where its last piece does. */
+static uint32_t draw_office(dice *d, tables *t, piece drawn[MOST_PIECES])
+{
+    uint32_t octets = one_in(d, 12) ? 128u * track_count(t) : below(d, 400), pieces;
+    octets = octets < OFFICE_ROOM ? octets : OFFICE_ROOM;
+    pieces = draw_pieces(d, t->office, octets, one_in(d, 2) ? 128u : 24u, drawn);
+    copy_titles(d, t, drawn, pieces);
+    t->length[OFFICE] = pieces > 0 && one_in(d, 2) ? drawn[pieces - 1u].at + drawn[pieces - 1u].length : octets;
+    return pieces;
+}
+
+/* A piece, or the front of it. */
+static uint32_t some_front(dice *d, const uint8_t *octets, uint32_t length)
+{
+    uint32_t front = wrong_octet(octets, between(d, 1, length));
+    return front > 0 && one_in(d, 6) ? front : length;
+}
+
+/* All tracks are renamed, most, few or none. One that is not has any offset; several may share a piece, and one in a few has the last
+ * of all. */
+void random_titles(dice *d, tables *t)
+{
+    piece drawn[MOST_PIECES];
+    uint32_t pieces, not_renamed = ONE_OF(d, 1, 2, 4, NEVER);
+    rename_nothing(t);
+    if (track_count(t) == 0 || one_in(d, 8)) {
+        return;
+    }
+    pieces = draw_office(d, t, drawn);
+    for (uint32_t k = 0; k < track_count(t); k++) {
+        uint32_t *entry = t->renames + MCS_RENAME_WORDS * k;
+        if (pieces == 0 || one_in(d, not_renamed)) {
+            entry[RENAME_OFFSET] = one_in(d, 2) ? any_word(d) : 0;
+        } else {
+            uint32_t which = one_in(d, 6) ? pieces - 1u : below(d, pieces);
+            entry[RENAME_OFFSET] = drawn[which].at;
+            entry[RENAME_LENGTH] = some_front(d, t->office + drawn[which].at, drawn[which].length);
         }
     }
 }
@@ -188,12 +258,13 @@ void random_catalogue(dice *d, tables *t)
     draw_titles(d, t, &s);
     /* Behind the groups lies one more that would fit. */
     t->groups[t->length[GROUPS] + FIRST_TRACK] = s.tracks;
+    random_titles(d, t);
 }
 
 void random_tables(dice *d, tables *t)
 {
     memset(t, 0, sizeof *t);
-    for (uint32_t table = 0; table < TABLES; table++) {
+    for (uint32_t table = 0; table < LENT_TABLES; table++) {
         uint32_t most = one_in(d, 20) ? table_room(table) : 40u;
         int small = one_in(d, 2);
         t->length[table] = one_in(d, 4) ? 0 : below(d, most + 1u);

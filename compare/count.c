@@ -1,6 +1,7 @@
 #include "count.h"
 #include "count_objects.h"
 #include "count_services.h"
+#include "count_titles.h"
 #include "judge.h"
 #include "octets.h"
 #include "places.h"
@@ -323,16 +324,9 @@ static void count_truths(const run *r, const step *s)
 
 /* ---- Texts that are not UTF-8 (document 02, W-207): bad titles by where they are wrong and beside what, and bad names */
 
-/* Whether the character that is begun there lacks octets behind the end, whatever else is wrong with it. */
-static int is_cut_off(const uint8_t *octets, uint32_t at, uint32_t length)
-{
-    uint32_t needs = octets[at] >= 0xF0 ? 4 : octets[at] >= 0xE0 ? 3 : octets[at] >= 0xC2 ? 2 : 1;
-    return length - at < needs;
-}
-
 static void count_title(const tables *t, struct mcs_place place)
 {
-    uint32_t at = track_word(t, place.track, TITLE), length = track_word(t, place.track, TITLE_LENGTH);
+    uint32_t at = track_word(t, place.track, TITLE_OFFSET), length = track_word(t, place.track, TITLE_LENGTH);
     uint32_t next = next_bad_title(t, place.track + 1u);
     by_title[AT_FIRST] += place.octet == 0;
     by_title[AMONG] += place.octet > 0 && place.octet + 1u < length;
@@ -340,7 +334,7 @@ static void count_title(const tables *t, struct mcs_place place)
     by_title[CUT_OFF] += is_cut_off(t->text + at, place.octet, length) != 0;
     by_title[OF_LAST_TRACK] += place.track + 1u == track_count(t);
     if (next < track_count(t)) {
-        uint32_t other = track_word(t, next, TITLE), other_length = track_word(t, next, TITLE_LENGTH);
+        uint32_t other = track_word(t, next, TITLE_OFFSET), other_length = track_word(t, next, TITLE_LENGTH);
         int alike = other == at && other_length == length;
         by_title[OF_TWO]++;
         by_title[OF_TWO_ALIKE] += alike != 0;
@@ -432,6 +426,7 @@ void count_call(const run *r, const step *s, uint32_t share)
     if (has_state(s->kind)) {
         count_services(r, s);
         count_numbers(r, s);
+        count_titles(r, s);
     }
     if (writes_object(s->kind) || reads_object(s->kind)) {
         count_object(r, s);
@@ -518,7 +513,7 @@ static void tell_truths(void)
 {
     static const char *const NAME[TRUTHS] = {"connected", "encrypted, connected", "encrypted, not connected"};
     unsigned long rarest = by_truth_value[2];
-    for (uint32_t kind = SET_NAME; kind <= TAKE; kind++) {
+    for (uint32_t kind = SET_NAME; kind <= TITLE; kind++) {
         row("%s with a yes or no that is neither, by its number without it", CALL_NAME[kind]);
         tell_numbers(kind, by_mended[kind], 0, 0);
     }
@@ -538,7 +533,7 @@ static void tell_truths(void)
 /* Octets that mean nothing, where they are seen to be as they have to be: by the calls that can show it. */
 static void tell_dead(void)
 {
-    enum { BUT_START = (2u << TAKE) - 2u, CLEARING = 1u << START | 1u << CONNECT | 1u << DISCONNECT };
+    enum { BUT_START = (2u << TITLE) - 2u, CLEARING = 1u << START | 1u << CONNECT | 1u << DISCONNECT };
     static const struct {
         const char *words;
         uint32_t kinds;
@@ -675,9 +670,9 @@ static void tell_all(void)
 {
     static const char *const SHARE_NAME[SHARES] = {"histories",          "valid states",
                                                    "damaged states",     "any octets as a state",
-                                                   "damaged catalogues", "any words as a catalogue",
-                                                   "cards",              "cue sheets",
-                                                   "objects"};
+                                                   "damaged catalogues", "damaged titles",
+                                                   "any words as a catalogue", "cards",
+                                                   "cue sheets",         "objects"};
     row("calls by where what they are lent came from");
     for (uint32_t k = 0; k < SHARES; k++) {
         tell(by_share[k], 1, "%s", SHARE_NAME[k]);
@@ -693,7 +688,7 @@ static void tell_all(void)
     }
     /* A connect and a disconnect change the record's first octet; every other call can change nothing. */
     row("accepted and changed nothing");
-    for (uint32_t kind = SET_NAME; kind <= TAKE; kind++) {
+    for (uint32_t kind = SET_NAME; kind <= TITLE; kind++) {
         tell(unchanged[kind], kind != CONNECT && kind != DISCONNECT, "%s", CALL_NAME[kind]);
     }
     tell_dead();
@@ -706,6 +701,7 @@ static void tell_all(void)
     tell_characteristics("writes", written, MCS_MAY_WRITE);
     tell_services();
     tell_objects();
+    tell_titles();
     tell_truths();
     tell_places();
     tell_cards();

@@ -15,14 +15,20 @@ static unsigned long from_mark[PLACES], to_place[PLACES], by_take[REF_SERVICES][
 static unsigned long by_waiting[REF_SERVICES][WAITING_CASES], of_another_layout[CALLS], wrong_alone[REF_SERVICES][CALLS];
 static unsigned long waited_round, waited_longest;
 
-uint32_t number_on(const run *r, const step *s, ref_state *state, uint32_t service)
+uint32_t number_with(const run *r, const step *s, const tables *titles, ref_state *state, uint32_t service)
 {
     static uint8_t out[OUT_ROOM];
-    uint32_t word, served[SERVED_WORDS], track, octet;
+    uint32_t word, served[SERVED_WORDS], part[MCS_PART_WORDS], track, octet;
     call c = {.kind = s->kind, .who = s->who, .service = service, .what = s->what, .number = s->number,
-              .catalogue = lent(&r->lent), .octets = s->octets, .length = s->length, .state = state, .out = out,
-              .out_len = s->room[0], .word = &word, .served = served, .track = &track, .octet = &octet};
+              .catalogue = lent(&r->lent), .titles = lent_titles(titles), .state = state, .out = out,
+              .out_len = s->room[0], .word = &word, .served = served, .part = part, .track = &track, .octet = &octet};
+    lend_texts(s, &c);
     return call_second(&c);
+}
+
+uint32_t number_on(const run *r, const step *s, ref_state *state, uint32_t service)
+{
+    return number_with(r, s, &r->lent, state, service);
 }
 
 /* A service that there is not: what is told before 219, and the number of the same call to one that there is, so that 219 is seen
@@ -144,6 +150,7 @@ static void tell_refusals(void)
         if (has_service(kind)) {
             row("%s to a service that there is not, told before 219", CALL_NAME[kind]);
             tell(told_before[kind][MCS_BAD_CATALOGUE], 1, "200");
+            tell(told_before[kind][MCS_BAD_RENAMES], 1, "224");
             tell(told_before[kind][MCS_SMALL_OUTPUT], (unsigned long)has_output(kind), "205");
             tell(told_before[kind][MCS_BAD_STATE], 1, "201");
             tell(of_no_client[kind][OTHER_THERE], (unsigned long)has_client(kind), "202 over a client that is connected");
@@ -157,12 +164,12 @@ static void tell_refusals(void)
 static void tell_states(void)
 {
     row("201 for the layout");
-    for (uint32_t kind = SET_NAME; kind <= TAKE; kind++) {
+    for (uint32_t kind = SET_NAME; kind <= TITLE; kind++) {
         tell(of_another_layout[kind], 1, "%s", CALL_NAME[kind]);
     }
     for (uint32_t service = 0; service < REF_SERVICES; service++) {
         row("201 for service %u alone", (unsigned)service);
-        for (uint32_t kind = SET_NAME; kind <= TAKE; kind++) {
+        for (uint32_t kind = SET_NAME; kind <= TITLE; kind++) {
             tell(wrong_alone[service][kind], 1, "%s", CALL_NAME[kind]);
         }
     }

@@ -209,13 +209,13 @@ static void damage_track(dice *d, const run *r, step *s)
     case STAMP:
         s->what = any_word(d);
         break;
-    case TITLE:
+    case TITLE_OFFSET:
         s->what = ONE_OF(d, 0, is - 1u, is + 1u, text, text + 1u, text - track_word(&r->lent, track, TITLE_LENGTH),
                          text - track_word(&r->lent, track, TITLE_LENGTH) + 1u, 0x80000000u, 0xFFFFFFFFu);
         break;
     case TITLE_LENGTH:
-        s->what = ONE_OF(d, 0, is - 1u, is + 1u, 127, 128, 129, text - track_word(&r->lent, track, TITLE),
-                         text - track_word(&r->lent, track, TITLE) + 1u, 0xFFFFFFFFu);
+        s->what = ONE_OF(d, 0, is - 1u, is + 1u, 127, 128, 129, text - track_word(&r->lent, track, TITLE_OFFSET),
+                         text - track_word(&r->lent, track, TITLE_OFFSET) + 1u, 0xFFFFFFFFu);
         break;
     default:
         s->what = ONE_OF(d, 0, is - 1u, is + 1u, is + 2u, 0x80000000u, 0xFFFFFFFFu, 1024);
@@ -310,7 +310,7 @@ void damage_title(dice *d, const run *r, step *s)
     blank_step(d, POKE_TABLE, s);
     track = some_titled_track(d, t);
     other = below(d, track_count(t));
-    at = track_word(t, track, TITLE);
+    at = track_word(t, track, TITLE_OFFSET);
     length = track_word(t, track, TITLE_LENGTH);
     if (length > 0 && !one_in(d, 3)) {
         s->who = TEXT;
@@ -324,9 +324,75 @@ void damage_title(dice *d, const run *r, step *s)
         s->number = MCS_TRACK_WORDS * track + TITLE_LENGTH;
         s->what = ONE_OF(d, length - 1u, length + 1u, between(d, 1, 128), 128, track_word(t, other, TITLE_LENGTH));
     } else {
-        s->number = MCS_TRACK_WORDS * track + TITLE;
-        s->what = ONE_OF(d, at - 1u, at + 1u, below(d, t->length[TEXT] + 1u), track_word(t, other, TITLE));
+        s->number = MCS_TRACK_WORDS * track + TITLE_OFFSET;
+        s->what = ONE_OF(d, at - 1u, at + 1u, below(d, t->length[TEXT] + 1u), track_word(t, other, TITLE_OFFSET));
     }
+}
+
+/* ---- The office's titles */
+
+/* A renamed track; any where none is. */
+static uint32_t some_renamed_track(dice *d, const tables *t)
+{
+    uint32_t tracks = track_count(t), from = below(d, tracks);
+    for (uint32_t k = 0; k < tracks; k++) {
+        if (rename_word(t, (from + k) % tracks, RENAME_LENGTH) > 0) {
+            return (from + k) % tracks;
+        }
+    }
+    return from;
+}
+
+/* One entry too few or too many, half of one, or none; a text that ends too early, or later. */
+static void damage_titles_length(dice *d, const run *r, step *s)
+{
+    uint32_t length;
+    s->kind = TABLE_LENGTH;
+    s->who = one_in(d, 3) ? OFFICE : RENAMES;
+    length = r->lent.length[s->who];
+    s->number = ONE_OF(d, length - 1u, length + 1u, length - 2u, length + 2u, below(d, length + 1u), 0);
+    if (s->number > table_room(s->who)) {
+        s->number = length;
+    }
+}
+
+/* An entry that is too long, ends or begins inside a character, lies outside the text, also such as would lie in it if the sum of its
+ * words had 32 bits; or an entry of length 0, which may be any. */
+static void damage_entry(dice *d, const run *r, step *s)
+{
+    const tables *t = &r->lent;
+    uint32_t track = some_renamed_track(d, t), office = t->length[OFFICE], other = below(d, track_count(t));
+    uint32_t at = rename_word(t, track, RENAME_OFFSET), length = rename_word(t, track, RENAME_LENGTH);
+    s->who = RENAMES;
+    if (one_in(d, 2)) {
+        s->number = MCS_RENAME_WORDS * track + RENAME_LENGTH;
+        s->what = ONE_OF(d, 0, length - 1u, length + 1u, 1, 128, 129, 130, 256, office - at, office - at + 1u, 0x80000000u, 0u - at,
+                         0xFFFFFFFFu);
+    } else {
+        s->number = MCS_RENAME_WORDS * track + RENAME_OFFSET;
+        s->what = ONE_OF(d, at - 1u, at + 1u, office - length, office - length + 1u, office, 0u - length, 0u - 1u, 0x80000000u,
+                         rename_word(t, other, RENAME_OFFSET), below(d, office + 1u));
+    }
+}
+
+void damage_renames(dice *d, const run *r, step *s)
+{
+    const tables *t = &r->lent;
+    uint32_t track, length;
+    blank_step(d, POKE_TABLE, s);
+    if (track_count(t) == 0 || one_in(d, 4)) {
+        damage_titles_length(d, r, s);
+        return;
+    }
+    track = some_renamed_track(d, t);
+    length = rename_word(t, track, RENAME_LENGTH);
+    if (length == 0 || one_in(d, 2)) {
+        damage_entry(d, r, s);
+        return;
+    }
+    s->who = OFFICE;
+    s->number = rename_word(t, track, RENAME_OFFSET) + (one_in(d, 3) ? 0 : one_in(d, 2) ? length - 1u : below(d, length));
+    s->what = ONE_OF(d, 0x80, 0xBF, 0xC0, 0xC3, 0xE0, 0xED, 0xF0, 0xF4, 0xF5, 0xFF);
 }
 
 /* ---- Cards */

@@ -7,16 +7,16 @@
 #include <string.h>
 
 /* In the order of the calls: start, set name, activate, deactivate, advance, connect, disconnect, subscribe, unsubscribe,
- * read, write, take. */
+ * read, write, take, title. */
 static const uint32_t MOODS[][CARD_LOAD] = {
-    {1, 12, 20, 2, 50, 16, 4, 50, 8, 60, 160, 120}, /* a bit of all */
-    {0, 8, 8, 1, 30, 4, 1, 10, 1, 10, 200, 40},     /* pressing buttons, so that results pile up */
-    {0, 8, 6, 1, 20, 4, 0, 10, 2, 10, 100, 140},    /* handing out what falls due */
-    {0, 6, 4, 1, 20, 4, 1, 4, 2, 200, 30, 10},      /* reading, also in pieces */
-    {0, 2, 8, 1, 150, 2, 0, 4, 1, 20, 100, 40},     /* playing and seeking */
-    {1, 6, 6, 2, 10, 60, 20, 120, 30, 20, 60, 60},  /* coming and going */
+    {1, 12, 20, 2, 50, 16, 4, 50, 8, 60, 160, 120, 20}, /* a bit of all */
+    {0, 8, 8, 1, 30, 4, 1, 10, 1, 10, 200, 40, 4},      /* pressing buttons, so that results pile up */
+    {0, 8, 6, 1, 20, 4, 0, 10, 2, 10, 100, 140, 10},    /* handing out what falls due */
+    {0, 6, 4, 1, 20, 4, 1, 4, 2, 200, 30, 10, 40},      /* reading, also in pieces */
+    {0, 2, 8, 1, 150, 2, 0, 4, 1, 20, 100, 40, 10},     /* playing and seeking */
+    {1, 6, 6, 2, 10, 60, 20, 120, 30, 20, 60, 60, 4},   /* coming and going */
 };
-static const uint32_t EVEN[CARD_LOAD] = {1, 1, 1, 1, 1, 1, 1, 1, 1, 1, 1, 1};
+static const uint32_t EVEN[CARD_LOAD] = {1, 1, 1, 1, 1, 1, 1, 1, 1, 1, 1, 1, 1};
 
 static mood mood_of(const uint32_t *weight, uint32_t wrong)
 {

@@ -79,6 +79,7 @@ static void long_catalogue(tables *t, uint32_t count, uint32_t pattern)
     }
     t->length[GROUPS] = 4 * MCS_GROUP_WORDS;
     t->length[TRACKS] = first * MCS_TRACK_WORDS;
+    rename_nothing(t);
 }
 
 static void stand_in_list(uint32_t track, uint32_t position, uint8_t media)
@@ -180,7 +181,7 @@ static void titled(const uint8_t *octets, uint32_t length, int right, uint32_t a
         memcpy(t.text + 1, octets, MCS_OUTPUT_OCTETS);
         t.length[TEXT] = 1u + (behind ? MCS_OUTPUT_OCTETS : length);
         for (uint32_t k = 0; k < track_count(&t); k++) {
-            t.tracks[MCS_TRACK_WORDS * k + TITLE] = 1;
+            t.tracks[MCS_TRACK_WORDS * k + TITLE_OFFSET] = 1;
             t.tracks[MCS_TRACK_WORDS * k + TITLE_LENGTH] = k == 1 ? length : 0;
         }
         lend_tables(both, &t);

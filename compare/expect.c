@@ -113,13 +113,20 @@ void activate(uint32_t group, uint32_t number)
 
 void connect_client(uint32_t client)
 {
-    step s = blank(CONNECT), subscribe = blank(SUBSCRIBE);
-    s.who = subscribe.who = client;
+    step s = blank(CONNECT);
+    s.who = client;
     s.number = 23;
     s.what = 1;
     makes(s, 0);
-    subscribe.what = MCS_CONTROL_POINT;
-    makes(subscribe, 0);
+    subscribe_to(client, MCS_CONTROL_POINT);
+}
+
+void subscribe_to(uint32_t client, uint32_t characteristic)
+{
+    step s = blank(SUBSCRIBE);
+    s.who = client;
+    s.what = characteristic;
+    makes(s, 0);
 }
 
 void set_name(const char *name) { makes(with_octets(blank(SET_NAME), name, (uint32_t)strlen(name)), 0); }
@@ -235,17 +242,34 @@ void four_clients(const char *what)
 void calls_give(uint32_t number)
 {
     step small = blank(TAKE), nobody = blank(DISCONNECT), absent = blank(DISCONNECT), name = blank(SET_NAME), none = name;
+    int before_205 = number == MCS_BAD_CATALOGUE || number == MCS_BAD_RENAMES;
     small.room[0] = MCS_OUTPUT_OCTETS - 1u;
     nobody.who = 4;
     absent.who = 3;
     name.length = none.length = 129;
     none.service = MCS_SERVICES;
     makes(blank(DEACTIVATE), number);
-    makes(small, number == MCS_BAD_CATALOGUE ? number : MCS_SMALL_OUTPUT);
+    makes(small, before_205 ? number : MCS_SMALL_OUTPUT);
     small.kind = READ;
-    makes(small, number == MCS_BAD_CATALOGUE ? number : MCS_SMALL_OUTPUT);
+    makes(small, before_205 ? number : MCS_SMALL_OUTPUT);
     makes(nobody, number == 0 ? MCS_NO_CLIENT : number);
     makes(absent, number == 0 ? MCS_NOT_CONNECTED : number);
     makes(name, number == 0 ? MCS_BAD_NAME : number);
     makes(none, number == 0 ? MCS_NO_SERVICE : number);
+}
+
+void all_calls_give(int (*has)(uint32_t kind), uint32_t number, uint32_t track, uint32_t octet)
+{
+    for (uint32_t kind = 0; kind < CALLS; kind++) {
+        step s = blank(kind);
+        if (has(kind)) {
+            s.who = MCS_CLIENTS;
+            s.service = MCS_SERVICES;
+            s.number = MCS_MOST_GROUPS;
+            s.length = s.players[MCS_NAMED].length = REF_NAME_ROOM + 1u;
+            s.room[0] = 0;
+            makes(s, number);
+            carries(track, octet);
+        }
+    }
 }

@@ -42,6 +42,7 @@ void start_desk(uint32_t mask); /* that of the service that is tried; the player
 void activate(uint32_t group, uint32_t number);
 void connect_client(uint32_t client); /* encrypted, and subscribed to the control point */
 void set_name(const char *name);
+void subscribe_to(uint32_t client, uint32_t characteristic);
 void write_value(uint32_t characteristic, const void *octets, uint32_t length);
 void write_position(int64_t n);
 void read_name(uint32_t offset, uint32_t number);
@@ -71,5 +72,9 @@ void four_clients(const char *what);
 /* A call that is accepted where the state stands, two with 205, and four with a row behind 201: all refused with the number,
  * or each as it has to be where it is 0. */
 void calls_give(uint32_t number);
+
+/* Every call that has what is asked for, with arguments that a later row refuses where there is one: all refused with the number, and
+ * carrying this place. */
+void all_calls_give(int (*has)(uint32_t kind), uint32_t number, uint32_t track, uint32_t octet);
 
 #endif

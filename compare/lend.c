@@ -15,6 +15,8 @@ static const struct {
     const char *words;
 } BUFFER[BUFFERS] = {
     TABLES_OF(catalogue, "the catalogue"),
+    TABLE(titles.renames, 4, RENAMES_ROOM, "the entries of the office's titles"),
+    TABLE(titles.office, 1, OFFICE_ROOM, "the office's text"),
     {offsetof(call, state), NO_LENGTH, 1, MCS_STATE_OCTETS, "the state"},
     {offsetof(call, octets), offsetof(call, length), 1, SHEET_ROOM, "the name, value, card, cue sheet or object"},
     TABLE(players[MCS_GENERIC].name, 1, START_NAME_ROOM, "the generic player's name"),
@@ -23,6 +25,7 @@ static const struct {
     {offsetof(call, word), NO_LENGTH, 4, 1, "the length of a read or an object, count of a cue sheet or blocks of a card write"},
     {offsetof(call, count), NO_LENGTH, sizeof(size_t), 1, "the count of an object's entries"},
     {offsetof(call, served), NO_LENGTH, 4, SERVED_WORDS, "what a take served"},
+    {offsetof(call, part), NO_LENGTH, 4, MCS_PART_WORDS, "where a title stands"},
     {offsetof(call, counts), NO_LENGTH, 4, 4, "the counts of a card load"},
     {offsetof(call, block), NO_LENGTH, 4, 1, "the block of a card load"},
     {offsetof(call, line), NO_LENGTH, 4, 1, "the line of a cue sheet"},
@@ -85,6 +88,8 @@ struct mcs_place filled_place(uint8_t fill)
     return place;
 }
 
+uint32_t filled_part(uint8_t fill, uint32_t word) { return 0xC3000000u + 256u * word + fill; }
+
 uint32_t filled_word(uint8_t fill, uint32_t at) { return (fill + at) * 0x9E3779B1u; }
 
 static void fill_answer(const step *s, answer *a)
@@ -94,6 +99,9 @@ static void fill_answer(const step *s, answer *a)
     a->count = ~(size_t)a->length;
     for (uint32_t k = 0; k < SERVED_WORDS; k++) {
         a->served[k] = a->length + 1u;
+    }
+    for (uint32_t k = 0; k < MCS_PART_WORDS; k++) {
+        a->part[k] = filled_part(s->fill, k);
     }
     a->counts[0] = a->counts[1] = a->counts[2] = a->counts[3] = a->length + 2u;
     a->line = a->length + 3u;
@@ -144,8 +152,7 @@ static void lend_room(run *r, const step *s, call *c)
     }
 }
 
-/* A start is lent a name for each service, every other call at most one text. */
-static void lend_texts(const step *s, call *c)
+void lend_texts(const step *s, call *c)
 {
     if (s->kind != START) {
         c->octets = s->octets;
@@ -176,6 +183,7 @@ void lend_plainly(run *r, const step *s, call *c)
         c->octet = &a->octet;
     }
     if (has_state(s->kind)) {
+        c->titles = lent_titles(&r->lent);
         c->state = r->octets;
     }
     if (has_output(s->kind)) {
@@ -184,6 +192,7 @@ void lend_plainly(run *r, const step *s, call *c)
     }
     c->word = s->kind == READ || s->kind == CUE_SHEET || fills_room(s->kind) ? &a->length : NULL;
     c->served = s->kind == TAKE ? a->served : NULL;
+    c->part = s->kind == TITLE ? a->part : NULL;
     if (s->kind == CARD_LOAD) {
         lend_card(r, s, c);
     } else if (s->kind == CUE_SHEET || reads_object(s->kind)) {
@@ -199,10 +208,10 @@ void lend_guarded(run *r, const step *s, const call *plain, uint32_t against, ca
     for (uint32_t k = 0; k < BUFFERS; k++) {
         size_t octets = lent_octets(plain, k);
         void *to = place_in(&guarded[against][k], against, octets);
-        if (octets > 0 && (k >= TABLES || r->stale[against][k])) {
+        if (octets > 0 && (k >= LENT_TABLES || r->stale[against][k])) {
             memcpy(to, lent_at(plain, k), octets);
         }
-        if (octets > 0 && k < TABLES) {
+        if (octets > 0 && k < LENT_TABLES) {
             r->stale[against][k] = 0;
         }
         if (lent_at(plain, k) != NULL) {

@@ -4,15 +4,16 @@
 
 #include "run.h"
 
-/* What calls are lent, inputs and outputs. The tables of a catalogue come first, by their numbers. */
+/* What calls are lent, inputs and outputs. The tables of a catalogue and of the office come first, by their numbers. */
 enum {
-    THE_STATE = TABLES,
+    THE_STATE = LENT_TABLES,
     OCTETS,
     NAMES, /* of a start, by service */
     OUTPUT = NAMES + (int)MCS_SERVICES,
     WORD,
     COUNT,
     SERVED,
+    TITLE_PART,
     COUNTS,
     BLOCK,
     LINE,
@@ -38,6 +39,9 @@ void prepare_lending(void);
 /* The guarded copies of a table are no longer what is lent. */
 void table_changed(run *r, uint32_t table);
 
+/* The names of a start, or the one text that any other call is lent. */
+void lend_texts(const step *s, call *c);
+
 /* The call of a step in plain memory, its outputs holding what `fill` says. Its state is the library's. */
 void lend_plainly(run *r, const step *s, call *c);
 
@@ -56,5 +60,8 @@ uint32_t filled_word(uint8_t fill, uint32_t at);
 /* What the two words for a place hold before the call: no track and no octet that can be carried, so that it is seen whether they are
  * written. */
 struct mcs_place filled_place(uint8_t fill);
+
+/* The same of the words of a part: none of them is any text, offset or length of a title. */
+uint32_t filled_part(uint8_t fill, uint32_t word);
 
 #endif

@@ -29,7 +29,7 @@ static void full_catalogue(tables *t, uint32_t groups, uint32_t tracks, uint32_t
         record[DURATION] = MCS_MOST_DURATION;
         record[FIRST_SEGMENT] = k == 0 ? 0 : segments;
         record[SEGMENT_COUNT] = k == 0 ? segments : 0;
-        record[TITLE] = k == 0 ? text - 128u : text;
+        record[TITLE_OFFSET] = k == 0 ? text - 128u : text;
         record[TITLE_LENGTH] = k == 0 ? 128u : 0;
     }
     for (uint32_t k = 0; k < segments; k++) {
@@ -39,6 +39,7 @@ static void full_catalogue(tables *t, uint32_t groups, uint32_t tracks, uint32_t
     t->length[TRACKS] = MCS_TRACK_WORDS * tracks;
     t->length[SEGMENTS] = segments;
     t->length[TEXT] = text;
+    rename_nothing(t);
 }
 
 static void loads(const char *what, const tables *t, uint32_t number)
@@ -91,7 +92,7 @@ static void limit_cases(void)
     t.segments[1023] = MCS_MOST_DURATION;
     starts("a start at the end of a running recording", &t, MCS_BAD_CATALOGUE);
     full_catalogue(&t, 64, 256, 1024, 32768);
-    t.tracks[TITLE] -= 1;
+    t.tracks[TITLE_OFFSET] -= 1;
     t.tracks[TITLE_LENGTH] = 129;
     starts("a title of 129 octets", &t, MCS_BAD_CATALOGUE);
     sample_catalogue(&t);

@@ -82,6 +82,11 @@ int slot_bit(const uint8_t state[MCS_STATE_OCTETS], uint32_t service, uint32_t c
     return (word_at(state + MCS_AT_SERVICE(service) + MCS_IN_ACCOUNT(client) + part) >> bit & 1u) != 0;
 }
 
+int read_mark(const uint8_t state[MCS_STATE_OCTETS], uint32_t service, uint32_t client, uint32_t characteristic)
+{
+    return (word_at(state + MCS_AT_SERVICE(service) + MCS_IN_ACCOUNT(client) + MCS_IN_READ) >> characteristic & 1u) != 0;
+}
+
 /* ---- Refusals of what is done to 10 to 14, behind those that come before them */
 
 static const char *wrong_refusal(const tables *t, const step *s, uint32_t number, const standing *was)
@@ -235,9 +240,8 @@ static const char *wrong_owed(const tables *t, const step *s, const standing *wa
     for (uint32_t c = 10; c <= 14; c++) {
         int changed = !same && object_of(t, was, c) != object_of(t, is, c);
         for (uint32_t client = 0; client < MCS_CLIENTS; client++) {
-            uint32_t read = MCS_AT_SERVICE(s->service) + MCS_IN_ACCOUNT(client) + MCS_IN_READ;
             int wrote_it = s->kind == WRITE && s->what == c && s->who == client;
-            if ((word_at(after + read) >> c & 1u) != (changed ? 0 : word_at(before + read) >> c & 1u)) {
+            if (read_mark(after, s->service, client, c) != (!changed && read_mark(before, s->service, client, c))) {
                 return "both leave another mark of a change at one of 10 to 14 than they have to";
             }
             if (c > 10 && slot_bit(after, s->service, client, MCS_IN_OWED, c) !=
@@ -302,6 +306,7 @@ const char *wrong_number(const tables *t, const step *s, const answer *a, const 
     uint32_t service = s->kind == TAKE && a->number == 0 ? a->served[SERVED_SERVICE] : s->service;
     switch (a->number) {
     case MCS_BAD_CATALOGUE:
+    case MCS_BAD_RENAMES:
     case MCS_SMALL_OUTPUT:
     case MCS_BAD_STATE:
     case MCS_NO_CLIENT:

@@ -29,6 +29,9 @@ int ends_elsewhere(const standing *was, const standing *is);
 /* Whether the slot of a characteristic is in the set of slots at a part of a client's account with a service. */
 int slot_bit(const uint8_t state[MCS_STATE_OCTETS], uint32_t service, uint32_t client, uint32_t part, uint32_t characteristic);
 
+/* Whether a client has read a characteristic of a service at 0 since connecting, and it has not changed since. */
+int read_mark(const uint8_t state[MCS_STATE_OCTETS], uint32_t service, uint32_t client, uint32_t characteristic);
+
 /* What is wrong with a call on a state, with the states before and after it, in words; a null pointer where nothing is. */
 const char *wrong_number(const tables *t, const step *s, const answer *a, const uint8_t before[MCS_STATE_OCTETS],
                          const uint8_t after[MCS_STATE_OCTETS]);

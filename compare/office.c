@@ -1,9 +1,11 @@
-/* The office's day, the player's cases and those of the two services: a framed script of calls.
+/* The office's day, the player's cases, those of the two services and those of the office's titles: a framed script of calls.
  *
  * A frame: catalogue, call, client, service, octet, number (four octets, little endian), room, text length (two octets), text.
- * The calls are 0 a note, 1 to 12 those of document 01 from start to take, 13 damage to the state. A start has the generic
- * player's mask as its number and that one's Content Control ID as its octet; its text is the length of that one's name in an
- * octet, the name, and of the named player mask (four octets), Content Control ID (an octet) and name. */
+ * The calls are 0 a note, 1 to 12 those of document 01 from start to take, 13 damage to the state, 14 other titles for all later
+ * calls, 15 the title call. A start has the generic player's mask as its number and that one's Content Control ID as its octet; its
+ * text is the length of that one's name in an octet, the name, and of the named player mask (four octets), Content Control ID (an
+ * octet) and name. Other titles have 1 as their octet where nothing is renamed, as the script begins; or 0, and then their number is
+ * that of the words of the entries, and their text these words, little endian, and the office's text behind them. */
 #include "office.h"
 #include "lend.h"
 #include "service.h"
@@ -11,7 +13,7 @@
 
 #include <string.h>
 
-enum { NOTE = 0, FIRST_CALL = 1, LAST_CALL = 12, DAMAGE = 13 };
+enum { NOTE = 0, FIRST_CALL = 1, DAMAGE = 13, OTHER_TITLES = 14, TITLE_CALL = 15 };
 enum { SAMPLE, LONG_TITLES, OWN_PARENT, CUT_GROUPS, CLOSE_SEGMENTS, RUNNING, BAD_TITLES, BAD_AND_WRONG, FOLDERS, MANY, CATALOGUES };
 
 #define GESPRAECH                                                                                                          \
@@ -36,6 +38,7 @@ static void make_many(tables *t)
     t->length[GROUPS] = MCS_GROUP_WORDS * MCS_MOST_GROUPS;
     t->length[TRACKS] = MCS_TRACK_WORDS * MCS_MOST_TRACKS;
     t->groups[MCS_GROUP_WORDS * (MCS_MOST_GROUPS - 1u) + TRACK_COUNT] = MCS_MOST_TRACKS;
+    rename_nothing(t);
 }
 
 static void make_catalogues(void)
@@ -57,7 +60,7 @@ static void make_catalogues(void)
     memcpy(titled->text, LONG_TEXT, sizeof LONG_TEXT - 1);
     titled->length[TEXT] = sizeof LONG_TEXT - 1;
     for (uint32_t k = 0; k < 4; k++) {
-        titled->tracks[MCS_TRACK_WORDS * k + TITLE] = k == 1 ? 64 : 0;
+        titled->tracks[MCS_TRACK_WORDS * k + TITLE_OFFSET] = k == 1 ? 64 : 0;
         titled->tracks[MCS_TRACK_WORDS * k + TITLE_LENGTH] = k < 2 ? 64 : k == 2 ? 0 : 128;
     }
     catalogue[OWN_PARENT].groups[MCS_GROUP_WORDS * 3 + PARENT] = 3;
@@ -80,7 +83,7 @@ static void make_catalogues(void)
     memcpy(bad->text, BAD_TEXT, sizeof BAD_TEXT - 1);
     bad->length[TEXT] = sizeof BAD_TEXT - 1;
     for (uint32_t k = 0; k < 4; k++) {
-        bad->tracks[MCS_TRACK_WORDS * k + TITLE] = BAD_TITLE[k].at;
+        bad->tracks[MCS_TRACK_WORDS * k + TITLE_OFFSET] = BAD_TITLE[k].at;
         bad->tracks[MCS_TRACK_WORDS * k + TITLE_LENGTH] = BAD_TITLE[k].length;
     }
     make_folders(&catalogue[FOLDERS]);
@@ -126,6 +129,16 @@ static void write_service(FILE *out, const ref_service *s, const ref_link *links
     }
 }
 
+/* Where a title stands, and its octets there. */
+static void write_part(FILE *out, const tables *t, const uint32_t part[MCS_PART_WORDS])
+{
+    uint32_t table = part[PART_TEXT] == MCS_OFFICE_TEXT ? OFFICE : TEXT;
+    fprintf(out, "title %s %u %u", table == OFFICE ? "office" : "card", (unsigned)part[PART_OFFSET], (unsigned)part[PART_LENGTH]);
+    for (uint32_t k = 0; k < part[PART_LENGTH] && (uint64_t)part[PART_OFFSET] + k < t->length[table]; k++) {
+        fprintf(out, " %02x", (unsigned)table_entry(t, table, part[PART_OFFSET] + k));
+    }
+}
+
 /* A word that the call wrote: what it carries. */
 static void write_carried(FILE *out, uint32_t word, uint32_t before)
 {
@@ -156,6 +169,8 @@ static void write_line(FILE *out, const step *s, const run *r)
         fprintf(out, "take %u %u %u", (unsigned)a->served[SERVED_CLIENT], (unsigned)a->served[SERVED_SERVICE],
                 (unsigned)a->served[SERVED_CHARACTERISTIC]);
         length = a->served[SERVED_LENGTH];
+    } else if (s->kind == TITLE) {
+        write_part(out, &r->lent, a->part);
     } else {
         fprintf(out, "done");
     }
@@ -229,12 +244,65 @@ static int start_step(step *s)
     return 1;
 }
 
+/* The titles that the frames of the script lend, and the longest text that such a frame may have: 64 words and 1,024 octets. */
+enum { MOST_WORDS = 64, MOST_OFFICE = 1024, MOST_OF_TITLES = 4 * MOST_WORDS + MOST_OFFICE };
+
+typedef struct {
+    int none; /* nothing is renamed */
+    uint32_t words, octets;
+    uint8_t text[MOST_OF_TITLES];
+} script_titles;
+
+/* Whether a frame of other titles is one; then they are these from now on, and its line is written. */
+static int take_titles(FILE *script, FILE *lines, const step *s, script_titles *titles)
+{
+    uint32_t entries = 4u * s->number;
+    if (s->what > 1 || s->number > MOST_WORDS || s->length < entries || s->length - entries > MOST_OFFICE ||
+        fread(titles->text, 1, s->length, script) != s->length) {
+        return 0;
+    }
+    titles->none = s->what == 1;
+    titles->words = s->number;
+    titles->octets = s->length - entries;
+    if (titles->none) {
+        fprintf(lines, "titles none\n");
+    } else {
+        fprintf(lines, "titles %u %u\n", (unsigned)titles->words, (unsigned)titles->octets);
+    }
+    return 1;
+}
+
+/* The catalogue of a frame with the titles of the script. */
+static void lend_script(run *r, const tables *of_frame, const script_titles *titles)
+{
+    static tables t;
+    t = *of_frame;
+    if (!titles->none) {
+        for (uint32_t k = 0; k < titles->words; k++) {
+            t.renames[k] = word_at(titles->text + 4u * k);
+        }
+        memcpy(t.office, titles->text + 4u * titles->words, titles->octets);
+        t.length[RENAMES] = titles->words;
+        t.length[OFFICE] = titles->octets;
+    }
+    lend_tables(r, &t);
+}
+
+/* Whether the frame's text could be read, and it is a frame. */
+static int take_text(FILE *script, const uint8_t head[12], step *s)
+{
+    return s->length <= sizeof s->octets && fread(s->octets, 1, s->length, script) == s->length && head[0] < CATALOGUES &&
+           head[1] <= TITLE_CALL && (head[1] != FIRST_CALL + START || start_step(s));
+}
+
 unsigned long play_office(FILE *script, FILE *lines, FILE *complaints, run *r)
 {
     static step s;
+    static script_titles titles;
     unsigned long differences = 0, frames = 0;
     uint8_t head[12];
     size_t octets;
+    titles.none = 1;
     make_catalogues();
     begin_run(r, &catalogue[SAMPLE]);
     while ((octets = fread(head, 1, sizeof head, script)) == sizeof head) {
@@ -248,21 +316,22 @@ unsigned long play_office(FILE *script, FILE *lines, FILE *complaints, run *r)
         s.fill = 0xA5;
         s.twice = 1;
         frames++;
-        if (s.length > sizeof s.octets || fread(s.octets, 1, s.length, script) != s.length || head[0] >= CATALOGUES ||
-            head[1] > DAMAGE || (head[1] == FIRST_CALL + START && !start_step(&s))) {
+        if (head[1] == OTHER_TITLES ? !take_titles(script, lines, &s, &titles) : !take_text(script, head, &s)) {
             fprintf(complaints, "compare: frame %lu of the script is none\n", frames);
             return differences + 1;
         }
         if (head[1] == NOTE) {
             fprintf(lines, "# %.*s\n", (int)s.length, (const char *)s.octets);
+        }
+        if (head[1] == NOTE || head[1] == OTHER_TITLES) {
             continue;
         }
         if (head[1] == DAMAGE) {
             damage_step(&s);
         } else {
-            s.kind = (uint8_t)(head[1] - FIRST_CALL + START);
+            s.kind = (uint8_t)(head[1] == TITLE_CALL ? TITLE : head[1] - FIRST_CALL + START);
         }
-        lend_tables(r, &catalogue[head[0]]);
+        lend_script(r, &catalogue[head[0]], &titles);
         if (!do_step(r, &s)) {
             fprintf(complaints, "compare: frame %lu of the script: %s\n", frames, r->difference);
             differences++;

@@ -1,4 +1,4 @@
-/* The office's day and the player's cases: a script of calls, played on both programs. */
+/* The office's day, the player's cases and those of the services and of titles: a script of calls, played on both programs. */
 #ifndef OFFICE_H
 #define OFFICE_H
 

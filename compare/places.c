@@ -38,6 +38,12 @@ uint32_t wrong_octet(const uint8_t *octets, uint32_t length)
     return at;
 }
 
+int is_cut_off(const uint8_t *octets, uint32_t at, uint32_t length)
+{
+    uint32_t needs = octets[at] >= 0xF0 ? 4 : octets[at] >= 0xE0 ? 3 : octets[at] >= 0xC2 ? 2 : 1;
+    return length - at < needs;
+}
+
 /* ---- "Card and catalogue" of document 01, sentence by sentence */
 
 /* "At most 64 groups, 256 tracks, 1,024 segments, 32,768 text octets."; "or a lent table ends inside a record" */
@@ -73,7 +79,7 @@ int duration_and_title_fit(const tables *t, uint32_t track)
 {
     uint32_t duration = track_word(t, track, DURATION), length = track_word(t, track, TITLE_LENGTH);
     return (duration <= MCS_MOST_DURATION || duration == MCS_RUNNING) && length <= 128 &&
-           (uint64_t)track_word(t, track, TITLE) + length <= t->length[TEXT];
+           (uint64_t)track_word(t, track, TITLE_OFFSET) + length <= t->length[TEXT];
 }
 
 /* "the tracks' segment runs likewise"; "Segment starts begin at 0, rise strictly and lie below the duration." */
@@ -103,7 +109,7 @@ int plain_rules_hold(const tables *t) { return sizes_are_right(t) && groups_are_
 
 uint32_t wrong_octet_of_title(const tables *t, uint32_t track)
 {
-    return wrong_octet(t->text + track_word(t, track, TITLE), track_word(t, track, TITLE_LENGTH));
+    return wrong_octet(t->text + track_word(t, track, TITLE_OFFSET), track_word(t, track, TITLE_LENGTH));
 }
 
 uint32_t next_bad_title(const tables *t, uint32_t from)
@@ -114,6 +120,8 @@ uint32_t next_bad_title(const tables *t, uint32_t from)
     }
     return from;
 }
+
+int catalogue_is_right(const tables *t) { return plain_rules_hold(t) && next_bad_title(t, 0) == track_count(t); }
 
 uint32_t wrong_octet_of_name(const uint8_t *octets, uint32_t length)
 {

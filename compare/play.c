@@ -82,7 +82,7 @@ void cannot_be(play *p, const char *why)
 void expect_standing(play *p)
 {
     uint32_t number = p->r->second_said.number;
-    if (number == MCS_BAD_CATALOGUE || number == MCS_BAD_STATE) {
-        cannot_be(p, "both refuse a catalogue or a state that was made right");
+    if (number == MCS_BAD_CATALOGUE || number == MCS_BAD_RENAMES || number == MCS_BAD_STATE) {
+        cannot_be(p, "both refuse a catalogue, titles or a state that were made right");
     }
 }

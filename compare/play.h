@@ -45,6 +45,7 @@ void cannot_be(play *p, const char *why);
 void play_history(play *p);
 void play_states(play *p);
 void play_catalogues(play *p);
+void play_titles(play *p);
 void play_any_tables(play *p);
 void play_cards(play *p);
 void play_sheets(play *p);
@@ -56,7 +57,7 @@ void open_desk(play *p);
 void set_valid_state(play *p);
 void set_any_state(play *p);
 
-/* The catalogue and the state were made right, so the last call cannot have refused them. */
+/* Catalogue, titles and state were made right, so the last call cannot have refused them. */
 void expect_standing(play *p);
 
 #endif

@@ -53,6 +53,34 @@ void start_and_open(play *p)
     }
 }
 
+/* The next piece of a title that a client reads. */
+static void read_title(play *p, uint32_t client, uint32_t service, uint32_t offset)
+{
+    step *s = new_step(p);
+    if (p->going) {
+        draw_this_call(&p->d, p->r, READ, NONE, s);
+        s->who = client;
+        s->service = service;
+        s->what = MCS_TITLE;
+        s->number = offset;
+        take_step(p);
+    }
+}
+
+/* The office lends other titles, also while a client reads one in pieces, which it may then go on with in the new one. */
+static void exchange_titles(play *p)
+{
+    uint32_t client = below(&p->d, MCS_CLIENTS), service = below(&p->d, MCS_SERVICES);
+    int reading = one_in(&p->d, 2);
+    if (reading) {
+        read_title(p, client, service, 0);
+    }
+    bare_step(p, NEW_TITLES, one_in(&p->d, 4) ? 0 : any_word(&p->d));
+    if (reading) {
+        read_title(p, client, service, between(&p->d, 1, 4));
+    }
+}
+
 void play_history(play *p)
 {
     uint32_t calls = one_in(&p->d, 8) ? between(&p->d, 2000, 5000) : between(&p->d, 100, 1200), left = 0;
@@ -64,6 +92,9 @@ void play_history(play *p)
             left = between(&p->d, 10, 120);
         }
         left--;
+        if (one_in(&p->d, 40)) {
+            exchange_titles(p);
+        }
         call_in(p, &m);
         expect_standing(p);
         /* After another start nobody is there. */

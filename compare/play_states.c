@@ -1,4 +1,4 @@
-/* States of every kind: reached, made right, damaged, any octets. And the same over catalogues that are damaged. */
+/* States of every kind: reached, made right, damaged, any octets. And the same over catalogues and titles that are damaged. */
 #include "damage.h"
 #include "play.h"
 #include "random_state.h"
@@ -90,6 +90,9 @@ void play_states(play *p)
             p->share = DAMAGED_STATE;
             damage(p, few_times(p), damage_state);
         }
+        if (one_in(&p->d, 12)) {
+            damage(p, 1, damage_renames);
+        }
         call_in(p, &even);
         if (one_in(&p->d, 3)) {
             call_in(p, &even);
@@ -111,6 +114,32 @@ void play_catalogues(play *p)
         damage_titles_or_more(p);
         if (one_in(&p->d, 6)) {
             damage(p, 1, damage_state);
+        }
+        call_in(p, &even);
+        bare_step(p, PUT_BACK, 0);
+    }
+}
+
+/* 224 comes behind 200 and before all others, so that much else may be wrong too. */
+void play_titles(play *p)
+{
+    mood even = even_mood(MANY);
+    start_and_open(p);
+    for (uint32_t round = 0; round < 200 && goes_on(p); round++) {
+        if (one_in(&p->d, 4)) {
+            calls_on_valid_state(p, &even);
+        }
+        if (one_in(&p->d, 8)) {
+            bare_step(p, NEW_TITLES, any_word(&p->d));
+        }
+        p->share = DAMAGED_TITLES;
+        bare_step(p, KEEP, 0);
+        damage(p, few_times(p), damage_renames);
+        if (one_in(&p->d, 6)) {
+            damage_titles_or_more(p);
+        }
+        if (one_in(&p->d, 4)) {
+            damage(p, 1, one_in(&p->d, 2) ? damage_truth : damage_state);
         }
         call_in(p, &even);
         bare_step(p, PUT_BACK, 0);

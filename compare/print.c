@@ -116,6 +116,9 @@ static void print_answer(FILE *out, const char *program, const step *s, const an
         fprintf(out, ", client %u, service %u, characteristic %u,", (unsigned)a->served[SERVED_CLIENT],
                 (unsigned)a->served[SERVED_SERVICE], (unsigned)a->served[SERVED_CHARACTERISTIC]);
         print_octets(out, a->out, a->served[SERVED_LENGTH] < OUT_ROOM ? a->served[SERVED_LENGTH] : OUT_ROOM);
+    } else if (s->kind == TITLE && a->number == 0) {
+        fprintf(out, ", %s, at %u of %u octets", a->part[PART_TEXT] == MCS_OFFICE_TEXT ? "the office's text" : "the card's text",
+                (unsigned)a->part[PART_OFFSET], (unsigned)a->part[PART_LENGTH]);
     } else if (s->kind == CARD_LOAD && a->number != 0) {
         fprintf(out, ", block %u", (unsigned)a->block);
     } else if (s->kind == CARD_LOAD) {
@@ -123,6 +126,24 @@ static void print_answer(FILE *out, const char *program, const step *s, const an
                 (unsigned)a->counts[3], (unsigned)a->block);
     }
     fprintf(out, "\n");
+}
+
+/* Which tracks are renamed, and with what. */
+static void print_titles(FILE *out, const tables *c)
+{
+    fprintf(out, "  titles of the office: %u words and %u octets of text\n", (unsigned)c->length[RENAMES],
+            (unsigned)c->length[OFFICE]);
+    for (uint32_t k = 0; k < c->length[RENAMES] / MCS_RENAME_WORDS; k++) {
+        if (rename_word(c, k, RENAME_LENGTH) > 0) {
+            fprintf(out, "  track %u: renamed, at %u of %u octets\n", (unsigned)k, (unsigned)rename_word(c, k, RENAME_OFFSET),
+                    (unsigned)rename_word(c, k, RENAME_LENGTH));
+        }
+    }
+    if (c->length[OFFICE] > 0 && c->length[OFFICE] <= 256) {
+        fprintf(out, "  office:");
+        print_octets(out, c->office, c->length[OFFICE]);
+        fprintf(out, "\n");
+    }
 }
 
 static void print_catalogue(FILE *out, const tables *c)
@@ -137,7 +158,7 @@ static void print_catalogue(FILE *out, const tables *c)
         fprintf(out, "  track %u: duration %u, stamp %u, segments from %u, %u of them, title at %u of %u octets\n",
                 (unsigned)k, (unsigned)track_word(c, k, DURATION), (unsigned)track_word(c, k, STAMP),
                 (unsigned)track_word(c, k, FIRST_SEGMENT), (unsigned)track_word(c, k, SEGMENT_COUNT),
-                (unsigned)track_word(c, k, TITLE), (unsigned)track_word(c, k, TITLE_LENGTH));
+                (unsigned)track_word(c, k, TITLE_OFFSET), (unsigned)track_word(c, k, TITLE_LENGTH));
     }
     for (uint32_t k = 0; k < c->length[SEGMENTS]; k++) {
         fprintf(out, k == 0 ? "  starts: %u" : ", %u", (unsigned)c->segments[k]);
@@ -148,6 +169,7 @@ static void print_catalogue(FILE *out, const tables *c)
         print_octets(out, c->text, c->length[TEXT]);
         fprintf(out, "\n");
     }
+    print_titles(out, c);
 }
 
 void print_trial(FILE *out, trial *t, run *r, uint32_t last)
@@ -162,6 +184,9 @@ void print_trial(FILE *out, trial *t, run *r, uint32_t last)
         }
         fprintf(out, "%u. ", (unsigned)k + 1u);
         print_step(out, s);
+        if (s->kind == NEW_TITLES) {
+            print_titles(out, &r->lent);
+        }
         if (is_call(s)) {
             print_answer(out, "library:", s, &r->library_said, r->library_faulted);
             print_answer(out, "second:", s, &r->second_said, r->second_faulted);

@@ -7,6 +7,7 @@
 #include "numbers.h"
 #include "octets.h"
 #include "places.h"
+#include "titles.h"
 
 #include <stdio.h>
 #include <string.h>
@@ -14,7 +15,7 @@
 void lend_tables(run *r, const tables *t)
 {
     r->lent = *t;
-    for (uint32_t table = 0; table < TABLES; table++) {
+    for (uint32_t table = 0; table < LENT_TABLES; table++) {
         table_changed(r, table);
     }
 }
@@ -30,7 +31,7 @@ void begin_run(run *r, const tables *t)
     r->lent_sheet.length = 0;
     memset(r->octets, 0, sizeof r->octets);
     state_of_octets(r->octets, &r->second);
-    memset(&r->waited, 0, sizeof r->waited);
+    forget_history(r);
     remember(r);
     r->difference[0] = 0;
 }
@@ -71,13 +72,13 @@ static int states_stay(run *r)
 }
 
 /* A state of another layout, a yes or no that is neither 1 nor 0, and a next track that may not be named are refused with 201,
- * before which 200 and 205 come. A start looks at no state. */
+ * before which 200, 224 and 205 come. A start looks at no state. */
 static int wrong_octets_are_refused(run *r, const step *s)
 {
     const uint8_t *octets = r->octets_before;
     uint32_t number = r->library_said.number;
     uint32_t should = has_output(s->kind) && s->room[0] < MCS_OUTPUT_OCTETS ? MCS_SMALL_OUTPUT : MCS_BAD_STATE;
-    if (s->kind == START || number == MCS_BAD_CATALOGUE || number == should) {
+    if (s->kind == START || number == MCS_BAD_CATALOGUE || number == MCS_BAD_RENAMES || number == should) {
         return 1;
     }
     if (octets[MCS_AT_LAYOUT] != MCS_STATE_MARK) {
@@ -92,7 +93,8 @@ static int wrong_octets_are_refused(run *r, const step *s)
     return plain_truths(octets) || differs(r, "a yes or no that is neither 1 nor 0 is not refused with 201 in its turn");
 }
 
-/* What both did to the services, in which order they served, and what they did with the numbers of objects is what it has to be. */
+/* What both did to the services, in which order they served, and what they did with the numbers of objects and with titles is what it
+ * has to be. */
 static int services_are_right(run *r, const step *s)
 {
     const answer *a = &r->library_said;
@@ -104,6 +106,7 @@ static int services_are_right(run *r, const step *s)
         wrong = wrong == NULL ? too_late(&r->waited, s, a, octets, r->octets) : wrong;
     }
     wrong = wrong == NULL ? wrong_number(&r->lent, s, a, octets, r->octets) : wrong;
+    wrong = wrong == NULL ? wrong_title(&r->lent, s, a, octets, r->octets) : wrong;
     return wrong == NULL || differs(r, wrong);
 }
 
@@ -179,6 +182,18 @@ static int carried_alone(run *r, const step *s, uint32_t block, uint32_t line)
     return 1;
 }
 
+/* Who reads the title at 0, and whose title changes, no longer has one in whose place another is lent. */
+static void drop_exchanged(run *r, const step *s)
+{
+    for (uint32_t k = 0; k < MCS_SERVICES * MCS_CLIENTS; k++) {
+        uint32_t service = k / MCS_CLIENTS, client = k % MCS_CLIENTS;
+        int read_now = s->kind == READ && s->what == MCS_TITLE && s->number == 0 && s->service == service && s->who == client;
+        if (read_now || !read_mark(r->octets, service, client, MCS_TITLE)) {
+            r->exchanged[service] &= ~(1u << client);
+        }
+    }
+}
+
 static int do_call(run *r, const step *s)
 {
     static call plain, second, made[2];
@@ -219,6 +234,9 @@ static int do_call(run *r, const step *s)
     for (uint32_t k = 0; s->kind == CARD_LOAD && k < TABLES; k++) {
         r->loaded.length[k] = number[0] == 0 ? record_entries(k) * r->second_said.counts[k] : 0;
     }
+    if (s->kind == CARD_LOAD) {
+        rename_nothing(&r->loaded);
+    }
 
     if (r->library_said.number != r->second_said.number) {
         return differs(r, "the numbers differ");
@@ -236,6 +254,9 @@ static int do_call(run *r, const step *s)
     if (!has_state(s->kind)) {
         wrong = wrong_object(r, s);
         return wrong == NULL || differs(r, wrong);
+    }
+    if (r->library_said.number == 0) {
+        drop_exchanged(r, s);
     }
     return wrong_octets_are_refused(r, s) && (r->library_said.number != 0 ? states_stay(r) : same_states(r, s)) &&
            services_are_right(r, s);

@@ -16,6 +16,7 @@ typedef struct {
     uint32_t length;       /* of a read or an object write; the count of a cue sheet; the blocks of a card write */
     size_t count;          /* of an object that is read */
     uint32_t served[SERVED_WORDS]; /* of a take */
+    uint32_t part[MCS_PART_WORDS]; /* of a title call */
     uint32_t counts[4];    /* of a card load */
     uint32_t block;        /* of a card load */
     uint32_t line;         /* of a cue sheet */
@@ -45,7 +46,7 @@ typedef struct {
     ref_state kept_second;
     undo undone[UNDO_ROOM];
     uint32_t undos;
-    int stale[2][TABLES]; /* the guarded copy of a table is not what is lent */
+    int stale[2][LENT_TABLES]; /* the guarded copy of a table is not what is lent */
     tables loaded;        /* by the second program's last card load; its lengths are 0 where it was refused */
     int swapped;          /* it is lent, and the catalogue is put aside in its place */
     uint32_t entries[STARTS_ROOM]; /* by its last cue sheet or object read */
@@ -54,16 +55,18 @@ typedef struct {
     uint8_t octets_before[MCS_STATE_OCTETS]; /* the library's state before the last call */
     ref_state before;         /* the second program's */
     waits waited;             /* for what is owed now, and in the last take for what it served */
+    uint32_t exchanged[MCS_SERVICES]; /* the clients that have read a title at 0 in whose place the office has since lent another,
+                                       * without a change, as bits */
     int unchanged;            /* the last call was accepted, was no start, and left the meaning of the state as it was */
     uint32_t seen_dead;       /* the rules for octets that mean nothing that the last call has shown, as bits (octets.h) */
     answer library_said, second_said;
     char difference[256]; /* empty while there is none */
 } run;
 
-/* Both begin with this catalogue, a state of 0 octets, no card and no cue sheet. There is one run at a time. */
+/* Both begin with this catalogue and these titles, a state of 0 octets, no card and no cue sheet. There is one run at a time. */
 void begin_run(run *r, const tables *t);
 
-/* From now on this catalogue is lent; the states stay. */
+/* From now on this catalogue and these titles are lent; the states stay. */
 void lend_tables(run *r, const tables *t);
 
 /* Whether both did the same; where not, r->difference says what differs. */

@@ -1,4 +1,4 @@
-/* A smaller catalogue for a trial. */
+/* A smaller catalogue and fewer titles for a trial. */
 #include "tried.h"
 #include "words.h"
 
@@ -25,6 +25,16 @@ static int drop_segment(tables *t, uint32_t track)
     return 1;
 }
 
+/* The track's entry of the office's titles, where there is one. */
+static void drop_entry(tables *t, uint32_t track)
+{
+    uint32_t at = MCS_RENAME_WORDS * track, behind = at + MCS_RENAME_WORDS;
+    if (behind <= t->length[RENAMES]) {
+        memmove(t->renames + at, t->renames + behind, sizeof(uint32_t) * (t->length[RENAMES] - behind));
+        t->length[RENAMES] -= MCS_RENAME_WORDS;
+    }
+}
+
 static int drop_track(tables *t, uint32_t track)
 {
     uint32_t count = track_count(t);
@@ -36,6 +46,7 @@ static int drop_track(tables *t, uint32_t track)
     memmove(t->tracks + MCS_TRACK_WORDS * track, t->tracks + MCS_TRACK_WORDS * (track + 1),
             sizeof(uint32_t) * MCS_TRACK_WORDS * (count - track - 1u));
     t->length[TRACKS] -= MCS_TRACK_WORDS;
+    drop_entry(t, track);
     for (uint32_t g = 0; g < group_count(t); g++) {
         uint32_t *record = t->groups + MCS_GROUP_WORDS * g;
         if (record[FIRST_TRACK] > track) {
@@ -90,9 +101,23 @@ static int with_entry(trial *t, run *r, uint32_t table, uint32_t at, uint32_t to
     return with_catalogue(t, r, 1);
 }
 
+/* Less by ever smaller amounts. */
+static int with_less(trial *t, run *r, uint32_t table, uint32_t at)
+{
+    int changed = 0;
+    for (uint32_t by = table_entry(&t->catalogue, table, at) / 2u; by > 0;) {
+        uint32_t now = table_entry(&t->catalogue, table, at);
+        if (by <= now && with_entry(t, r, table, at, now - by)) {
+            changed = 1;
+        } else {
+            by /= 2u;
+        }
+    }
+    return changed;
+}
+
 static int smaller_track(trial *t, run *r, uint32_t track)
 {
-    const uint32_t *record = t->catalogue.tracks + MCS_TRACK_WORDS * track;
     uint32_t at = MCS_TRACK_WORDS * track;
     int changed = 0, dropped;
     do {
@@ -101,16 +126,10 @@ static int smaller_track(trial *t, run *r, uint32_t track)
         changed |= dropped;
     } while (dropped);
     changed |= with_entry(t, r, TRACKS, at + TITLE_LENGTH, 0);
-    changed |= with_entry(t, r, TRACKS, at + TITLE, 0);
+    changed |= with_entry(t, r, TRACKS, at + TITLE_OFFSET, 0);
     changed |= with_entry(t, r, TRACKS, at + STAMP, 0);
     changed |= with_entry(t, r, TRACKS, at + DURATION, 0);
-    for (uint32_t by = record[DURATION] / 2u; by > 0;) {
-        if (by <= record[DURATION] && with_entry(t, r, TRACKS, at + DURATION, record[DURATION] - by)) {
-            changed = 1;
-        } else {
-            by /= 2u;
-        }
-    }
+    changed |= with_less(t, r, TRACKS, at + DURATION);
     return changed;
 }
 
@@ -156,9 +175,35 @@ static int without_track(trial *t, run *r, uint32_t track)
     return with_catalogue(t, r, dropped);
 }
 
+/* No track renamed, or one less; and parts and a text of the office that are shorter by ever smaller amounts. */
+static int fewer_titles(trial *t, run *r)
+{
+    const uint32_t *office = &t->catalogue.length[OFFICE];
+    int changed;
+    try_copy(t);
+    rename_nothing(&tried.catalogue);
+    changed = with_catalogue(t, r, 1);
+    for (uint32_t k = track_count(&t->catalogue); k-- > 0;) {
+        uint32_t at = MCS_RENAME_WORDS * k;
+        changed |= with_entry(t, r, RENAMES, at + RENAME_LENGTH, 0);
+        changed |= with_entry(t, r, RENAMES, at + RENAME_OFFSET, 0);
+        changed |= with_less(t, r, RENAMES, at + RENAME_LENGTH);
+    }
+    for (uint32_t by = *office / 2u; by > 0 && time_is_left();) {
+        try_copy(t);
+        tried.catalogue.length[OFFICE] -= by;
+        if (by <= *office && with_catalogue(t, r, 1)) {
+            changed = 1;
+        } else {
+            by /= 2u;
+        }
+    }
+    return changed;
+}
+
 int smaller_catalogue(trial *t, run *r)
 {
-    int changed = 0;
+    int changed = fewer_titles(t, r);
     for (uint32_t table = 0; table < TABLES; table++) {
         try_copy(t);
         tried.catalogue.length[table] = 0;

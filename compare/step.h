@@ -1,4 +1,4 @@
-/* What a trial is made of: calls, and what is done to state, catalogue, card and cue sheet between them. */
+/* What a trial is made of: calls, and what is done to state, catalogue, titles, card and cue sheet between them. */
 #ifndef STEP_H
 #define STEP_H
 
@@ -10,6 +10,7 @@ enum {
     POKE_STATE,        /* its octets from `number` on are `octets` */
     POKE_TABLE,        /* entry `number` of table `who` is `what` */
     TABLE_LENGTH,      /* table `who` is lent with `number` entries */
+    NEW_TITLES,        /* the office's titles are others: none where `number` is 0; any other decides which */
     SWAP_TABLES,       /* the catalogue and what was loaded last change places */
     MAKE_CARD,         /* the card is one of the catalogue, right where `number` is 0; any other decides which block is short */
     POKE_CARD,         /* octet `number` of the card is `what` */
@@ -24,7 +25,7 @@ enum {
     CUT_SHEET,         /* it is lent with at most `number` octets */
     POKE_SHEET,        /* octet `number` of it is `what` */
     WRITTEN_OBJECT,    /* it is what was written last */
-    KEEP,              /* state and catalogue are remembered */
+    KEEP,              /* state, catalogue and titles are remembered */
     PUT_BACK,          /* and are again as they were */
     KINDS
 };

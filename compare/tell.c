@@ -39,21 +39,22 @@ void tell(unsigned long count, unsigned long least, const char *format, ...)
     }
 }
 
-/* The rows of document 01's table that can apply, of cards, cue sheets and objects also document 02's, and of services 219 (W-208),
- * in their order; 0, accepted, ends each list. */
+/* The rows of document 01's table that can apply, of cards, cue sheets and objects also document 02's, of services 219 (W-208) and of
+ * the office's titles 224 (W-210), in their order; 0, accepted, ends each list. */
 static const uint8_t ROWS[CALLS][13] = {
-    [START] = {200, 207, 0},
-    [SET_NAME] = {200, 201, 219, 207, 0},
-    [ACTIVATE] = {200, 201, 219, 208, 0},
-    [DEACTIVATE] = {200, 201, 219, 0},
-    [ADVANCE] = {200, 201, 219, 0},
-    [CONNECT] = {200, 201, 202, 204, 206, 0},
-    [DISCONNECT] = {200, 201, 202, 203, 0},
-    [SUBSCRIBE] = {200, 201, 202, 219, 203, 0x01, 209, 0x0F, 0},
-    [UNSUBSCRIBE] = {200, 201, 202, 219, 203, 0x01, 209, 0x0F, 0},
-    [READ] = {200, 205, 201, 202, 219, 203, 0x01, 0x02, 0x0F, 0x80, 0x07, 0},
-    [WRITE] = {200, 201, 202, 219, 203, 0x01, 0x03, 0x0F, 0x0D, 0x13, 0x11, 0},
-    [TAKE] = {200, 205, 201, 0},
+    [START] = {200, 224, 207, 0},
+    [SET_NAME] = {200, 224, 201, 219, 207, 0},
+    [ACTIVATE] = {200, 224, 201, 219, 208, 0},
+    [DEACTIVATE] = {200, 224, 201, 219, 0},
+    [ADVANCE] = {200, 224, 201, 219, 0},
+    [CONNECT] = {200, 224, 201, 202, 204, 206, 0},
+    [DISCONNECT] = {200, 224, 201, 202, 203, 0},
+    [SUBSCRIBE] = {200, 224, 201, 202, 219, 203, 0x01, 209, 0x0F, 0},
+    [UNSUBSCRIBE] = {200, 224, 201, 202, 219, 203, 0x01, 209, 0x0F, 0},
+    [READ] = {200, 224, 205, 201, 202, 219, 203, 0x01, 0x02, 0x0F, 0x80, 0x07, 0},
+    [WRITE] = {200, 224, 201, 202, 219, 203, 0x01, 0x03, 0x0F, 0x0D, 0x13, 0x11, 0},
+    [TAKE] = {200, 224, 205, 201, 0},
+    [TITLE] = {200, 224, 201, 219, 0},
     [CARD_LOAD] = {210, 211, 215, 216, 217, 214, 218, 212, 0},
     [CUE_SHEET] = {225, 226, 227, 228, 0},
     [CARD_WRITE] = {200, 213, 0},

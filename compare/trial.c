@@ -20,10 +20,10 @@ int replay_trial(trial *t, run *r)
 int play_trial(uint64_t seed, uint64_t number, trial *t, run *r, int *unshrinkable)
 {
     /* Trials are of very different lengths; these weights give the shares of calls that the counts print. */
-    enum { ANY_TABLES = 3, SHEETS = 5, KINDS = 7 };
-    static const uint32_t WEIGHT[KINDS] = {12, 17, 15, 30, 50, 11, 16};
-    static void (*const PLAYS[KINDS])(play *) = {play_history, play_states, play_catalogues, play_any_tables,
-                                                 play_cards,   play_sheets, play_objects};
+    enum { ANY_TABLES = 4, SHEETS = 6, KINDS = 8 };
+    static const uint32_t WEIGHT[KINDS] = {12, 17, 15, 12, 30, 50, 11, 16};
+    static void (*const PLAYS[KINDS])(play *) = {play_history,    play_states, play_catalogues, play_titles,
+                                                 play_any_tables, play_cards,  play_sheets,     play_objects};
     play p;
     uint32_t at = 0, kind = 0;
     p.d = dice_of(seed, number);

@@ -1,4 +1,4 @@
-/* A trial: a catalogue, and the steps that were drawn for it one after the other. */
+/* A trial: a catalogue with the office's titles, and the steps that were drawn for it one after the other. */
 #ifndef TRIAL_H
 #define TRIAL_H
 

@@ -16,6 +16,6 @@ int holds(trial *t, run *r);
 
 /* Each tries what it can, and returns whether anything held. */
 int plainer_arguments(trial *t, run *r);
-int smaller_catalogue(trial *t, run *r);
+int smaller_catalogue(trial *t, run *r); /* and fewer titles of the office */
 
 #endif

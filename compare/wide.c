@@ -22,6 +22,9 @@ static const struct {
     {"segments", TAKE, SEGMENTS, 0, MCS_BAD_CATALOGUE},
     {"text", START, TEXT, 0, MCS_BAD_CATALOGUE},
     {"text", TAKE, TEXT, 0, MCS_BAD_CATALOGUE},
+    {"the entries of the office's titles", START, RENAMES, 0, MCS_BAD_RENAMES},
+    {"the entries of the office's titles", TAKE, RENAMES, 0, MCS_BAD_RENAMES},
+    {"the entries of the office's titles", TITLE, RENAMES, 0, MCS_BAD_RENAMES},
     {"the generic player's name", START, NAMES + MCS_GENERIC, 0, MCS_BAD_NAME},
     {"the named player's name", START, NAMES + MCS_NAMED, 0, MCS_BAD_NAME},
     {"a name", SET_NAME, OCTETS, 0, MCS_BAD_NAME},
@@ -54,7 +57,7 @@ static tables sample, loaded;
 static card made, written;
 static uint8_t octets[MCS_STATE_OCTETS], out[MCS_OUTPUT_OCTETS], line_of_0[17];
 static ref_state state;
-static uint32_t word, served[SERVED_WORDS], counts[4], block, line, track, octet, entries[MCS_GROUP_ENTRY_WORDS];
+static uint32_t word, served[SERVED_WORDS], part[MCS_PART_WORDS], counts[4], block, line, track, octet, entries[MCS_GROUP_ENTRY_WORDS];
 static size_t count;
 
 /* The length of a value that is written. */
@@ -69,7 +72,9 @@ static size_t value_length(uint32_t what)
 static call right_call(uint32_t kind, uint32_t what)
 {
     static const uint8_t ONE[MCS_OBJECT_OCTETS] = {1}, ENTRY[MCS_GROUP_ENTRY_OCTETS] = {0};
-    call c = {.kind = kind, .what = what, .catalogue = lent(&sample), .octets = ONE, .out = out, .out_len = sizeof out};
+    call c = {.kind = kind, .what = what, .octets = ONE, .out = out, .out_len = sizeof out};
+    c.catalogue = lent(&sample);
+    c.titles = lent_titles(&sample);
     c.number = kind == CONNECT ? 23 : 0;
     for (uint32_t k = 0; k < MCS_SERVICES; k++) {
         c.players[k].name = ONE;
@@ -79,6 +84,7 @@ static call right_call(uint32_t kind, uint32_t what)
     c.word = &word;
     c.count = &count;
     c.served = served;
+    c.part = part;
     c.counts = counts;
     c.block = &block;
     c.line = &line;
@@ -123,6 +129,25 @@ static int give(FILE *to, const char *what, call c, uint32_t number)
     return 1;
 }
 
+/* The office's text has no limit. One of over 32 bits is lent, and a part that begins at the last octet that 32 bits number and ends
+ * with the text, or an octet behind it. The octets are 0, as all of the memory is, and characters. */
+static unsigned long give_wide_text(FILE *to, void *space)
+{
+    static uint32_t renames[MCS_RENAME_WORDS * 4] = {[RENAME_OFFSET] = 0xFFFFFFFFu};
+    unsigned long wrong = 0;
+    for (uint32_t length = 1; length <= 2; length++) {
+        call c = right_call(TITLE, 0);
+        renames[RENAME_LENGTH] = length;
+        c.titles.renames = renames;
+        c.titles.office = space;
+        c.titles.office_len = MORE - 1u + length;
+        wrong += !give(to, "a part at the end of the office's text", c, MCS_OK);
+        c.titles.office_len--;
+        wrong += !give(to, "a part that ends behind the office's text", c, MCS_BAD_RENAMES);
+    }
+    return wrong;
+}
+
 unsigned long play_wide_lengths(FILE *to)
 {
     size_t all = (MORE + 65536u) * sizeof(uint32_t);
@@ -136,6 +161,7 @@ unsigned long play_wide_lengths(FILE *to)
     make_card(&sample, &made);
     index_line(line_of_0, 0);
     wrong += !give(to, "a start without one", right_call(START, 0), 0);
+    wrong += give_wide_text(to, space);
     wrong += !give(to, "a connect without one", right_call(CONNECT, 1), 0);
     for (size_t k = 0; k < sizeof CASES / sizeof CASES[0]; k++) {
         call c = right_call(CASES[k].kind, CASES[k].characteristic);

@@ -12,6 +12,7 @@
 #define preamble(t, ...) preamble(HERE(t), __VA_ARGS__)
 #define preamble_with(t, ...) preamble_with(HERE(t), __VA_ARGS__)
 #define upper_orders(t, ...) upper_orders(HERE(t), __VA_ARGS__)
+#define upper_lends(t, ...) upper_lends(HERE(t), __VA_ARGS__)
 #define upper_activates(t, ...) upper_activates(HERE(t), __VA_ARGS__)
 #define upper_renames(t, ...) upper_renames(HERE(t), __VA_ARGS__)
 #define upper_lets_pass(t, ...) upper_lets_pass(HERE(t), __VA_ARGS__)
@@ -33,6 +34,7 @@
 #define expect_reads(t, ...) expect_reads(HERE(t), __VA_ARGS__)
 #define lower_reads_object(t, ...) lower_reads_object(HERE(t), __VA_ARGS__)
 #define expect_reads_text(t, ...) expect_reads_text(HERE(t), __VA_ARGS__)
+#define expect_reads_on(t, ...) expect_reads_on(HERE(t), __VA_ARGS__)
 #define expect_command_ignored(t, ...) expect_command_ignored(HERE(t), __VA_ARGS__)
 #define expect_read_refused(t, ...) expect_read_refused(HERE(t), __VA_ARGS__)
 #define expect_write_refused(t, ...) expect_write_refused(HERE(t), __VA_ARGS__)
@@ -107,6 +109,7 @@ unsigned show_wrong_things(struct tester *t, unsigned *seen);
 #define STOPPED_AT_0 "a Stop at position 0 sends no Track Position"
 #define UNMOVED_UNSENT "a write that leaves the position sends nothing"
 #define PAUSED_UNSENT "step 14 sends no Track Position for being paused"
+#define LENT_UNSENT "other titles that the office lends send nothing"
 /* "Segment moves and Move Relative keep the state." */
 #define SEEKING_GOES_ON "Seeking goes on after the move"
 /* "Order over the current group: 1, 2 the current track alone" */

@@ -1,4 +1,4 @@
-/* The catalogues that the cases run on, beside the sample. */
+/* The catalogues that the cases run on, beside the sample, and the titles of offices. */
 #include "tester.h"
 
 /* No two tracks have the same title or duration, so that every change of track changes both. Track 0 has segments of 30
@@ -67,6 +67,25 @@ static const track_line long_titles_tracks[] = {
      "Interview 18-11." "Interview 18-12." "Interview 18-13." "Interview 18-14."
      "Interview 18-15." "Interview 18-16." "Interview 18-17." "Interview 18-18.",
      0, {0}},
+};
+
+/* With characters of two octets, and longer than an answer at the least ATT_MTU. */
+const char *const SAMPLE_OFFICE[] = {"Frau Wei\xC3\x9F, 3. Mai: die \xC3\x9C" "berfahrt", NULL, NULL, NULL};
+
+/* Of the archive's group 1: track 0 is called as the card calls track 1, and the tracks 2 and 3 alike. The others keep the card's
+ * titles. */
+const char *const ARCHIVE_OFFICE[sizeof archive_tracks / sizeof archive_tracks[0]] = {
+    "Dictation 1",
+    NULL,
+    "K\xC3\xB6nig, 3 May",
+    "K\xC3\xB6nig, 3 May",
+};
+
+const char *const LONG_TITLES_OFFICE[] = {
+    "Z. Brandt 03-01." "Z. Brandt 03-02." "Z. Brandt 03-03." "Z. Brandt 03-04."
+    "Z. Brandt 03-05." "Z. Brandt 03-06." "Z. Brandt 03-07." "Z. Brandt 03-08.",
+    "Z. Brandt 04-11." "Z. Brandt 04-12." "Z. Brandt 04-13." "Z. Brandt 04-14."
+    "Z. Brandt 04-15." "Z. Brandt 04-16." "Z. Brandt 04-17." "Z. Brandt 04-18.",
 };
 
 const catalogue_lines ARCHIVE_LINES = LINES(archive);

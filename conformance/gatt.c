@@ -103,19 +103,28 @@ static void track_changed(struct tester *t)
     expect_silence(t);
 }
 
-/* 3.5: Read, Notify; length left out */
+/* 3.5: Read, Notify; length left out. With the card's titles, and with those of an office that renames track 0 (document 02,
+ * W-210) */
 static void track_title(struct tester *t)
 {
-    preamble(t, &SAMPLE_LINES);
-    expect_reads_text(t, MCS_TITLE, "");
-    active(t);
-    properties(t, MCS_TITLE, READ | NOTIFY);
-    expect_reads_text(t, MCS_TITLE, SAMPLE_LINES.tracks[0].title);
-    upper_activates(t, 3);
-    expect_notified_text(t, MCS_TITLE, SAMPLE_LINES.tracks[3].title);
-    lower_unsubscribes(t, CCCD(MCS_TITLE));
-    upper_activates(t, 1);
-    expect_silence(t);
+    static const char *const *const offices[] = {NULL, SAMPLE_OFFICE};
+
+    for (size_t k = 0; k < sizeof offices / sizeof offices[0]; k++) {
+        preamble(t, &SAMPLE_LINES);
+        upper_lends(t, offices[k]);
+        expect_reads_text(t, MCS_TITLE, "");
+        active(t);
+        upper_lends(t, offices[k]);
+        properties(t, MCS_TITLE, READ | NOTIFY);
+        expect_reads_text(t, MCS_TITLE, title_of(t, 0));
+        upper_activates(t, 3);
+        expect_notified_text(t, MCS_TITLE, title_of(t, 3));
+        upper_activates(t, 1);
+        expect_notified_text(t, MCS_TITLE, title_of(t, 0));
+        lower_unsubscribes(t, CCCD(MCS_TITLE));
+        upper_activates(t, 3);
+        expect_silence(t);
+    }
 }
 
 /* 3.6: Read, Notify; length 4 */

@@ -23,6 +23,7 @@ unsigned show_wrong_things(struct tester *t, unsigned *seen)
     const struct setting beyond_the_end = {3, 1, 0, 6001, MCS_PAUSED}, in_another_group = {3, 1, 3, 0, MCS_PAUSED};
     static const uint32_t groups[] = {1, 2, 3}, tracks[] = {0, 1, 2}; /* that the sample's group 0 lists, and that group 1 does */
     const char *title = LONG_TITLES_LINES.tracks[0].title;
+    static const char *const cut_inside_a_character[] = {"Wei\xC3", NULL, NULL, NULL};
     struct group_object group;
     struct segments_object segments;
     unsigned shown = 0;
@@ -57,6 +58,8 @@ unsigned show_wrong_things(struct tester *t, unsigned *seen)
     WRONG(lower_connects(t));
     third_connects_unencrypted(t);
     WRONG(third_connects_unencrypted(t));
+    WRONG(upper_lends(t, cut_inside_a_character));
+    upper_lends(t, NULL);
     WRONG(upper_orders(t, beyond_the_end));
     WRONG(upper_orders(t, in_another_group));
     lower_drops_bearer(t);
@@ -73,6 +76,10 @@ unsigned show_wrong_things(struct tester *t, unsigned *seen)
     WRONG(expect_reads_text(t, MCS_NAME, "Desk"));
     WRONG(expect_reads_text(t, MCS_NAME, "Desk 44"));
     WRONG(expect_reads_text(t, MCS_CONTROL_POINT, ""));
+    upper_lends(t, SAMPLE_OFFICE);
+    WRONG(expect_reads_text(t, MCS_TITLE, SAMPLE_LINES.tracks[0].title));
+    WRONG(expect_reads_on(t, MCS_TITLE, 1, SAMPLE_LINES.tracks[0].title));
+    upper_lends(t, NULL);
     WRONG(expect_read_refused(t, LOWER(t), MCS_POSITION, 0, MCS_NOT_READABLE));
     WRONG(expect_read_refused(t, LOWER(t), MCS_CONTROL_POINT, 0, MCS_NOT_ENCRYPTED));
     WRONG(expect_write_refused(t, LOWER(t), MCS_PLAYING_ORDER, order_9, 1, MCS_BAD_LENGTH));

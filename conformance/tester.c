@@ -193,6 +193,37 @@ static void begin_others(struct tester *t)
     keep_others(t);
 }
 
+/* Titles become what is lent: the parts of the office's text follow each other. */
+static void lend(struct tester *t, const char *const *titles)
+{
+    tables *made = &t->made;
+    rename_nothing(made);
+    for (uint32_t track = 0; titles != NULL && track < t->lines->track_count; track++) {
+        if (titles[track] != NULL) {
+            uint32_t *entry = made->renames + MCS_RENAME_WORDS * track;
+            entry[RENAME_OFFSET] = made->length[OFFICE];
+            entry[RENAME_LENGTH] = (uint32_t)strlen(titles[track]);
+            memcpy(made->office + entry[RENAME_OFFSET], titles[track], entry[RENAME_LENGTH]);
+            made->length[OFFICE] += entry[RENAME_LENGTH];
+        }
+    }
+    t->titles = titles;
+    t->desk.titles = lent_titles(made);
+}
+
+/* It is no call of the core: what comes is what the takes hand out that follow. */
+void upper_lends(struct tester *t, const char *const *titles)
+{
+    nothing_else_came(t);
+    lend(t, titles);
+    receive(t);
+}
+
+const char *title_of(const struct tester *t, uint32_t track)
+{
+    return t->titles != NULL && t->titles[track] != NULL ? t->titles[track] : t->lines->tracks[track].title;
+}
+
 void preamble_with(struct tester *t, const catalogue_lines *lines, uint32_t mask, uint32_t mtu)
 {
     if (t->lines != lines) {
@@ -200,6 +231,7 @@ void preamble_with(struct tester *t, const catalogue_lines *lines, uint32_t mask
         tables_of_lines(lines, &t->made);
         t->desk.catalogue = lent(&t->made);
     }
+    lend(t, NULL);
     t->mtu = mtu;
     memset(t->desk.state, 0xEE, sizeof t->desk.state); /* what the octets held before a start does not matter */
     STEP(t, "start", started(t, mask));
@@ -377,10 +409,10 @@ long long lower_reads_object(struct tester *t, uint32_t characteristic)
     return read && length == MCS_OBJECT_OCTETS ? (long long)mcs_object_at(octets) : NO_OBJECT;
 }
 
-void expect_reads_text(struct tester *t, uint32_t characteristic, const char *text)
+void expect_reads_on(struct tester *t, uint32_t characteristic, uint32_t offset, const char *text)
 {
     const uint32_t whole = (uint32_t)strlen(text), most = t->mtu - 1u;
-    uint32_t offset = 0, part;
+    uint32_t part;
 
     /* A client asks for parts until one is shorter than an answer may be. */
     do {
@@ -397,6 +429,11 @@ void expect_reads_text(struct tester *t, uint32_t characteristic, const char *te
         }
         offset += part;
     } while (part == most);
+}
+
+void expect_reads_text(struct tester *t, uint32_t characteristic, const char *text)
+{
+    expect_reads_on(t, characteristic, 0, text);
 }
 
 void lower_writes(struct tester *t, uint32_t characteristic, const uint8_t *octets, size_t length)
@@ -561,6 +598,7 @@ void expect_told(struct tester *t, uint32_t characteristic, long long before, lo
 struct setting expect_moved(struct tester *t, struct setting from, uint32_t group, uint32_t track)
 {
     const track_line *left = &t->lines->tracks[from.track], *reached = &t->lines->tracks[track];
+    const char *title = title_of(t, track);
     /* Document 01: "Track and group moves turn Seeking into Playing." 001, 3.18.1.12 to 21: the position becomes 0. */
     const struct setting to = {from.order, group, track, 0, from.state == MCS_SEEKING ? MCS_PLAYING : from.state};
 
@@ -571,8 +609,8 @@ struct setting expect_moved(struct tester *t, struct setting from, uint32_t grou
     if (to.state != from.state) {
         expect_notified(t, MCS_MEDIA_STATE, to.state);
     }
-    if (strcmp(left->title, reached->title) != 0) {
-        expect_notified_text(t, MCS_TITLE, reached->title);
+    if (strcmp(title_of(t, from.track), title) != 0) {
+        expect_notified_text(t, MCS_TITLE, title);
     }
     if (left->duration != reached->duration) {
         expect_notified(t, MCS_DURATION, reached->duration);
@@ -588,7 +626,7 @@ struct setting expect_moved(struct tester *t, struct setting from, uint32_t grou
     expect_silence(t);
 
     expect_reads(t, MCS_MEDIA_STATE, to.state);
-    expect_reads_text(t, MCS_TITLE, reached->title);
+    expect_reads_text(t, MCS_TITLE, title);
     expect_reads(t, MCS_DURATION, reached->duration);
     expect_reads(t, MCS_POSITION, 0);
     expect_objects_of(t, to);

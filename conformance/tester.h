@@ -2,8 +2,9 @@
  * 3.2 parts in two.
  *
  * The Lower Tester is one client of the core: it reads, writes and subscribes, and what the core's takes hand out are the
- * notifications that it receives. The Upper Tester is the desk's own side: it activates groups, lets time pass and renames the
- * player, and has a second client, the panel, which is subscribed to nothing, for what only a client can order.
+ * notifications that it receives. The Upper Tester is the desk's own side: it activates groups, lets time pass, renames the player
+ * and lends the office's titles, and has a second client, the panel, which is subscribed to nothing, for what only a client can
+ * order.
  *
  * After every step all that is owed is taken, as the header asks of a host. What arrived is kept until the next step, and what
  * no expectation has named by then fails the case; notifications of one step may come in any order (3.2). */
@@ -26,6 +27,11 @@
 extern const catalogue_lines ARCHIVE_LINES;     /* many groups, tracks and segments; no two titles or durations alike */
 extern const catalogue_lines TWINS_LINES;       /* the same groups and stamps, and neighbours whose titles or durations are alike */
 extern const catalogue_lines LONG_TITLES_LINES; /* two groups of one track, each title 128 octets */
+
+/* What an office calls their tracks, by number; NULL for one that keeps the card's title (document 02, W-210). */
+extern const char *const SAMPLE_OFFICE[];      /* renames track 0 alone */
+extern const char *const ARCHIVE_OFFICE[];     /* the titles of neighbours are alike in two texts, or in two parts of one */
+extern const char *const LONG_TITLES_OFFICE[]; /* of 128 octets too */
 
 /* ---- The tester ---------------------------------------------------------------------------------------------------------- */
 
@@ -64,6 +70,7 @@ struct tester {
     uint32_t cccds;          /* what its initial condition subscribes to */
 
     const catalogue_lines *lines; /* the catalogue that is lent */
+    const char *const *titles;    /* the office's titles that are; NULL where it renames nothing */
     tables made;
     struct mcs_desk desk;
     uint8_t before[MCS_STATE_OCTETS]; /* the state before a call that the core may refuse */
@@ -112,8 +119,8 @@ bool require(struct tester *t, bool holds, const char *format, ...);
 /* ---- The Upper Tester ---------------------------------------------------------------------------------------------------- */
 
 /* The preambles 4.2.1 to 4.2.5 and the initial condition's subscriptions: a core freshly started, the Lower Tester and the panel
- * connected, both encrypted. Handles are the numbers of the characteristics in the service that is tested, which has the mask;
- * bonding is the host's. */
+ * connected, both encrypted; no track is renamed. Handles are the numbers of the characteristics in the service that is tested,
+ * which has the mask; bonding is the host's. */
 void preamble(struct tester *t, const catalogue_lines *lines);
 void preamble_with(struct tester *t, const catalogue_lines *lines, uint32_t mask, uint32_t mtu);
 
@@ -127,6 +134,10 @@ struct setting {
 /* Puts the player there and confirms group, track, position, order and state. What is notified on the way is received and
  * forgotten. Inactive: it was there, Paused, and was then deactivated. */
 void upper_orders(struct tester *t, struct setting setting);
+
+/* The office's titles are lent from now on, or none (NULL); and what the title of a track then is. */
+void upper_lends(struct tester *t, const char *const *titles);
+const char *title_of(const struct tester *t, uint32_t track);
 
 void upper_activates(struct tester *t, uint32_t group);
 void upper_renames(struct tester *t, const char *name);
@@ -163,6 +174,8 @@ long long lower_reads_object(struct tester *t, uint32_t characteristic);
 /* GATT Read Long Characteristic Values from an offset of 0: every part has ATT_MTU - 1 octets, but for the last, which has the
  * rest of the text. */
 void expect_reads_text(struct tester *t, uint32_t characteristic, const char *text);
+/* The same from another offset on. */
+void expect_reads_on(struct tester *t, uint32_t characteristic, uint32_t offset, const char *text);
 
 /* GATT Write Characteristic Value, which is answered: the core takes it. */
 void lower_writes(struct tester *t, uint32_t characteristic, const uint8_t *octets, size_t length);

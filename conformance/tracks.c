@@ -5,15 +5,17 @@
 
 /* The tracks of group 1 in the orders 3 and 4, 5 and 6, 7 and 8, worked out by hand from the stamps: document 01, "3, 4 by
  * number; 5, 6 by rising stamp; 7, 8 by falling stamp; ties by lower number in all". Sample: 30, 10, 10. Archive and twins: 40,
- * 10, 30, 10. */
+ * 10, 30, 10. The archive is listed a second time with the titles of an office (document 02, W-210). */
 static const struct listing {
     const catalogue_lines *lines;
-    uint32_t count; /* TSPX_Number_Tracks */
+    const char *const *titles; /* the office's */
+    uint32_t count;            /* TSPX_Number_Tracks */
     uint32_t tracks[3][4];
 } listings[] = {
-    {&SAMPLE_LINES, 3, {{0, 1, 2}, {1, 2, 0}, {0, 1, 2}}},
-    {&ARCHIVE_LINES, 4, {{0, 1, 2, 3}, {1, 3, 2, 0}, {0, 2, 1, 3}}},
-    {&TWINS_LINES, 4, {{0, 1, 2, 3}, {1, 3, 2, 0}, {0, 2, 1, 3}}},
+    {&SAMPLE_LINES, NULL, 3, {{0, 1, 2}, {1, 2, 0}, {0, 1, 2}}},
+    {&ARCHIVE_LINES, NULL, 4, {{0, 1, 2, 3}, {1, 3, 2, 0}, {0, 2, 1, 3}}},
+    {&ARCHIVE_LINES, ARCHIVE_OFFICE, 4, {{0, 1, 2, 3}, {1, 3, 2, 0}, {0, 2, 1, 3}}},
+    {&TWINS_LINES, NULL, 4, {{0, 1, 2, 3}, {1, 3, 2, 0}, {0, 2, 1, 3}}},
 };
 #define END_OF_LISTINGS (listings + sizeof listings / sizeof listings[0])
 
@@ -48,6 +50,7 @@ static struct stand begin(struct tester *t, const struct listing *listing, uint8
                           .at = {order, GROUP, track, listing->lines->tracks[track].duration * halves / 2, t->initial},
                           .next = named == NO_OBJECT ? behind(listing, order, track) : named};
     preamble(t, listing->lines);
+    upper_lends(t, listing->titles);
     upper_orders(t, stand.at);
     if (named != NO_OBJECT) {
         t->forgets = true;

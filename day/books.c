@@ -24,7 +24,7 @@ static page pages[MCS_CLIENTS][MCS_SERVICES];
 typedef struct {
     uint32_t all, wrong;
 } tally;
-static tally calls, takes, agreements, folders, nexts;
+static tally calls, takes, agreements, titles, folders, nexts;
 
 static int count(tally *t, int right)
 {
@@ -91,7 +91,18 @@ const known_value *value_known(uint32_t who, uint32_t service, uint32_t characte
     return p->knows[characteristic] ? &p->known[characteristic] : NULL;
 }
 
+void book_lent(void)
+{
+    uint32_t who, service;
+    for (who = 0; who < MCS_CLIENTS; who++) {
+        for (service = 0; service < MCS_SERVICES; service++) {
+            pages[who][service].knows[MCS_TITLE] = 0;
+        }
+    }
+}
+
 int book_agreement(int agrees) { return count(&agreements, agrees); }
+int book_title(int right) { return count(&titles, right); }
 int book_folder(int right) { return count(&folders, right); }
 int book_next(int right) { return count(&nexts, right); }
 
@@ -142,7 +153,7 @@ int book_take(const uint32_t owed[MCS_CLIENTS], uint32_t who, uint32_t place, in
     return count(&takes, right && left_alone);
 }
 
-int book_call(int left_alone) { return count(&calls, left_alone); }
+int book_call(int right) { return count(&calls, right); }
 
 /* ---- At the end of the day */
 
@@ -196,9 +207,12 @@ int print_books(void)
         }
     }
     putchar('\n');
-    others = print_tally("calls to one player", &calls, "the other, and what it owed, was the same after each");
+    others = print_tally("calls to one player", &calls,
+                         "the other, and what it owed, was the same after each, and the title was owed where it changed");
     others += print_tally("takes", &takes, "each to the device and of the slot whose turn it was, through both players");
     others += print_tally("values compared when nothing was owed", &agreements, "each device agreed with the player it follows");
+    others += print_tally("titles told, read or asked for", &titles,
+                          "each the office's where it lent one for the track, else the card's; what was cut was refused");
     others += print_tally("folders drawn", &folders, "each with the folders and tracks that the catalogue has in it");
     others += print_tally("times Next Track", &nexts, "each led to the track that the next one's object number said, or nowhere");
     printf("%u presses, %u results: ", pressed, results);

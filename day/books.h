@@ -22,7 +22,8 @@ open_press oldest_press(uint32_t who, uint32_t service);
 /* A result of a player is handed to a device. Whether it is that of its oldest press there, which it then answers. */
 int book_result(uint32_t who, uint32_t service, uint8_t opcode);
 
-/* What a device knows of a slot of a player: what it was when the device subscribed, was told since, or has itself written. */
+/* What a device knows of a slot of a player: what it was when the device subscribed, was told since, or has itself read or
+ * written. */
 typedef struct {
     uint32_t length;
     uint8_t octets[MCS_OUTPUT_OCTETS];
@@ -31,6 +32,9 @@ void book_value(uint32_t who, uint32_t service, uint32_t characteristic, const u
 
 /* Null where it knows none. */
 const known_value *value_known(uint32_t who, uint32_t service, uint32_t characteristic);
+
+/* Other titles are lent, of which no device is told: what they knew of titles is of those that were lent before. */
+void book_lent(void);
 
 /* A device comes; and it goes, and of each player the desk held so many results for it. */
 void book_join(uint32_t who);
@@ -46,14 +50,18 @@ int book_take(const uint32_t owed[MCS_CLIENTS], uint32_t who, uint32_t place, in
 int book_folder(int right);
 int book_next(int right);
 
-/* A call to one player, and whether it left the other alone. A value that a device knows, and whether its player has that value.
+/* A call to one player, and whether it left the other alone and made the title owed where it changed it, and nowhere else. A value
+ * that a device knows, and whether its player has that value. A title that a device is told or reads, or that the desk is asked
+ * for, and whether it is that of the track, the office's or the card's; or a call with a wrong one, and whether it was refused.
  * Each hands back what it was told. */
-int book_call(int left_alone);
+int book_call(int right);
 int book_agreement(int agrees);
+int book_title(int right);
 
 /* Prints the books. Whether every result went to the device that pressed, at its player, in the order of its presses, and none is
- * missing; every take was in turn; every call left the other player alone; every device agreed with its players; every folder was
- * the catalogue's; and every Next Track led where it should. */
+ * missing; every take was in turn; every call left the other player alone, and made the title owed rightly; every device agreed
+ * with its players; every title was that of its track; every folder was the catalogue's; and every Next Track led where it
+ * should. */
 int print_books(void);
 
 #endif

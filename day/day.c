@@ -1,6 +1,7 @@
 /* An office's day on a card: four devices on one desk with two players, the generic one and a named one, over the same tables.
  * The pedals are at the generic player, the screen at the named one, and the headset at both. A person sees each result go to
- * the device that asked, a press at one player leave the other alone, and the screen draw the folders and name a track in them.
+ * the device that asked, a press at one player leave the other alone, the screen draw the folders and name a track in them, and
+ * the titles that the typists' office gives to tracks beside the card's.
  *
  *     day [CARD]      the card's file; without one, the sample card
  *
@@ -173,6 +174,37 @@ static void headset_and_screen(void)
     tell_all();
 }
 
+/* Titles by speaker and day, as typists write them. */
+#define RIGHT_TITLE "Zo\xC3\xAB Brandt, 3 May, first tape"
+#define INSIDE_A_CHARACTER 3u /* octets of it: "Zo", and the first of the two of the next character */
+
+static void own_titles(uint32_t group)
+{
+    listed_tracks listed = tracks_in(MCS_OBJECT_OF_GROUP(group));
+    uint32_t first = (uint32_t)(listed.first - MCS_OBJECT_OF_TRACK(0)), last = (uint32_t)(listed.last - MCS_OBJECT_OF_TRACK(0));
+
+    print_heading("Eleven o'clock: the office lends its own titles for a folder's first and last track; others keep the card's");
+    lend_title(last, "Zo\xC3\xAB Brandt, 4 May: the ferry");
+    lend_title(first, "Zo\xC3\xAB Brandt, 3 May: how the bridge over the harbour was built");
+    show_title(NAMED);
+    press(HEADSET, NAMED, MCS_OPCODE_FIRST_TRACK);
+    tell_all();
+    show_title(NAMED);
+    read_part(HEADSET, NAMED, MCS_TITLE, 0);
+
+    print_heading("Other titles are lent between two calls: nothing is owed for that, and whoever reads is shown the new one");
+    lend_title(first, RIGHT_TITLE);
+    let_pass(NAMED, 100);
+    tell_all();
+    read_part(SCREEN, NAMED, MCS_TITLE, 0);
+
+    print_heading("A title is cut inside a character: calls are refused and alter nothing, until the office lends a right one");
+    lend_cut_title(NAMED, first, INSIDE_A_CHARACTER);
+    lend_title(first, RIGHT_TITLE);
+    show_title(NAMED);
+    let_pass(NAMED, 100);
+}
+
 static void noon(void)
 {
     static const uint8_t MANY[8] = {
@@ -309,6 +341,7 @@ int main(int count, char **words)
     folders(first, last, empty);
     second_pedal();
     headset_and_screen();
+    own_titles(first);
     noon();
     afternoon();
     evening();

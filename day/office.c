@@ -7,6 +7,7 @@
 #include "books.h"
 #include "lines.h"
 #include "tables.h"
+#include "titles.h"
 #include "values.h"
 #include "words.h"
 
@@ -30,6 +31,16 @@ uint32_t track_end(uint32_t service) { return is_active(service) ? end_of_track(
 static uint32_t waiting_of(uint32_t who, uint32_t service) { return word_at(account_at(who, service) + MCS_IN_WAITING); }
 static uint32_t owed_to(uint32_t who, uint32_t service) { return word_at(account_at(who, service) + MCS_IN_OWED); }
 
+/* The bit of a slot. */
+static uint32_t slot_of(uint32_t characteristic)
+{
+    uint32_t slot = 0;
+    while (slot_at(slot) != characteristic) {
+        slot++;
+    }
+    return slot;
+}
+
 static uint32_t values_owed(uint32_t who, uint32_t service)
 {
     uint32_t owed = owed_to(who, service), count = 0, slot;
@@ -37,40 +48,6 @@ static uint32_t values_owed(uint32_t who, uint32_t service)
         count += slot_at(slot) != MCS_CONTROL_POINT ? owed >> slot & 1u : 0;
     }
     return count;
-}
-
-/* Where a player stands. The title comes last, since it may be long. */
-void show_player(uint32_t service)
-{
-    const uint8_t *player = player_at(service);
-    begin_desk_line("player", service);
-    paint(BOLD);
-    printf("%-8s  ", mcs_media_state_words(player[MCS_IN_MEDIA_STATE]));
-    if (is_active(service)) {
-        printf("group %u  track %u  ", word_at(player + MCS_IN_GROUP), current_track(service));
-        print_time(word_at(player + MCS_IN_POSITION));
-        if (track_record(service)[DURATION] == MCS_RUNNING) {
-            printf(", still recording  ");
-        } else {
-            printf(" of ");
-            print_time(track_end(service));
-            printf("  ");
-        }
-    }
-    printf("%s  speed ", mcs_playing_order_words(player[MCS_IN_ORDER]));
-    print_value(MCS_PLAYBACK_SPEED, player + MCS_IN_SPEED, 1);
-    if (player[MCS_IN_SEEKING] != 0) {
-        printf("  seeking ");
-        print_value(MCS_SEEKING_SPEED, player + MCS_IN_SEEKING, 1);
-    }
-    if (named_track(service) != 0) {
-        printf("  track %u named as the next", named_track(service) - 1u);
-    }
-    if (is_active(service)) {
-        printf("  ");
-        print_value(MCS_TITLE, desk.catalogue.text + track_record(service)[TITLE], track_record(service)[TITLE_LENGTH]);
-    }
-    end_line();
 }
 
 /* So many of a thing, behind a mark. */
@@ -118,6 +95,28 @@ static void show_owed(void)
     }
 }
 
+static void print_reply(uint32_t number)
+{
+    if (number == MCS_OK) {
+        paint(FAINT);
+        printf("  accepted");
+    } else {
+        /* The numbers of ATT are written in hexadecimal, those of the desk in decimal. */
+        paint(RED);
+        printf(MCS_IS_ATT_ERROR(number) ? "  refused 0x%02X, %s" : "  refused %u, %s", number, mcs_refusal_words(number));
+    }
+}
+
+/* Behind what a line shows. */
+#define NOT_ITS_TITLE "not the title of the player's track"
+static void print_if_wrong(int right, const char *wrong)
+{
+    if (!right) {
+        paint(RED);
+        printf("  WRONG: %s", wrong);
+    }
+}
+
 /* ---- Calls */
 
 /* What no card can have refused: the day ends where it is. */
@@ -145,16 +144,101 @@ static int others_left_alone(uint32_t service)
     return same;
 }
 
+/* The title that a player has to have in a state; while Inactive it is the empty front of the card's text. */
+static struct mcs_title title_in(const uint8_t *state, uint32_t service)
+{
+    const uint8_t *player = state + MCS_AT_SERVICE(service);
+    struct mcs_title none = {desk.catalogue.text, 0, MCS_CARD_TEXT};
+    return player[MCS_IN_MEDIA_STATE] == MCS_INACTIVE ? none : title_due(&desk.catalogue, word_at(player + MCS_IN_TRACK));
+}
+
+/* Books octets that are handed out, and whether they are a player's title from an offset on, as many as an answer holds. */
+static int right_title(uint32_t service, uint32_t offset, const uint8_t *octets, uint32_t length, uint32_t most)
+{
+    struct mcs_title due = title_in(desk.state, service);
+    size_t rest = due.length - offset;
+    return book_title(offset <= due.length && length == (rest < most ? rest : most) &&
+                      memcmp(octets, due.octets + offset, length) == 0);
+}
+
+/* Whether a device that subscribed to a player's title is owed it where it was before the call, or the call changed the title, and
+ * nowhere else. Both titles are read with what the call was lent: that it was lent others than the call before is no change. */
+static int title_owed_rightly(uint32_t service)
+{
+    struct mcs_title was = title_in(before, service), is = title_in(desk.state, service);
+    int changed = was.length != is.length || memcmp(was.octets, is.octets, is.length) != 0, right = 1;
+    uint32_t who, bit = 1u << slot_of(MCS_TITLE);
+    for (who = 0; who < MCS_CLIENTS; who++) {
+        const uint8_t *account = account_at(who, service), *earlier = before + (account - desk.state);
+        int owed = (word_at(account + MCS_IN_OWED) & bit) != 0, owed_before = (word_at(earlier + MCS_IN_OWED) & bit) != 0;
+        int subscribed = (word_at(account + MCS_IN_SUBSCRIBED) & bit) != 0;
+        right = right && owed == (subscribed && (owed_before || changed));
+    }
+    return right;
+}
+
 /* A call to one player. */
 #define AT_PLAYER(service, call) (keep_state(), called(service, call))
 static uint32_t called(uint32_t service, uint32_t number)
 {
-    if (!book_call(others_left_alone(service))) {
+    int left_alone = others_left_alone(service), owed_rightly = title_owed_rightly(service);
+    if (!book_call(left_alone && owed_rightly)) {
         begin_desk_line("WRONG", service);
-        printf("the other player was altered");
+        printf("%s", left_alone ? "the title is owed otherwise than the call changed it" : "the other player was altered");
         end_line();
     }
     return number;
+}
+
+/* ---- Where a player stands */
+
+/* Asks for the title where it stands: it has to be the very octets of the text that it comes from. */
+static struct mcs_title ask_title(uint32_t service)
+{
+    struct mcs_title title, due = title_in(desk.state, service);
+    must(mcs_desk_title(&desk, service, &title), "title");
+    if (!book_title(title.octets == due.octets && title.length == due.length && title.text == due.text)) {
+        begin_desk_line("WRONG", service);
+        printf("the title is not that of the track, or stands elsewhere");
+        end_line();
+    }
+    return title;
+}
+
+/* The title comes last, since it may be long. */
+void show_player(uint32_t service)
+{
+    const uint8_t *player = player_at(service);
+    struct mcs_title title = ask_title(service);
+    begin_desk_line("player", service);
+    paint(BOLD);
+    printf("%-8s  ", mcs_media_state_words(player[MCS_IN_MEDIA_STATE]));
+    if (is_active(service)) {
+        printf("group %u  track %u  ", word_at(player + MCS_IN_GROUP), current_track(service));
+        print_time(word_at(player + MCS_IN_POSITION));
+        if (track_record(service)[DURATION] == MCS_RUNNING) {
+            printf(", still recording  ");
+        } else {
+            printf(" of ");
+            print_time(track_end(service));
+            printf("  ");
+        }
+    }
+    printf("%s  speed ", mcs_playing_order_words(player[MCS_IN_ORDER]));
+    print_value(MCS_PLAYBACK_SPEED, player + MCS_IN_SPEED, 1);
+    if (player[MCS_IN_SEEKING] != 0) {
+        printf("  seeking ");
+        print_value(MCS_SEEKING_SPEED, player + MCS_IN_SEEKING, 1);
+    }
+    if (named_track(service) != 0) {
+        printf("  track %u named as the next", named_track(service) - 1u);
+    }
+    if (is_active(service)) {
+        printf("  ");
+        print_value(MCS_TITLE, title.octets, title.length);
+        printf("%s", title.text == MCS_OFFICE_TEXT ? ", the office's" : "");
+    }
+    end_line();
 }
 
 /* ---- The desk */
@@ -170,6 +254,7 @@ uint32_t open_office(const struct mcs_catalogue *c, struct mcs_place *place)
         players[service].ccid = PLAYERS[service].content_control_id;
     }
     desk.catalogue = *c;
+    desk.titles = office_titles(c);
     number = mcs_desk_start(&desk, players);
     *place = desk.place;
     return number;
@@ -202,6 +287,7 @@ void introduce(void)
            "press, write, read: what the device does. take: what the desk hands to it.\n"
            "'#3 Play: Success' is the result of that device's own third press at that player.\n"
            "draw: what the device shows of the objects that it asked for; tracks are numbered from 0x1000 on, groups from 0x2000.\n"
+           "lend: a title of the office's own for a track, beside the card's, of which no device is told.\n"
            "The takes go round the devices, and within a device on from its last, through generic and then named.\n");
 }
 
@@ -241,6 +327,60 @@ void rename_player(uint32_t service, const char *name)
     end_line();
 }
 
+/* ---- The typists' own titles */
+
+/* Lends the titles as the office has them now, and shows that of a track. */
+static void lend_titles(uint32_t track)
+{
+    struct mcs_title title = title_due(&desk.catalogue, track);
+    desk.titles = office_titles(&desk.catalogue);
+    book_lent();
+    begin_desk_line("lend", NO_PLAYER);
+    printf("track %u: ", track);
+    print_value(MCS_TITLE, title.octets, title.length);
+    end_line();
+}
+
+void lend_title(uint32_t track, const char *title)
+{
+    give_title(track, title);
+    lend_titles(track);
+}
+
+void show_title(uint32_t service)
+{
+    struct mcs_title title = ask_title(service);
+    int own = title.text == MCS_OFFICE_TEXT;
+    begin_desk_line("title", service);
+    printf("%u octets of the %s text, from %u on: ", (uint32_t)title.length, own ? "office's" : "card's",
+           (uint32_t)(title.octets - (own ? desk.titles.office : desk.catalogue.text)));
+    print_value(MCS_TITLE, title.octets, title.length);
+    end_line();
+}
+
+/* A call with wrong titles, and whether what it handed back is right. */
+static void show_refused(const char *what, uint32_t service, uint32_t number, int right)
+{
+    int unaltered = memcmp(before, desk.state, sizeof before) == 0;
+    begin_desk_line(what, service);
+    print_reply(number);
+    print_if_wrong(book_title(number == MCS_BAD_RENAMES && unaltered && right), "it has to be refused and to alter nothing");
+    end_line();
+}
+
+void lend_cut_title(uint32_t service, uint32_t track, uint32_t octets)
+{
+    struct mcs_title title;
+    uint32_t number;
+    cut_title(track, octets);
+    lend_titles(track);
+    keep_state();
+    number = mcs_desk_title(&desk, service, &title);
+    show_refused("title", service, number,
+                 title.octets == desk.catalogue.text && title.length == 0 && title.text == MCS_CARD_TEXT);
+    show_refused("time", service, AT_PLAYER(service, mcs_desk_advance(&desk, service, 100)), 1);
+}
+
 const struct mcs_catalogue *the_catalogue(void) { return &desk.catalogue; }
 
 uint32_t hand_out(uint64_t folder, uint8_t octets[MCS_MOST_GROUP_OBJECT])
@@ -260,14 +400,21 @@ static int is_compared(uint32_t characteristic)
     return (properties_of(characteristic) & MCS_MAY_READ) != 0 && characteristic != MCS_POSITION;
 }
 
+/* As many octets of a value as a notification holds. */
+static uint32_t notified_of(uint32_t who, uint32_t length)
+{
+    uint32_t most = DEVICES[who].mtu - 3u;
+    return length < most ? length : most;
+}
+
 /* The present value, as far as a notification reaches. A copy of the desk is asked, since the desk itself would note that the
  * device has read it. */
 static uint32_t value_now(uint32_t who, uint32_t service, uint32_t characteristic, uint8_t out[MCS_OUTPUT_OCTETS])
 {
     struct mcs_desk asked = desk;
-    uint32_t length = 0, most = DEVICES[who].mtu - 3u;
+    uint32_t length = 0;
     must(mcs_desk_read(&asked, who, service, characteristic, 0, out, MCS_OUTPUT_OCTETS, &length), "read");
-    return length < most ? length : most;
+    return notified_of(who, length);
 }
 
 static uint64_t object_in(const uint8_t *octets, uint32_t length)
@@ -334,18 +481,6 @@ void leave(uint32_t who)
         }
     }
     end_line();
-}
-
-static void print_reply(uint32_t number)
-{
-    if (number == MCS_OK) {
-        paint(FAINT);
-        printf("  accepted");
-    } else {
-        /* The numbers of ATT are written in hexadecimal, those of the desk in decimal. */
-        paint(RED);
-        printf(MCS_IS_ATT_ERROR(number) ? "  refused 0x%02X, %s" : "  refused %u, %s", number, mcs_refusal_words(number));
-    }
 }
 
 /* Whether a Next Track has led where the object numbers before it said, and used up a name. */
@@ -436,10 +571,16 @@ static uint32_t read_at(uint32_t who, uint32_t service, uint32_t characteristic,
     if (number == MCS_OK) {
         printf(": ");
         print_value(characteristic, out, length);
+        if (characteristic == MCS_TITLE) {
+            print_if_wrong(right_title(service, offset, out, length, DEVICES[who].mtu - 1u), NOT_ITS_TITLE);
+        }
     } else {
         print_reply(number);
     }
     end_line();
+    if (number == MCS_OK && offset == 0 && wants(who, service, characteristic)) {
+        book_value(who, service, characteristic, out, notified_of(who, length));
+    }
     return number == MCS_OK ? length : NOT_READ;
 }
 
@@ -504,21 +645,11 @@ static void show_take(uint32_t take, const struct mcs_served *served, const uint
         print_with_words(served->characteristic, value, served->length);
         book_value(served->client, served->service, served->characteristic, value, served->length);
     }
-    if (!right) {
-        paint(RED);
-        printf("  WRONG: out of turn, or the other player was altered");
+    if (served->characteristic == MCS_TITLE) {
+        print_if_wrong(right_title(served->service, 0, value, served->length, DEVICES[served->client].mtu - 3u), NOT_ITS_TITLE);
     }
+    print_if_wrong(right, "out of turn, or the other player was altered");
     end_line();
-}
-
-/* The place of a slot in the round of a client. */
-static uint32_t place_of(uint32_t service, uint32_t characteristic)
-{
-    uint32_t slot = 0;
-    while (slot_at(slot) != characteristic) {
-        slot++;
-    }
-    return SLOTS * service + slot;
 }
 
 /* What is owed to each device, as places of its round. */
@@ -581,7 +712,7 @@ void tell_all(void)
             break;
         }
         take += 1u;
-        place = place_of(served.service, served.characteristic);
+        place = SLOTS * served.service + slot_of(served.characteristic);
         show_take(take, &served, out, book_take(owed, served.client, place, others_left_alone(served.service)));
     }
     compare_all(0);

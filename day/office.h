@@ -17,8 +17,14 @@ void let_pass(uint32_t service, uint32_t hundredths);
 void rename_player(uint32_t service, const char *name);
 uint32_t track_end(uint32_t service); /* 0 where there is no track */
 
-/* Where a player stands, when it is not it that was called. */
+/* Where a player stands, when it is not it that was called; and where its title does, and in which text. */
 void show_player(uint32_t service);
+void show_title(uint32_t service);
+
+/* The office lends a title of its own for a track from now on, and no device is told. Or it lends that title cut behind so many
+ * octets, inside a character: what is asked of a player is then refused, until it lends a right one. */
+void lend_title(uint32_t track, const char *title);
+void lend_cut_title(uint32_t service, uint32_t track, uint32_t octets);
 
 /* The catalogue that the desk is lent; and the octets of a group's object, which the desk sends to a device that asks for it by its
  * number: how many there are. */

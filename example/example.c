@@ -1,7 +1,7 @@
 /* The smallest use of the library: one group, one track, one pedal that presses Play on the generic player and is told so, while
- * the named player, over the same track, stays as it is; and the group as the object that a screen draws. It includes mcs_desk.h and
- * nothing else, and is C as well as C++; its exit status is 0, or the number of the first step that did not give what documents 01
- * and 02 say. */
+ * the named player, over the same track, stays as it is; the group as the object that a screen draws; and a title of the office's own.
+ * It includes mcs_desk.h and nothing else, and is C as well as C++; its exit status is 0, or the number of the first step that did
+ * not give what documents 01 and 02 say. */
 #include "mcs_desk.h"
 
 /* One group, with one track of ten seconds without segments, whose title is the whole text. */
@@ -12,11 +12,15 @@ static const uint8_t generic_name[] = {'D', 'e', 's', 'k'};
 static const uint8_t named_name[] = {'D', 'e', 's', 'k', ' ', '4'};
 static const uint8_t bad_name[] = {'D', 'e', 's', 'k', 0xC3};
 
+/* What the office calls the track: the last six octets of its text. */
+static const uint32_t renames[] = {2, 6};
+static const uint8_t office[] = {'1', '.', 'B', 'a', 'k', 'e', 'r', 'y'};
+
 /* The two players, in the order of their services: MCS_GENERIC, MCS_NAMED. Each has a Content Control ID of its own. */
 static const struct mcs_player players[MCS_SERVICES] = {{generic_name, sizeof generic_name, MCS_ALL_OPCODES, 5},
                                                         {named_name, sizeof named_name, MCS_ALL_OPCODES, 6}};
 
-static struct mcs_desk desk = {{groups, 3, tracks, 6, NULL, 0, text, sizeof text}, {0}, {0, 0}};
+static struct mcs_desk desk = {{groups, 3, tracks, 6, NULL, 0, text, sizeof text}, {NULL, 0, NULL, 0}, {0}, {0, 0}};
 
 int main(void)
 {
@@ -25,9 +29,13 @@ int main(void)
     uint8_t out[MCS_OUTPUT_OCTETS];
     uint32_t words[MCS_GROUP_ENTRY_WORDS];
     struct mcs_entries entries = {words, MCS_GROUP_ENTRY_WORDS, 0};
+    const struct mcs_titles renamed = {renames, MCS_RENAME_WORDS, office, sizeof office};
     struct mcs_served served;
+    struct mcs_title title;
     uint32_t length, number;
 
+    /* At first the office renames nothing. */
+    desk.titles = mcs_no_renames(&desk.catalogue);
     if (mcs_desk_start(&desk, players) != MCS_OK)
         return 1;
     if (mcs_desk_activate(&desk, MCS_GENERIC, 0) != MCS_OK)
@@ -91,5 +99,25 @@ int main(void)
         return 20;
     if (mcs_desk_segments_object(&desk, 0, out, sizeof out, &length) != MCS_NOT_ALLOWED)
         return 21;
+
+    /* The title of the track is the card's, and stands where the card's text is. */
+    if (mcs_desk_title(&desk, MCS_GENERIC, &title) != MCS_OK || title.text != MCS_CARD_TEXT || title.octets != text ||
+        title.length != sizeof text)
+        return 22;
+    if (mcs_desk_subscribe(&desk, pedal, MCS_GENERIC, MCS_TITLE) != MCS_OK)
+        return 23;
+    /* Then the office renames it; the card stays as it is. The pedal reads the new title. It is owed nothing for it, though it is
+     * subscribed, since no call has changed anything. The named player is Inactive, and has an empty title. */
+    desk.titles = renamed;
+    if (mcs_desk_title(&desk, MCS_GENERIC, &title) != MCS_OK || title.text != MCS_OFFICE_TEXT || title.octets != office + 2 ||
+        title.length != 6)
+        return 24;
+    if (mcs_desk_take(&desk, out, sizeof out, &served) != MCS_OK || served.characteristic != MCS_NOTHING)
+        return 25;
+    if (mcs_desk_read(&desk, pedal, MCS_GENERIC, MCS_TITLE, 0, out, sizeof out, &length) != MCS_OK || length != 6 ||
+        out[0] != 'B' || out[5] != 'y')
+        return 26;
+    if (mcs_desk_title(&desk, MCS_NAMED, &title) != MCS_OK || title.text != MCS_CARD_TEXT || title.length != 0)
+        return 27;
     return 0;
 }

@@ -14,6 +14,7 @@ const char *const CALL_NAME[CALLS] = {
     [READ] = "read",
     [WRITE] = "write",
     [TAKE] = "take",
+    [TITLE] = "title",
     [CARD_LOAD] = "card load",
     [CUE_SHEET] = "cue sheet",
     [CARD_WRITE] = "card write",

@@ -1,4 +1,4 @@
-/* The nineteen calls, with everything that is lent to them: what any program that has the same calls is asked to do. */
+/* The twenty calls, with everything that is lent to them: what any program that has the same calls is asked to do. */
 #ifndef CALLS_H
 #define CALLS_H
 
@@ -17,6 +17,7 @@ enum {
     READ,
     WRITE,
     TAKE,
+    TITLE,
     CARD_LOAD,
     CUE_SHEET,
     CARD_WRITE,
@@ -32,6 +33,9 @@ extern const char *const CALL_NAME[CALLS];
 /* The words that say what a take served. */
 enum { SERVED_CLIENT, SERVED_SERVICE, SERVED_CHARACTERISTIC, SERVED_LENGTH, SERVED_WORDS };
 
+/* The words that say where a title stands. */
+enum { PART_TEXT, PART_OFFSET, PART_LENGTH };
+
 typedef struct {
     uint32_t kind;
     uint32_t who;     /* client */
@@ -39,6 +43,7 @@ typedef struct {
     uint32_t what;    /* characteristic; of connect whether encrypted */
     uint32_t number;  /* group, hundredths, ATT_MTU, offset; of an object write the group or the track */
     struct mcs_catalogue catalogue;
+    struct mcs_titles titles;                /* the office's; lent to whoever is lent a state */
     struct mcs_player players[MCS_SERVICES]; /* of a start */
     const uint8_t *octets;                   /* new name or value, card, cue sheet, object */
     size_t length;
@@ -52,7 +57,7 @@ typedef struct {
     size_t written_len;
     uint32_t *word; /* the length of a read or an object write, the count of a cue sheet, the blocks of a card write */
     size_t *count;  /* of an object that is read */
-    uint32_t *served, *counts, *block, *line;
+    uint32_t *served, *part, *counts, *block, *line;
     uint32_t *track, *octet; /* where a text is wrong; of every call that is lent the catalogue */
 } call;
 
@@ -68,7 +73,7 @@ static inline int has_catalogue(uint32_t kind) { return has_state(kind) || kind 
 static inline int has_client(uint32_t kind) { return kind >= CONNECT && kind <= WRITE; }
 static inline int has_service(uint32_t kind)
 {
-    return (kind >= SET_NAME && kind <= ADVANCE) || (kind >= SUBSCRIBE && kind <= WRITE);
+    return (kind >= SET_NAME && kind <= ADVANCE) || (kind >= SUBSCRIBE && kind <= WRITE) || kind == TITLE;
 }
 
 /* Each makes the call and returns its number. */

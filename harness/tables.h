@@ -1,29 +1,39 @@
-/* The tables of a catalogue, with room for a little more than the limits allow. */
+/* The tables of a catalogue and the office's titles beside them, with room for a little more than the limits allow. */
 #ifndef TABLES_H
 #define TABLES_H
 
 #include "mcs_desk.h"
 
-enum { GROUPS, TRACKS, SEGMENTS, TEXT, TABLES };
+/* The tables that a card holds; and behind them those of the office, its entries and its text. */
+enum { GROUPS, TRACKS, SEGMENTS, TEXT, TABLES, RENAMES = TABLES, OFFICE, LENT_TABLES };
 
 #define GROUPS_ROOM (MCS_GROUP_WORDS * (MCS_MOST_GROUPS + 4u))
 #define TRACKS_ROOM (MCS_TRACK_WORDS * (MCS_MOST_TRACKS + 4u))
 #define SEGMENTS_ROOM (MCS_MOST_SEGMENTS + 8u)
 #define TEXT_ROOM (MCS_MOST_TEXT + 64u)
+#define RENAMES_ROOM (MCS_RENAME_WORDS * (MCS_MOST_TRACKS + 4u))
+#define OFFICE_ROOM (MCS_MOST_TEXT + 64u) /* the office's text has no limit; so it holds the longest title for every track */
 
 /* Words of a record. */
 enum { PARENT, FIRST_TRACK, TRACK_COUNT };
-enum { DURATION, STAMP, FIRST_SEGMENT, SEGMENT_COUNT, TITLE, TITLE_LENGTH };
+enum { DURATION, STAMP, FIRST_SEGMENT, SEGMENT_COUNT, TITLE_OFFSET, TITLE_LENGTH };
+enum { RENAME_OFFSET, RENAME_LENGTH };
 
 typedef struct {
     uint32_t groups[GROUPS_ROOM], tracks[TRACKS_ROOM], segments[SEGMENTS_ROOM];
     uint8_t text[TEXT_ROOM];
-    uint32_t length[TABLES]; /* as lent: in words, of the text in octets */
+    uint32_t renames[RENAMES_ROOM];
+    uint8_t office[OFFICE_ROOM];
+    uint32_t length[LENT_TABLES]; /* as lent: in words, of the texts in octets */
 } tables;
 
 /* The tables as a call is lent them, and as a card is loaded into them: with their whole room. */
 struct mcs_catalogue lent(const tables *t);
+struct mcs_titles lent_titles(const tables *t);
 struct mcs_room whole_room(tables *t);
+
+/* The office has an entry of zeros for each track, and an empty text. */
+void rename_nothing(tables *t);
 
 /* The table's octets and their room in entries, its words or octets. */
 const void *table_octets(const tables *t, uint32_t table);
@@ -32,7 +42,7 @@ uint32_t entry_octets(uint32_t table);
 uint32_t table_entry(const tables *t, uint32_t table, uint32_t at);
 void set_table_entry(tables *t, uint32_t table, uint32_t at, uint32_t to);
 
-/* Words of a table's record; of the text 1, an octet. */
+/* Words of a table's record; of a text 1, an octet. */
 uint32_t record_entries(uint32_t table);
 
 /* Whole records. */
@@ -40,6 +50,7 @@ uint32_t group_count(const tables *t);
 uint32_t track_count(const tables *t);
 uint32_t group_word(const tables *t, uint32_t group, uint32_t word);
 uint32_t track_word(const tables *t, uint32_t track, uint32_t word);
+uint32_t rename_word(const tables *t, uint32_t track, uint32_t word);
 
 /* D of a track: its duration, or the most that there is where the recording is still running. */
 uint32_t end_of_track(uint32_t duration);
@@ -74,6 +85,7 @@ typedef struct {
             sizeof name##_tracks / sizeof name##_tracks[0]                                                                 \
     }
 
+/* The office renames nothing. */
 void tables_of_lines(const catalogue_lines *lines, tables *t);
 
 /* The sample catalogue of document 01, with titles that are chosen here. */

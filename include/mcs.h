@@ -1,8 +1,8 @@
-/* The Media Control Service core of a desk player: nineteen calls, proved (crates/mcs), for C and C++ on x86-64 and aarch64.
+/* The Media Control Service core of a desk player: twenty calls, proved (crates/mcs), for C and C++ on x86-64 and aarch64.
  *
  * Every call takes all octets, numbers, tables and states there are, checks them itself, and ends. It returns 0, or the number of
  * the first refusal that applies, in the order of the list below. A refusal alters nothing: state, tables, card, output, length,
- * served, counts, blocks, starts, words, positions and count hold what they held. The six of the list from MCS_BAD_CHECK to
+ * served, part, counts, blocks, starts, words, positions and count hold what they held. The six of the list from MCS_BAD_CHECK to
  * MCS_BAD_PADDING carry a block of the card, MCS_BAD_LINE and MCS_NOT_RISING a line of the cue sheet, MCS_BAD_CATALOGUE for a title
  * that is not UTF-8 a track and an octet, MCS_BAD_NAME an octet: each writes what it carries to the words that are lent for it. Every
  * other refusal, and every call that is accepted, leaves block, line, track and octet as they were.
@@ -10,10 +10,10 @@
  * What is the caller's to see to, as for any function of C:
  * - a pointer with a length points to that many octets or words (a length of 0: it is not followed, and may be null);
  *   words are aligned as uint32_t is; state points to MCS_STATE_OCTETS octets, length, block, blocks, line, track, octet and the
- *   count of a cue sheet to 1 word each, served and counts to 4, and the count of an object that is read to a size_t;
- * - what a call writes (state, output, length, served, track, octet, the tables, counts and block of a card load, the card and blocks
- *   of a card write, starts, count and line of a cue sheet, and words, positions and count of an object that is read) overlaps
- *   nothing else lent to it;
+ *   count of a cue sheet to 1 word each, part to 3, served and counts to 4, and the count of an object that is read to a size_t;
+ * - what a call writes (state, output, length, served, part, track, octet, the tables, counts and block of a card load, the card and
+ *   blocks of a card write, starts, count and line of a cue sheet, and words, positions and count of an object that is read)
+ *   overlaps nothing else lent to it;
  * - no other thread touches what is lent while the call runs. The library keeps nothing of its own and calls no function
  *   but its own and memcpy, memset, memmove.
  */
@@ -27,12 +27,12 @@
 extern "C" {
 #endif
 
-/* MCS_VERSION moves when a function of this file is added or changes its arguments or the numbers that it returns: it is 7 since
- * groups, tracks and segments have object numbers, so that there are five more characteristics, of which three may be written, and
- * four calls that write the objects and read them back.
+/* MCS_VERSION moves when a function of this file is added or changes its arguments or the numbers that it returns: it is 8 since
+ * an office may rename tracks, so that every call that is lent the catalogue and a state is lent the office's titles too, and one
+ * more call says where the title of a current track stands.
  * MCS_STATE_LAYOUT moves when the octets of a state change their number, place or meaning. A state's first octet says it
  * (MCS_STATE_MARK), so a stored state of another layout is refused, and not misread. */
-#define MCS_VERSION 7u
+#define MCS_VERSION 8u
 #define MCS_STATE_LAYOUT 3u
 
 /* ---- Numbers that a call returns ------------------------------------------------------------------------------------------ */
@@ -43,6 +43,10 @@ extern "C" {
  * lowest track with such a title, and *octet the offset, within the title, of the first octet that does not start a whole valid
  * character. Where anything else is wrong, a title over 128 octets or outside the text included, the two words stay as they were. */
 #define MCS_BAD_CATALOGUE 200u
+/* The office's titles are not one entry for each track; or an entry's length is over 128; or an entry's length is above 0, and its
+ * part is not inside the office's text or not UTF-8. It carries nothing: the words for track and octet are about the card's titles
+ * and the names alone. */
+#define MCS_BAD_RENAMES 224u
 /* The lent output of a read or a take is under MCS_OUTPUT_OCTETS octets. */
 #define MCS_SMALL_OUTPUT 205u
 /* The state breaks a rule for this catalogue, in either service or for any client; or it does not begin with MCS_STATE_MARK, or
@@ -143,6 +147,15 @@ extern "C" {
 #define MCS_MOST_SEGMENTS 1024u
 #define MCS_MOST_TEXT 32768u
 
+/* Words of an entry of the office's titles, of which there is one for each track: offset and length of the track's own title in the
+ * office's text. Length 0 says that the track is not renamed, and the offset may then be any. */
+#define MCS_RENAME_WORDS 2u
+
+/* Words of a part of one of the two texts: which text, offset in it, length. */
+#define MCS_PART_WORDS 3u
+#define MCS_CARD_TEXT 0u   /* the text of the catalogue */
+#define MCS_OFFICE_TEXT 1u /* the text of the office's titles */
+
 /* A duration is in hundredths of a second, at most MCS_MOST_DURATION; or MCS_RUNNING, which says that it is not yet known, since
  * the recording is still running. Its positions are then 0 to MCS_MOST_DURATION, the clock never ends the track, a negative write
  * of the position is accepted and moves nothing, and a Next Segment with no later start, or a Goto Segment that needs one, has
@@ -178,7 +191,7 @@ extern "C" {
 
 #define MCS_NAME 1u             /* Media Player Name: text; read, notify */
 #define MCS_TRACK_CHANGED 4u    /* empty; notify */
-#define MCS_TITLE 5u            /* Track Title: text; read, notify */
+#define MCS_TITLE 5u            /* Track Title: text, the office's where the track is renamed, else the card's; read, notify */
 #define MCS_DURATION 6u         /* Track Duration: 4 octets, -1 while it is not yet known and while Inactive; read, notify */
 #define MCS_POSITION 7u         /* Track Position: 4 octets; read, write, notify */
 #define MCS_PLAYBACK_SPEED 8u   /* 1 octet; read, write, notify */
@@ -295,11 +308,18 @@ extern "C" {
 
 /* ---- Calls ------------------------------------------------------------------------------------------------------------------
  * The catalogue is lent to every call but card load, cue sheet and the two that read an object: three tables of words and the
- * text, lengths in words and in octets. A state is lent to every call but these four, card write and the two that write an object.
+ * text, lengths in words and in octets. A state is lent to every call but these four, card write and the two that write an object;
+ * and whoever is lent a state is lent the office's titles.
  */
 #define MCS_CATALOGUE                                                                                                          \
     const uint32_t *groups, size_t groups_len, const uint32_t *tracks, size_t tracks_len, const uint32_t *segments,            \
         size_t segments_len, const uint8_t *text, size_t text_len
+
+/* The titles that the office gave to tracks, beside those of the card, which is not written again for them: MCS_RENAME_WORDS words for
+ * each track of the catalogue, and the text that they are parts of, of any length; outside the parts it need not be UTF-8. An office
+ * that renames nothing lends words that are all 0, and an empty text. A call reads the title before it and the title after it with
+ * what it is lent: where other titles are lent than to the call before, nothing is owed and no value counts as changed for that. */
+#define MCS_OFFICE_TITLES const uint32_t *renames, size_t renames_len, const uint8_t *office, size_t office_len
 
 /* Lent last to every call that is lent the catalogue: the two words for where a title or a name is wrong. */
 #define MCS_PLACE uint32_t *track, uint32_t *octet
@@ -352,50 +372,63 @@ uint32_t mcs_segments_object_read(const uint8_t *octets, size_t octets_len, uint
 
 /* Start: a state in which each service has this name, opcode mask and Content Control ID, and is Inactive, order 3, speed 0, and
  * no client is connected. What the state's octets held before does not matter. Service 0's name is wholly checked before service
- * 1's. Refusals: 200, 207. */
-uint32_t mcs_start(MCS_CATALOGUE, const uint8_t *name0, size_t name0_len, uint32_t mask0, uint8_t ccid0, const uint8_t *name1,
-                   size_t name1_len, uint32_t mask1, uint8_t ccid1, uint8_t state[MCS_STATE_OCTETS], MCS_PLACE);
+ * 1's. Refusals: 200, 224, 207. */
+uint32_t mcs_start(MCS_CATALOGUE, MCS_OFFICE_TITLES, const uint8_t *name0, size_t name0_len, uint32_t mask0, uint8_t ccid0,
+                   const uint8_t *name1, size_t name1_len, uint32_t mask1, uint8_t ccid1, uint8_t state[MCS_STATE_OCTETS],
+                   MCS_PLACE);
 
-/* Set name. Refusals: 200, 201, 219, 207. */
-uint32_t mcs_set_name(MCS_CATALOGUE, uint8_t state[MCS_STATE_OCTETS], uint32_t service, const uint8_t *name, size_t name_len,
+/* Set name. Refusals: 200, 224, 201, 219, 207. */
+uint32_t mcs_set_name(MCS_CATALOGUE, MCS_OFFICE_TITLES, uint8_t state[MCS_STATE_OCTETS], uint32_t service, const uint8_t *name,
+                      size_t name_len, MCS_PLACE);
+
+/* Activate a group: its first track in the playing order, position 0, Paused. Refusals: 200, 224, 201, 219, 208. */
+uint32_t mcs_activate(MCS_CATALOGUE, MCS_OFFICE_TITLES, uint8_t state[MCS_STATE_OCTETS], uint32_t service, uint32_t group,
                       MCS_PLACE);
 
-/* Activate a group: its first track in the playing order, position 0, Paused. Refusals: 200, 201, 219, 208. */
-uint32_t mcs_activate(MCS_CATALOGUE, uint8_t state[MCS_STATE_OCTETS], uint32_t service, uint32_t group, MCS_PLACE);
+/* Deactivate: no current track. Refusals: 200, 224, 201, 219. */
+uint32_t mcs_deactivate(MCS_CATALOGUE, MCS_OFFICE_TITLES, uint8_t state[MCS_STATE_OCTETS], uint32_t service, MCS_PLACE);
 
-/* Deactivate: no current track. Refusals: 200, 201, 219. */
-uint32_t mcs_deactivate(MCS_CATALOGUE, uint8_t state[MCS_STATE_OCTETS], uint32_t service, MCS_PLACE);
-
-/* Advance: d hundredths of a second pass for this service. Refusals: 200, 201, 219. */
-uint32_t mcs_advance(MCS_CATALOGUE, uint8_t state[MCS_STATE_OCTETS], uint32_t service, uint32_t d, MCS_PLACE);
-
-/* Connect, to both services; encrypted is 0 for no. Refusals: 200, 201, 202, 204, 206. */
-uint32_t mcs_connect(MCS_CATALOGUE, uint8_t state[MCS_STATE_OCTETS], uint32_t client, uint32_t mtu, uint8_t encrypted,
+/* Advance: d hundredths of a second pass for this service. Refusals: 200, 224, 201, 219. */
+uint32_t mcs_advance(MCS_CATALOGUE, MCS_OFFICE_TITLES, uint8_t state[MCS_STATE_OCTETS], uint32_t service, uint32_t d,
                      MCS_PLACE);
 
-/* Disconnect, from both services: the client's link and its account in each are start's again. Refusals: 200, 201, 202, 203. */
-uint32_t mcs_disconnect(MCS_CATALOGUE, uint8_t state[MCS_STATE_OCTETS], uint32_t client, MCS_PLACE);
+/* Connect, to both services; encrypted is 0 for no. Refusals: 200, 224, 201, 202, 204, 206. */
+uint32_t mcs_connect(MCS_CATALOGUE, MCS_OFFICE_TITLES, uint8_t state[MCS_STATE_OCTETS], uint32_t client, uint32_t mtu,
+                     uint8_t encrypted, MCS_PLACE);
+
+/* Disconnect, from both services: the client's link and its account in each are start's again.
+ * Refusals: 200, 224, 201, 202, 203. */
+uint32_t mcs_disconnect(MCS_CATALOGUE, MCS_OFFICE_TITLES, uint8_t state[MCS_STATE_OCTETS], uint32_t client, MCS_PLACE);
 
 /* Subscribe, unsubscribe: a client's Client Characteristic Configuration for notifications.
- * Refusals: 200, 201, 202, 219, 203, 0x01, 209, 0x0F. */
-uint32_t mcs_subscribe(MCS_CATALOGUE, uint8_t state[MCS_STATE_OCTETS], uint32_t client, uint32_t service, uint32_t characteristic,
-                       MCS_PLACE);
-uint32_t mcs_unsubscribe(MCS_CATALOGUE, uint8_t state[MCS_STATE_OCTETS], uint32_t client, uint32_t service,
+ * Refusals: 200, 224, 201, 202, 219, 203, 0x01, 209, 0x0F. */
+uint32_t mcs_subscribe(MCS_CATALOGUE, MCS_OFFICE_TITLES, uint8_t state[MCS_STATE_OCTETS], uint32_t client, uint32_t service,
+                       uint32_t characteristic, MCS_PLACE);
+uint32_t mcs_unsubscribe(MCS_CATALOGUE, MCS_OFFICE_TITLES, uint8_t state[MCS_STATE_OCTETS], uint32_t client, uint32_t service,
                          uint32_t characteristic, MCS_PLACE);
 
 /* Read at an offset: the value's octets from there on, at most ATT_MTU - 1, over the front of out; their number in *length. The
- * octets of out behind them stay. Refusals: 200, 205, 201, 202, 219, 203, 0x01, 0x02, 0x0F, 0x80, 0x07. */
-uint32_t mcs_read(MCS_CATALOGUE, uint8_t state[MCS_STATE_OCTETS], uint32_t client, uint32_t service, uint32_t characteristic,
-                  uint32_t offset, uint8_t *out, size_t out_len, uint32_t *length, MCS_PLACE);
+ * octets of out behind them stay. Refusals: 200, 224, 205, 201, 202, 219, 203, 0x01, 0x02, 0x0F, 0x80, 0x07. */
+uint32_t mcs_read(MCS_CATALOGUE, MCS_OFFICE_TITLES, uint8_t state[MCS_STATE_OCTETS], uint32_t client, uint32_t service,
+                  uint32_t characteristic, uint32_t offset, uint8_t *out, size_t out_len, uint32_t *length, MCS_PLACE);
 
 /* Write. A change of 8, 11, 12, 14 or 15 is not owed to the client that wrote that one; what else changes by the write is.
- * Refusals: 200, 201, 202, 219, 203, 0x01, 0x03, 0x0F, 0x0D, 0x13, 0x11. */
-uint32_t mcs_write(MCS_CATALOGUE, uint8_t state[MCS_STATE_OCTETS], uint32_t client, uint32_t service, uint32_t characteristic,
-                   const uint8_t *value, size_t value_len, MCS_PLACE);
+ * Refusals: 200, 224, 201, 202, 219, 203, 0x01, 0x03, 0x0F, 0x0D, 0x13, 0x11. */
+uint32_t mcs_write(MCS_CATALOGUE, MCS_OFFICE_TITLES, uint8_t state[MCS_STATE_OCTETS], uint32_t client, uint32_t service,
+                   uint32_t characteristic, const uint8_t *value, size_t value_len, MCS_PLACE);
 
 /* Take: the next notification, to be sent now. served is the client, the service, the characteristic and the number of octets
- * over the front of out; characteristic 0, with the other three 0, where nothing is owed to anyone. Refusals: 200, 205, 201. */
-uint32_t mcs_take(MCS_CATALOGUE, uint8_t state[MCS_STATE_OCTETS], uint8_t *out, size_t out_len, uint32_t served[4], MCS_PLACE);
+ * over the front of out; characteristic 0, with the other three 0, where nothing is owed to anyone.
+ * Refusals: 200, 224, 205, 201. */
+uint32_t mcs_take(MCS_CATALOGUE, MCS_OFFICE_TITLES, uint8_t state[MCS_STATE_OCTETS], uint8_t *out, size_t out_len,
+                  uint32_t served[4], MCS_PLACE);
+
+/* Title: where the title of the service's current track stands, of which no octet is copied. part is the text, the offset in it and
+ * the length. A track that is renamed has a part of the office's text; any other has its title in the card's text, also an empty
+ * one, which has an offset too; and while Inactive all three are 0, the empty front of the card's text. The state is not altered.
+ * Refusals: 200, 224, 201, 219. */
+uint32_t mcs_title(MCS_CATALOGUE, MCS_OFFICE_TITLES, const uint8_t state[MCS_STATE_OCTETS], uint32_t service,
+                   uint32_t part[MCS_PART_WORDS], MCS_PLACE);
 
 #ifdef __cplusplus
 }

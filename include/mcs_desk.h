@@ -6,6 +6,7 @@
  *     players[MCS_GENERIC] = ...;                  (name, opcodes and Content Control ID of each service's player)
  *     players[MCS_NAMED] = ...;
  *     desk.catalogue = ...;                        (the lent tables, or mcs_catalogue_load from a card)
+ *     desk.titles = mcs_no_renames(&desk.catalogue);  (or the titles of an office that renames tracks)
  *     mcs_desk_start(&desk, players);
  *
  * What a host has to know:
@@ -30,8 +31,8 @@
  *   client again.
  * - One thread at a time for a state. Different states have nothing in common.
  * - A number that is not MCS_OK says that nothing was altered. MCS_IS_ATT_ERROR tells which numbers are answers to the client,
- *   to be sent as the error code of an ATT Error Response; all others are faults of the host itself (a wrong catalogue, state,
- *   client or service number or buffer, a card or a cue sheet that is refused), and must not go on air.
+ *   to be sent as the error code of an ATT Error Response; all others are faults of the host itself (a wrong catalogue, wrong
+ *   titles, a wrong state, client or service number or buffer, a card or a cue sheet that is refused), and must not go on air.
  * - A card that is refused for one bad block need not be thrown away. Where mcs_names_block says so of the number, the host shows
  *   number, words and block to whoever brought the card: the octets from MCS_BLOCK_OCTETS times the block on are to be looked at,
  *   or written again. By MCS_NOT_FULL all blocks from there on are, since the records of the next ones move up. The blocks before it
@@ -40,6 +41,11 @@
  *   and the octet within its title that MCS_BAD_CATALOGUE carries, or the octet within the name that MCS_BAD_NAME carries, and
  *   MCS_NOWHERE for what the call did not carry. Of the two names of a start it is the first bad one, by the order of the
  *   services.
+ * - An office may give tracks titles of its own, and need not write the card again for that: desk.titles has an entry for each
+ *   track, an offset and a length in the office's text, and length 0 for a track that keeps the card's title. Where the catalogue is
+ *   exchanged, the entries are too. MCS_TITLE and mcs_desk_title show the office's titles from the next call on, but that the host
+ *   lends others is no change: nobody is owed the title for it, and a read above offset 0 goes on in the new one. A host that wants
+ *   the devices to be told exchanges the titles while a service is Inactive; its next track is then a change.
  * - The object numbers of the characteristics 10 to 14 are for an Object Transfer Service, which the host runs: it includes that in
  *   both services, and hands out an object where a client asks for one by its number. MCS_OBJECT_OF_GROUP and its like say whose a
  *   number is; mcs_desk_group_object and mcs_desk_segments_object give the octets of a Group and of a Track Segments object, and a
@@ -68,6 +74,7 @@ static inline int mcs_names_block(uint32_t number)
 /* ROW(number, words), in the order in which a call looks for them. */
 #define MCS_EACH_REFUSAL(ROW)                                                                                                  \
     ROW(MCS_BAD_CATALOGUE, "a rule of the catalogue fails")                                                                    \
+    ROW(MCS_BAD_RENAMES, "the office's titles are not one for each track, or one is too long, outside its text or not UTF-8")  \
     ROW(MCS_SMALL_OUTPUT, "the lent output has under 128 octets")                                                              \
     ROW(MCS_BAD_STATE, "the state breaks a rule")                                                                              \
     ROW(MCS_NO_CLIENT, "there is no such client")                                                                              \
@@ -222,6 +229,32 @@ struct mcs_catalogue {
     (catalogue).groups, (catalogue).groups_len, (catalogue).tracks, (catalogue).tracks_len, (catalogue).segments,              \
         (catalogue).segments_len, (catalogue).text, (catalogue).text_len
 
+/* The office's titles: an entry of MCS_RENAME_WORDS words for each track of the catalogue, the length in words, and the office's text,
+ * the length in octets. They may lie in flash too. */
+struct mcs_titles {
+    const uint32_t *renames;
+    size_t renames_len;
+    const uint8_t *office;
+    size_t office_len;
+};
+
+/* Titles as the calls of mcs.h take them, argument by argument. */
+#define MCS_TITLES(titles) (titles).renames, (titles).renames_len, (titles).office, (titles).office_len
+
+/* The titles of an office that renames nothing, for this catalogue: an entry of zeros for each of its tracks, and an empty text. A
+ * catalogue with more tracks than there may be has no such titles; the calls refuse it before they look at these. */
+static inline struct mcs_titles mcs_no_renames(const struct mcs_catalogue *catalogue)
+{
+    static const uint32_t zeros[MCS_RENAME_WORDS * MCS_MOST_TRACKS] = {0};
+    const size_t tracks = catalogue->tracks_len / MCS_TRACK_WORDS;
+    struct mcs_titles titles;
+    titles.renames = zeros;
+    titles.renames_len = MCS_RENAME_WORDS * (tracks < MCS_MOST_TRACKS ? tracks : MCS_MOST_TRACKS);
+    titles.office = NULL;
+    titles.office_len = 0;
+    return titles;
+}
+
 /* Where a text is wrong: of a bad title its track and the octet within it, of a bad name the octet within it and no track. No track
  * and no octet is MCS_NOWHERE. */
 #define MCS_NOWHERE 0xFFFFFFFFu
@@ -250,13 +283,17 @@ struct mcs_player {
 /* A player as mcs_start takes it, argument by argument. */
 #define MCS_STARTED(player) (player).name, (player).name_len, (player).mask, (player).ccid
 
-/* A desk: the catalogue that its calls are lent, its state, and what its last call carried. The state may be stored and restored by
- * its octets, of which the first says their layout; it is checked by every call. */
+/* A desk: the catalogue and the office's titles that its calls are lent, its state, and what its last call carried. The state may be
+ * stored and restored by its octets, of which the first says their layout; it is checked by every call. */
 struct mcs_desk {
     struct mcs_catalogue catalogue;
+    struct mcs_titles titles;
     uint8_t state[MCS_STATE_OCTETS];
     struct mcs_place place;
 };
+
+/* What a desk lends to the calls of mcs.h on its state, argument by argument. */
+#define MCS_LENT_BY(desk) MCS_LENT((desk)->catalogue), MCS_TITLES((desk)->titles)
 
 /* What a take served: to this client, of this service and this characteristic so many octets. */
 struct mcs_served {
@@ -265,6 +302,13 @@ struct mcs_served {
 
 /* The characteristic of a take by which nothing was owed to anyone. */
 #define MCS_NOTHING 0u
+
+/* A title where it stands: so many octets of the text that is told, MCS_CARD_TEXT or MCS_OFFICE_TEXT. */
+struct mcs_title {
+    const uint8_t *octets;
+    size_t length;
+    uint32_t text;
+};
 
 /* Tables that a card is loaded into, with their room in words, of the text in octets. */
 struct mcs_room {
@@ -366,77 +410,92 @@ static inline uint32_t mcs_cue_load(const uint8_t *sheet, size_t sheet_len, uint
     return mcs_cue_sheet(sheet, sheet_len, starts, starts_len, &cue->count, &cue->line);
 }
 
-/* Start, with the players in the order of their services. The desk's catalogue is there before it. */
+/* Start, with the players in the order of their services. The desk's catalogue and titles are there before it. */
 static inline uint32_t mcs_desk_start(struct mcs_desk *desk, const struct mcs_player players[MCS_SERVICES])
 {
-    return mcs_start(MCS_LENT(desk->catalogue), MCS_STARTED(players[MCS_GENERIC]), MCS_STARTED(players[MCS_NAMED]), desk->state,
+    return mcs_start(MCS_LENT_BY(desk), MCS_STARTED(players[MCS_GENERIC]), MCS_STARTED(players[MCS_NAMED]), desk->state,
                      MCS_CARRIED(&desk->place));
 }
 
 static inline uint32_t mcs_desk_set_name(struct mcs_desk *desk, uint32_t service, const uint8_t *name, size_t name_len)
 {
-    return mcs_set_name(MCS_LENT(desk->catalogue), desk->state, service, name, name_len, MCS_CARRIED(&desk->place));
+    return mcs_set_name(MCS_LENT_BY(desk), desk->state, service, name, name_len, MCS_CARRIED(&desk->place));
 }
 
 static inline uint32_t mcs_desk_activate(struct mcs_desk *desk, uint32_t service, uint32_t group)
 {
-    return mcs_activate(MCS_LENT(desk->catalogue), desk->state, service, group, MCS_CARRIED(&desk->place));
+    return mcs_activate(MCS_LENT_BY(desk), desk->state, service, group, MCS_CARRIED(&desk->place));
 }
 
 static inline uint32_t mcs_desk_deactivate(struct mcs_desk *desk, uint32_t service)
 {
-    return mcs_deactivate(MCS_LENT(desk->catalogue), desk->state, service, MCS_CARRIED(&desk->place));
+    return mcs_deactivate(MCS_LENT_BY(desk), desk->state, service, MCS_CARRIED(&desk->place));
 }
 
 static inline uint32_t mcs_desk_advance(struct mcs_desk *desk, uint32_t service, uint32_t hundredths)
 {
-    return mcs_advance(MCS_LENT(desk->catalogue), desk->state, service, hundredths, MCS_CARRIED(&desk->place));
+    return mcs_advance(MCS_LENT_BY(desk), desk->state, service, hundredths, MCS_CARRIED(&desk->place));
 }
 
 static inline uint32_t mcs_desk_connect(struct mcs_desk *desk, uint32_t client, uint32_t mtu, uint8_t encrypted)
 {
-    return mcs_connect(MCS_LENT(desk->catalogue), desk->state, client, mtu, encrypted, MCS_CARRIED(&desk->place));
+    return mcs_connect(MCS_LENT_BY(desk), desk->state, client, mtu, encrypted, MCS_CARRIED(&desk->place));
 }
 
 static inline uint32_t mcs_desk_disconnect(struct mcs_desk *desk, uint32_t client)
 {
-    return mcs_disconnect(MCS_LENT(desk->catalogue), desk->state, client, MCS_CARRIED(&desk->place));
+    return mcs_disconnect(MCS_LENT_BY(desk), desk->state, client, MCS_CARRIED(&desk->place));
 }
 
 static inline uint32_t mcs_desk_subscribe(struct mcs_desk *desk, uint32_t client, uint32_t service, uint32_t characteristic)
 {
-    return mcs_subscribe(MCS_LENT(desk->catalogue), desk->state, client, service, characteristic, MCS_CARRIED(&desk->place));
+    return mcs_subscribe(MCS_LENT_BY(desk), desk->state, client, service, characteristic, MCS_CARRIED(&desk->place));
 }
 
 static inline uint32_t mcs_desk_unsubscribe(struct mcs_desk *desk, uint32_t client, uint32_t service, uint32_t characteristic)
 {
-    return mcs_unsubscribe(MCS_LENT(desk->catalogue), desk->state, client, service, characteristic, MCS_CARRIED(&desk->place));
+    return mcs_unsubscribe(MCS_LENT_BY(desk), desk->state, client, service, characteristic, MCS_CARRIED(&desk->place));
 }
 
 static inline uint32_t mcs_desk_read(struct mcs_desk *desk, uint32_t client, uint32_t service, uint32_t characteristic,
                                      uint32_t offset, uint8_t *out, size_t out_len, uint32_t *length)
 {
-    return mcs_read(MCS_LENT(desk->catalogue), desk->state, client, service, characteristic, offset, out, out_len, length,
+    return mcs_read(MCS_LENT_BY(desk), desk->state, client, service, characteristic, offset, out, out_len, length,
                     MCS_CARRIED(&desk->place));
 }
 
 static inline uint32_t mcs_desk_write(struct mcs_desk *desk, uint32_t client, uint32_t service, uint32_t characteristic,
                                       const uint8_t *value, size_t value_len)
 {
-    return mcs_write(MCS_LENT(desk->catalogue), desk->state, client, service, characteristic, value, value_len,
+    return mcs_write(MCS_LENT_BY(desk), desk->state, client, service, characteristic, value, value_len,
                      MCS_CARRIED(&desk->place));
 }
 
 static inline uint32_t mcs_desk_take(struct mcs_desk *desk, uint8_t *out, size_t out_len, struct mcs_served *served)
 {
     uint32_t words[4] = {0, 0, 0, 0};
-    uint32_t number = mcs_take(MCS_LENT(desk->catalogue), desk->state, out, out_len, words, MCS_CARRIED(&desk->place));
+    uint32_t number = mcs_take(MCS_LENT_BY(desk), desk->state, out, out_len, words, MCS_CARRIED(&desk->place));
     if (number == MCS_OK) {
         served->client = words[0];
         served->service = words[1];
         served->characteristic = words[2];
         served->length = words[3];
     }
+    return number;
+}
+
+/* Where the title of a service's current track stands: a part of the office's text or of the card's, which stays where it is. Refused
+ * or while Inactive it is the empty front of the card's text. */
+static inline uint32_t mcs_desk_title(struct mcs_desk *desk, uint32_t service, struct mcs_title *title)
+{
+    uint32_t part[MCS_PART_WORDS] = {MCS_CARD_TEXT, 0, 0};
+    uint32_t number = mcs_title(MCS_LENT_BY(desk), desk->state, service, part, MCS_CARRIED(&desk->place));
+    title->octets = part[0] == MCS_OFFICE_TEXT ? desk->titles.office : desk->catalogue.text;
+    if (part[1] != 0) { /* an empty text may be a null pointer, to which nothing is added */
+        title->octets += part[1];
+    }
+    title->length = part[2];
+    title->text = part[0];
     return number;
 }
 

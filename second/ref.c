@@ -1,4 +1,4 @@
-/* The desk player core, written along document 01 and the requests of document 02 that have landed: W-201 to W-209, and W-212 for
+/* The desk player core, written along document 01 and the requests of document 02 that have landed: W-201 to W-210, and W-212 for
  * the cue sheet. A comment in quotation marks is a sentence of document 01; where a request is named, and in the cue sheet's
  * part, it is one of document 02. */
 #include "ref.h"
@@ -28,6 +28,7 @@ enum {
     SERVICE_OVER_1 = 219,
     ENTRIES_WRONG = 222,
     OBJECT_SMALL = 223,
+    TITLES_WRONG = 224,
     SHEET_LONG = 225,
     LINE_WRONG = 226,
     NOT_RISING = 227,
@@ -85,6 +86,9 @@ typedef struct {
     const uint32_t *groups, *tracks, *segments;
     const uint8_t *text;
     uint32_t group_count, track_count, segment_count, text_count;
+    /* W-210: the office's, which are lent to the calls on a state alone. */
+    const uint32_t *renames;
+    const uint8_t *office;
 } catalogue;
 
 /* "group = parent, first track, track count" */
@@ -99,6 +103,13 @@ static uint32_t track_first(const catalogue *c, uint32_t t) { return c->tracks[6
 static uint32_t track_segments(const catalogue *c, uint32_t t) { return c->tracks[6u * t + 3u]; }
 static uint32_t track_title(const catalogue *c, uint32_t t) { return c->tracks[6u * t + 4u]; }
 static uint32_t track_title_len(const catalogue *c, uint32_t t) { return c->tracks[6u * t + 5u]; }
+
+/* W-210: "with an offset and length per track, length 0 meaning not renamed" */
+static uint32_t rename_title(const catalogue *c, uint32_t t) { return c->renames[2u * t]; }
+static uint32_t rename_len(const catalogue *c, uint32_t t) { return c->renames[2u * t + 1u]; }
+
+/* The card's and the office's. */
+#define LONGEST_TITLE 128u
 
 #define LONGEST_DURATION 8640000u
 
@@ -231,7 +242,7 @@ static int catalogue_stands(const catalogue *c, REF_PLACE)
         if (track_title(c, t) > c->text_count || track_title_len(c, t) > c->text_count - track_title(c, t)) {
             return 0;
         }
-        if (track_title_len(c, t) > 128u) {
+        if (track_title_len(c, t) > LONGEST_TITLE) {
             return 0;
         }
         /* An empty title is UTF-8, and a text of no octets need have no address. */
@@ -273,6 +284,47 @@ static int lend(catalogue *c, REF_CATALOGUE, REF_PLACE)
 
 #define LEND(c)                                                                                                        \
     lend(&(c), groups, groups_len, tracks, tracks_len, segments, segments_len, text, text_len, bad_track, bad_offset)
+
+/* W-210: "224, not one entry per track, a length over 128, a part of length above 0 that is outside the text or not UTF-8". What the
+ * text holds outside the parts is not asked, nor the offset of a length of 0. */
+static int titles_stand(const catalogue *c, size_t renames_len, size_t office_len)
+{
+    uint32_t t;
+
+    if (renames_len != 2u * c->track_count) {
+        return 0;
+    }
+    for (t = 0; t < c->track_count; t++) {
+        if (rename_len(c, t) == 0) {
+            continue;
+        }
+        if (rename_len(c, t) > LONGEST_TITLE) {
+            return 0;
+        }
+        if (rename_title(c, t) > office_len || rename_len(c, t) > office_len - rename_title(c, t)) {
+            return 0;
+        }
+        if (valid_front(c->office + rename_title(c, t), rename_len(c, t)) < rename_len(c, t)) {
+            return 0;
+        }
+    }
+    return 1;
+}
+
+/* The rows 200 and 224 of a call that is lent the office's titles. W-210: "after 200" */
+static uint32_t lend_titles(catalogue *c, REF_CATALOGUE, REF_TITLES, REF_PLACE)
+{
+    if (!LEND(*c)) {
+        return CATALOGUE_WRONG;
+    }
+    c->renames = renames;
+    c->office = office;
+    return titles_stand(c, renames_len, office_len) ? 0 : TITLES_WRONG;
+}
+
+#define LEND_TITLES(c)                                                                                                 \
+    lend_titles(&(c), groups, groups_len, tracks, tracks_len, segments, segments_len, text, text_len, renames,         \
+                renames_len, office, office_len, bad_track, bad_offset)
 
 /* W-207, of 207: "for a name over 128 octets, 128, tested first". A name breaks 207 exactly where this is less than its length, and
  * this is then the offset. */
@@ -1248,25 +1300,47 @@ static uint32_t object_value(const catalogue *c, const ref_player *p, uint32_t c
     }
 }
 
+/* W-210: "The title handed back is a part of the office's text or of the card's text": which of the two, the offset in it, and the
+ * length. "Refused or Inactive, the part is the empty front of the card's text.", which is also how document 01's "title is then
+ * empty" comes out. */
+static void title_part(const catalogue *c, const ref_player *p, uint32_t part[3])
+{
+    part[0] = REF_CARD_TEXT;
+    part[1] = 0;
+    part[2] = 0;
+    if (p->media == REF_INACTIVE) {
+        return;
+    }
+    if (rename_len(c, p->track) > 0) {
+        part[0] = REF_OFFICE_TEXT;
+        part[1] = rename_title(c, p->track);
+        part[2] = rename_len(c, p->track);
+    } else {
+        part[1] = track_title(c, p->track);
+        part[2] = track_title_len(c, p->track);
+    }
+}
+
 /* "Values: 1 and 5 text; 4 empty; 6, 7, 19 four octets; 16 two; 18 two; the rest one.", and 10 to 14 above. The length; 18 has no
  * value apart from its results and comes out empty here. */
 static uint32_t value_of(const catalogue *c, const ref_player *p, uint32_t characteristic, uint8_t out[VALUE_ROOM])
 {
     int inactive = p->media == REF_INACTIVE;
+    uint32_t part[3];
 
     switch (characteristic) {
     case C_NAME:
         memcpy(out, p->name, p->name_len);
         return p->name_len;
     case C_TITLE:
-        /* "title is then empty, duration and position read −1" */
-        if (inactive || track_title_len(c, p->track) == 0) {
-            return 0;
+        /* W-210: "5 shows it from then on in reads, takes and changed marks". A text of no octets need have no address. */
+        title_part(c, p, part);
+        if (part[2] > 0) {
+            memcpy(out, (part[0] == REF_OFFICE_TEXT ? c->office : c->text) + part[1], part[2]);
         }
-        memcpy(out, c->text + track_title(c, p->track), track_title_len(c, p->track));
-        return track_title_len(c, p->track);
+        return part[2];
     case C_DURATION:
-        /* Request W-202: "6 then reads −1", which is the word itself. */
+        /* "duration and position read −1"; request W-202: "6 then reads −1", which is the word itself. */
         return put_32(out, inactive ? 0xFFFFFFFFu : track_duration_word(c, p->track));
     case C_POSITION:
         return put_32(out, inactive ? 0xFFFFFFFFu : p->position);
@@ -1470,8 +1544,9 @@ static int spares_writer(uint32_t characteristic)
 }
 
 /* W-208: "Calls to one never alter replies, state or owed values of the other", so this is about one service: the values before
- * the call are those of `before`, after it those of its player. `writer` is the client that wrote `written` there, or nobody; `quiet`
- * says that it was "an advance in Playing" that "stays below D". */
+ * the call are those of `before`, after it those of its player. Both are read with the titles that this call is lent, so that
+ * lending others than the call before makes nothing owed and marks nothing. `writer` is the client that wrote `written` there, or
+ * nobody; `quiet` says that it was "an advance in Playing" that "stays below D". */
 static void make_owed(const catalogue *c, const ref_player *before, ref_service *service, const ref_link links[REF_CLIENTS],
                       uint32_t writer, uint32_t written, int quiet)
 {
@@ -1537,8 +1612,8 @@ static void end_call(const catalogue *c, const ref_player *before, ref_service *
 
 /* ---- The calls */
 
-uint32_t ref_start(REF_CATALOGUE, const uint8_t *name0, size_t name0_len, uint32_t mask0, uint8_t ccid0, const uint8_t *name1,
-                   size_t name1_len, uint32_t mask1, uint8_t ccid1, ref_state *state, REF_PLACE)
+uint32_t ref_start(REF_CATALOGUE, REF_TITLES, const uint8_t *name0, size_t name0_len, uint32_t mask0, uint8_t ccid0,
+                   const uint8_t *name1, size_t name1_len, uint32_t mask1, uint8_t ccid1, ref_state *state, REF_PLACE)
 {
     const struct {
         const uint8_t *name;
@@ -1547,10 +1622,11 @@ uint32_t ref_start(REF_CATALOGUE, const uint8_t *name0, size_t name0_len, uint32
         uint8_t ccid;
     } given[REF_SERVICES] = {{name0, name0_len, mask0, ccid0}, {name1, name1_len, mask1, ccid1}};
     catalogue c;
-    uint32_t k;
+    uint32_t refusal, k;
 
-    if (!LEND(c)) {
-        return CATALOGUE_WRONG;
+    refusal = LEND_TITLES(c);
+    if (refusal != 0) {
+        return refusal;
     }
     /* W-208: "Start names both players at once, generic (0) checked first" */
     for (k = 0; k < REF_SERVICES; k++) {
@@ -1591,15 +1667,16 @@ static uint32_t service_rows(const catalogue *c, const ref_state *state, uint32_
     return state_stands(c, state) ? service_row(service) : STATE_WRONG;
 }
 
-uint32_t ref_set_name(REF_CATALOGUE, ref_state *state, uint32_t service, const uint8_t *name, size_t name_len, REF_PLACE)
+uint32_t ref_set_name(REF_CATALOGUE, REF_TITLES, ref_state *state, uint32_t service, const uint8_t *name, size_t name_len, REF_PLACE)
 {
     catalogue c;
     ref_player before, *p;
     uint32_t refusal;
     size_t front;
 
-    if (!LEND(c)) {
-        return CATALOGUE_WRONG;
+    refusal = LEND_TITLES(c);
+    if (refusal != 0) {
+        return refusal;
     }
     refusal = service_rows(&c, state, service);
     if (refusal != 0) {
@@ -1621,14 +1698,15 @@ uint32_t ref_set_name(REF_CATALOGUE, ref_state *state, uint32_t service, const u
     return 0;
 }
 
-uint32_t ref_activate(REF_CATALOGUE, ref_state *state, uint32_t service, uint32_t group, REF_PLACE)
+uint32_t ref_activate(REF_CATALOGUE, REF_TITLES, ref_state *state, uint32_t service, uint32_t group, REF_PLACE)
 {
     catalogue c;
     ref_player before, *p;
     uint32_t refusal;
 
-    if (!LEND(c)) {
-        return CATALOGUE_WRONG;
+    refusal = LEND_TITLES(c);
+    if (refusal != 0) {
+        return refusal;
     }
     refusal = service_rows(&c, state, service);
     if (refusal != 0) {
@@ -1647,14 +1725,15 @@ uint32_t ref_activate(REF_CATALOGUE, ref_state *state, uint32_t service, uint32_
     return 0;
 }
 
-uint32_t ref_deactivate(REF_CATALOGUE, ref_state *state, uint32_t service, REF_PLACE)
+uint32_t ref_deactivate(REF_CATALOGUE, REF_TITLES, ref_state *state, uint32_t service, REF_PLACE)
 {
     catalogue c;
     ref_player before, *p;
     uint32_t refusal;
 
-    if (!LEND(c)) {
-        return CATALOGUE_WRONG;
+    refusal = LEND_TITLES(c);
+    if (refusal != 0) {
+        return refusal;
     }
     refusal = service_rows(&c, state, service);
     if (refusal != 0) {
@@ -1668,15 +1747,16 @@ uint32_t ref_deactivate(REF_CATALOGUE, ref_state *state, uint32_t service, REF_P
     return 0;
 }
 
-uint32_t ref_advance(REF_CATALOGUE, ref_state *state, uint32_t service, uint32_t d, REF_PLACE)
+uint32_t ref_advance(REF_CATALOGUE, REF_TITLES, ref_state *state, uint32_t service, uint32_t d, REF_PLACE)
 {
     catalogue c;
     ref_player before, *p;
     uint32_t refusal;
     int quiet = 0;
 
-    if (!LEND(c)) {
-        return CATALOGUE_WRONG;
+    refusal = LEND_TITLES(c);
+    if (refusal != 0) {
+        return refusal;
     }
     refusal = service_rows(&c, state, service);
     if (refusal != 0) {
@@ -1715,14 +1795,15 @@ static uint32_t client_rows(const catalogue *c, const ref_state *state, uint32_t
     return client < REF_CLIENTS ? 0 : CLIENT_OVER_3;
 }
 
-uint32_t ref_connect(REF_CATALOGUE, ref_state *state, uint32_t client, uint32_t mtu, uint8_t encrypted, REF_PLACE)
+uint32_t ref_connect(REF_CATALOGUE, REF_TITLES, ref_state *state, uint32_t client, uint32_t mtu, uint8_t encrypted, REF_PLACE)
 {
     catalogue c;
     ref_link *link;
     uint32_t refusal;
 
-    if (!LEND(c)) {
-        return CATALOGUE_WRONG;
+    refusal = LEND_TITLES(c);
+    if (refusal != 0) {
+        return refusal;
     }
     refusal = client_rows(&c, state, client);
     if (refusal != 0) {
@@ -1743,13 +1824,14 @@ uint32_t ref_connect(REF_CATALOGUE, ref_state *state, uint32_t client, uint32_t 
     return 0;
 }
 
-uint32_t ref_disconnect(REF_CATALOGUE, ref_state *state, uint32_t client, REF_PLACE)
+uint32_t ref_disconnect(REF_CATALOGUE, REF_TITLES, ref_state *state, uint32_t client, REF_PLACE)
 {
     catalogue c;
     uint32_t refusal;
 
-    if (!LEND(c)) {
-        return CATALOGUE_WRONG;
+    refusal = LEND_TITLES(c);
+    if (refusal != 0) {
+        return refusal;
     }
     refusal = client_rows(&c, state, client);
     if (refusal != 0) {
@@ -1792,13 +1874,15 @@ static uint32_t subscription_rows(const catalogue *c, const ref_state *state, ui
     return state->links[client].encrypted ? 0 : ATT_NOT_ENCRYPTED;
 }
 
-uint32_t ref_subscribe(REF_CATALOGUE, ref_state *state, uint32_t client, uint32_t service, uint32_t characteristic, REF_PLACE)
+uint32_t ref_subscribe(REF_CATALOGUE, REF_TITLES, ref_state *state, uint32_t client, uint32_t service, uint32_t characteristic,
+                       REF_PLACE)
 {
     catalogue c;
     uint32_t refusal;
 
-    if (!LEND(c)) {
-        return CATALOGUE_WRONG;
+    refusal = LEND_TITLES(c);
+    if (refusal != 0) {
+        return refusal;
     }
     refusal = subscription_rows(&c, state, client, service, characteristic);
     if (refusal != 0) {
@@ -1809,14 +1893,16 @@ uint32_t ref_subscribe(REF_CATALOGUE, ref_state *state, uint32_t client, uint32_
     return 0;
 }
 
-uint32_t ref_unsubscribe(REF_CATALOGUE, ref_state *state, uint32_t client, uint32_t service, uint32_t characteristic, REF_PLACE)
+uint32_t ref_unsubscribe(REF_CATALOGUE, REF_TITLES, ref_state *state, uint32_t client, uint32_t service, uint32_t characteristic,
+                         REF_PLACE)
 {
     catalogue c;
     uint32_t refusal, bit;
     ref_account *a;
 
-    if (!LEND(c)) {
-        return CATALOGUE_WRONG;
+    refusal = LEND_TITLES(c);
+    if (refusal != 0) {
+        return refusal;
     }
     refusal = subscription_rows(&c, state, client, service, characteristic);
     if (refusal != 0) {
@@ -1833,8 +1919,8 @@ uint32_t ref_unsubscribe(REF_CATALOGUE, ref_state *state, uint32_t client, uint3
     return 0;
 }
 
-uint32_t ref_read(REF_CATALOGUE, ref_state *state, uint32_t client, uint32_t service, uint32_t characteristic, uint32_t offset,
-                  uint8_t *out, size_t out_len, uint32_t *length, REF_PLACE)
+uint32_t ref_read(REF_CATALOGUE, REF_TITLES, ref_state *state, uint32_t client, uint32_t service, uint32_t characteristic,
+                  uint32_t offset, uint8_t *out, size_t out_len, uint32_t *length, REF_PLACE)
 {
     catalogue c;
     uint32_t refusal, len, part;
@@ -1842,8 +1928,9 @@ uint32_t ref_read(REF_CATALOGUE, ref_state *state, uint32_t client, uint32_t ser
     const ref_link *link;
     ref_account *a;
 
-    if (!LEND(c)) {
-        return CATALOGUE_WRONG;
+    refusal = LEND_TITLES(c);
+    if (refusal != 0) {
+        return refusal;
     }
     /* "the lent output of a read or take is under 128 octets" */
     if (out_len < VALUE_ROOM) {
@@ -1888,7 +1975,7 @@ uint32_t ref_read(REF_CATALOGUE, ref_state *state, uint32_t client, uint32_t ser
     return 0;
 }
 
-uint32_t ref_write(REF_CATALOGUE, ref_state *state, uint32_t client, uint32_t service, uint32_t characteristic,
+uint32_t ref_write(REF_CATALOGUE, REF_TITLES, ref_state *state, uint32_t client, uint32_t service, uint32_t characteristic,
                    const uint8_t *value, size_t value_len, REF_PLACE)
 {
     catalogue c;
@@ -1896,8 +1983,9 @@ uint32_t ref_write(REF_CATALOGUE, ref_state *state, uint32_t client, uint32_t se
     ref_account *a;
     uint32_t refusal;
 
-    if (!LEND(c)) {
-        return CATALOGUE_WRONG;
+    refusal = LEND_TITLES(c);
+    if (refusal != 0) {
+        return refusal;
     }
     refusal = common_rows(&c, state, client, service);
     if (refusal != 0) {
@@ -1979,13 +2067,14 @@ static uint32_t owed_places(const ref_state *s, uint32_t client)
     return owed;
 }
 
-uint32_t ref_take(REF_CATALOGUE, ref_state *state, uint8_t *out, size_t out_len, uint32_t served[4], REF_PLACE)
+uint32_t ref_take(REF_CATALOGUE, REF_TITLES, ref_state *state, uint8_t *out, size_t out_len, uint32_t served[4], REF_PLACE)
 {
     catalogue c;
-    uint32_t k;
+    uint32_t refusal, k;
 
-    if (!LEND(c)) {
-        return CATALOGUE_WRONG;
+    refusal = LEND_TITLES(c);
+    if (refusal != 0) {
+        return refusal;
     }
     if (out_len < VALUE_ROOM) {
         return OUTPUT_SMALL;
@@ -2047,5 +2136,23 @@ uint32_t ref_take(REF_CATALOGUE, ref_state *state, uint8_t *out, size_t out_len,
     served[1] = 0;
     served[2] = 0;
     served[3] = 0;
+    return 0;
+}
+
+/* W-210: "a second call with the same inputs says which, or the refusal" */
+uint32_t ref_title(REF_CATALOGUE, REF_TITLES, const ref_state *state, uint32_t service, uint32_t part[3], REF_PLACE)
+{
+    catalogue c;
+    uint32_t refusal;
+
+    refusal = LEND_TITLES(c);
+    if (refusal != 0) {
+        return refusal;
+    }
+    refusal = service_rows(&c, state, service);
+    if (refusal != 0) {
+        return refusal;
+    }
+    title_part(&c, &state->services[service].player, part);
     return 0;
 }

@@ -3,7 +3,7 @@
  *
  * Every call returns 0, or the refusal number of document 01's table (ATT codes as 0x01 to 0x80), of a card load, a card write,
  * a cue sheet and an object those of document 02's requests W-205 and W-206, W-204, W-212, and W-209; a call to a service also the
- * 219 of W-208.
+ * 219 of W-208, and one that is lent the office's titles the 224 of W-210.
  * "A refusal returns its number alone and alters nothing." W-205, of a bad block: "Demand 1 reads the number and the block as the
  * whole refusal." W-207 lets 200 and 207 carry the place of a bad text as well.
  */
@@ -86,6 +86,15 @@ typedef struct {
     const uint32_t *groups, size_t groups_len, const uint32_t *tracks, size_t tracks_len, const uint32_t *segments,   \
         size_t segments_len, const uint8_t *text, size_t text_len
 
+/* W-210: "Beside the card's text a second text may be lent, with an offset and length per track, length 0 meaning not renamed.": two
+ * words for each track, and the office's text, lengths in words and in octets. They are lent to every call on a state, behind the
+ * catalogue. An office that renames nothing lends two zeros for each track and an empty text. */
+#define REF_TITLES const uint32_t *renames, size_t renames_len, const uint8_t *office, size_t office_len
+
+/* Which of the two texts a title is a part of. */
+#define REF_CARD_TEXT 0u
+#define REF_OFFICE_TEXT 1u
+
 /* Where a text is wrong, last in every call that is lent the catalogue. W-207: "a bad title carries the lowest such track and the
  * offset": a 200 for a title that is not UTF-8 writes both. 207 writes the offset alone. Any other refusal, a 200 for another rule
  * among them, and every success leave both as they were. */
@@ -116,21 +125,27 @@ uint32_t ref_segments_object_read(const uint8_t *octets, size_t octets_len, uint
                                   size_t *count);
 
 /* W-208: "Start names both players at once, generic (0) checked first". */
-uint32_t ref_start(REF_CATALOGUE, const uint8_t *name0, size_t name0_len, uint32_t mask0, uint8_t ccid0, const uint8_t *name1,
-                   size_t name1_len, uint32_t mask1, uint8_t ccid1, ref_state *state, REF_PLACE);
-uint32_t ref_set_name(REF_CATALOGUE, ref_state *state, uint32_t service, const uint8_t *name, size_t name_len, REF_PLACE);
-uint32_t ref_activate(REF_CATALOGUE, ref_state *state, uint32_t service, uint32_t group, REF_PLACE);
-uint32_t ref_deactivate(REF_CATALOGUE, ref_state *state, uint32_t service, REF_PLACE);
-uint32_t ref_advance(REF_CATALOGUE, ref_state *state, uint32_t service, uint32_t d, REF_PLACE);
-uint32_t ref_connect(REF_CATALOGUE, ref_state *state, uint32_t client, uint32_t mtu, uint8_t encrypted, REF_PLACE);
-uint32_t ref_disconnect(REF_CATALOGUE, ref_state *state, uint32_t client, REF_PLACE);
-uint32_t ref_subscribe(REF_CATALOGUE, ref_state *state, uint32_t client, uint32_t service, uint32_t characteristic, REF_PLACE);
-uint32_t ref_unsubscribe(REF_CATALOGUE, ref_state *state, uint32_t client, uint32_t service, uint32_t characteristic, REF_PLACE);
-uint32_t ref_read(REF_CATALOGUE, ref_state *state, uint32_t client, uint32_t service, uint32_t characteristic, uint32_t offset,
-                  uint8_t *out, size_t out_len, uint32_t *length, REF_PLACE);
-uint32_t ref_write(REF_CATALOGUE, ref_state *state, uint32_t client, uint32_t service, uint32_t characteristic,
+uint32_t ref_start(REF_CATALOGUE, REF_TITLES, const uint8_t *name0, size_t name0_len, uint32_t mask0, uint8_t ccid0,
+                   const uint8_t *name1, size_t name1_len, uint32_t mask1, uint8_t ccid1, ref_state *state, REF_PLACE);
+uint32_t ref_set_name(REF_CATALOGUE, REF_TITLES, ref_state *state, uint32_t service, const uint8_t *name, size_t name_len, REF_PLACE);
+uint32_t ref_activate(REF_CATALOGUE, REF_TITLES, ref_state *state, uint32_t service, uint32_t group, REF_PLACE);
+uint32_t ref_deactivate(REF_CATALOGUE, REF_TITLES, ref_state *state, uint32_t service, REF_PLACE);
+uint32_t ref_advance(REF_CATALOGUE, REF_TITLES, ref_state *state, uint32_t service, uint32_t d, REF_PLACE);
+uint32_t ref_connect(REF_CATALOGUE, REF_TITLES, ref_state *state, uint32_t client, uint32_t mtu, uint8_t encrypted, REF_PLACE);
+uint32_t ref_disconnect(REF_CATALOGUE, REF_TITLES, ref_state *state, uint32_t client, REF_PLACE);
+uint32_t ref_subscribe(REF_CATALOGUE, REF_TITLES, ref_state *state, uint32_t client, uint32_t service, uint32_t characteristic,
+                       REF_PLACE);
+uint32_t ref_unsubscribe(REF_CATALOGUE, REF_TITLES, ref_state *state, uint32_t client, uint32_t service, uint32_t characteristic,
+                         REF_PLACE);
+uint32_t ref_read(REF_CATALOGUE, REF_TITLES, ref_state *state, uint32_t client, uint32_t service, uint32_t characteristic,
+                  uint32_t offset, uint8_t *out, size_t out_len, uint32_t *length, REF_PLACE);
+uint32_t ref_write(REF_CATALOGUE, REF_TITLES, ref_state *state, uint32_t client, uint32_t service, uint32_t characteristic,
                    const uint8_t *value, size_t value_len, REF_PLACE);
 /* served: client, service, characteristic, length; four zeros where nothing is owed. */
-uint32_t ref_take(REF_CATALOGUE, ref_state *state, uint8_t *out, size_t out_len, uint32_t served[4], REF_PLACE);
+uint32_t ref_take(REF_CATALOGUE, REF_TITLES, ref_state *state, uint8_t *out, size_t out_len, uint32_t served[4], REF_PLACE);
+/* W-210: "The title handed back is a part of the office's text or of the card's text, never a copy; a second call with the same
+ * inputs says which, or the refusal." part: which text, the offset in it, and the length, of the title of the service's current
+ * track; three zeros while Inactive. A refusal leaves it as it was. */
+uint32_t ref_title(REF_CATALOGUE, REF_TITLES, const ref_state *state, uint32_t service, uint32_t part[3], REF_PLACE);
 
 #endif

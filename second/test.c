@@ -1,6 +1,6 @@
 /* Tests of the second program: cases whose answers were worked out by hand from the documents, then random calls, which are
- * made for the sanitizers, and whose 200, 207, order of takes and object numbers are worked out a second time. That it gives the
- * library's answers is not tried here; the comparison does that.
+ * made for the sanitizers, and whose 200, 207, 224, order of takes, titles and object numbers are worked out a second time. That it
+ * gives the library's answers is not tried here; the comparison does that.
  *
  * Usage: test [histories [seed]]. A comment in quotation marks is a sentence of document 01; among the cue sheets, and where it
  * names a request, one of document 02. */
@@ -34,6 +34,30 @@ typedef struct {
 } tables;
 
 static tables lent;
+
+/* W-210: what the office lends beside it. Where it renames nothing, that is an empty text and an entry of zeros for each track of the
+ * catalogue, and the rest of this does not count. */
+typedef struct {
+    int renames;
+    uint32_t words[520]; /* offset and length of each track */
+    uint8_t text[70000];
+    size_t words_len, text_len;
+} titles;
+
+static titles office;
+static void rename_nothing(void) { office.renames = 0; }
+static void rename_track(uint32_t track, uint32_t offset, uint32_t len)
+{
+    office.words[2 * track] = offset;
+    office.words[2 * track + 1] = len;
+}
+/* An entry of zeros for each track of the lent catalogue, and that text. */
+static void lend_office(const void *text, size_t len)
+{
+    office = (titles){.renames = 1, .words_len = lent.len[TRACKS] / 6 * 2, .text_len = len};
+    memcpy(office.text, text, len);
+}
+
 static ref_state s;
 /* The service that is called, and what is its in the state. */
 static uint32_t service;
@@ -89,9 +113,10 @@ static void *exact(const void *from, size_t octets)
     return to == NULL ? NULL : memcpy(to, from, octets);
 }
 
-enum { START, SET_NAME, ACTIVATE, DEACTIVATE, ADVANCE, CONNECT, DISCONNECT, SUBSCRIBE, UNSUBSCRIBE, READ, WRITE, TAKE, CALLS };
+enum { START, SET_NAME, ACTIVATE, DEACTIVATE, ADVANCE, CONNECT, DISCONNECT, SUBSCRIBE, UNSUBSCRIBE, READ, WRITE, TAKE, SAY_TITLE,
+       CALLS };
 
-static struct { uint8_t out[160]; uint32_t length, served[4]; } said;
+static struct { uint8_t out[160]; uint32_t length, served[4], part[3]; } said;
 
 /* W-207: where the text is wrong. A 200 carries both or neither, 207 the offset alone; nothing else touches them. */
 static struct { uint32_t track, offset; } place;
@@ -113,6 +138,7 @@ static int leaves_others(int call, uint32_t client, const ref_state *before)
 {
     int of_client = call == CONNECT || call == DISCONNECT, of_take = call == TAKE, right = s.layout == before->layout;
     if (call == START) return 1;
+    if (call == SAY_TITLE) return memcmp(&s, before, sizeof s) == 0;
     if (of_take) client = said.served[0];
     right &= of_take || s.turn == before->turn;
     for (uint32_t j = 0; j < REF_CLIENTS; j++) {
@@ -131,20 +157,27 @@ static int leaves_others(int call, uint32_t client, const ref_state *before)
 }
 
 /* Exact copies of what is lent, for one call. */
-typedef struct { uint32_t *words[3]; uint8_t *text; } copies;
+typedef struct { uint32_t *words[3], *renames; uint8_t *text, *office; size_t renames_len, office_len; } copies;
 static copies copy_lent(void)
 {
+    static const uint32_t ZEROS[sizeof office.words / sizeof office.words[0]];
     copies t;
     EACH(0, 3) t.words[k] = exact(lent.words[k], 4 * lent.len[k]);
     t.text = exact(lent.text, lent.len[TEXT]);
+    t.renames_len = office.renames ? office.words_len : lent.len[TRACKS] / 6 * 2;
+    t.renames = exact(office.renames ? office.words : ZEROS, 4 * t.renames_len);
+    t.office_len = office.renames ? office.text_len : 0;
+    t.office = exact(office.text, t.office_len);
     return t;
 }
 static void free_copies(copies t)
 {
     EACH(0, 3) free(t.words[k]);
-    free(t.text);
+    free(t.text); free(t.renames); free(t.office);
 }
 #define LENT(t) t.words[0], lent.len[0], t.words[1], lent.len[1], t.words[2], lent.len[2], t.text, lent.len[3]
+/* What the calls on a state are lent. */
+#define LENT_ALL(t) LENT(t), t.renames, t.renames_len, t.office, t.office_len
 
 /* A call to `service`. `what` is a characteristic, the Content Control ID of a start, or whether a connect is encrypted; `number`
  * a mask, group, time, ATT_MTU or offset; the octets are a name or a value; `room` is that of the output. */
@@ -163,23 +196,24 @@ static uint32_t makes(int call, uint32_t client, uint32_t what, uint32_t number,
 #define OF_CALL in, len, number, (uint8_t)what
 #define OF_OTHER other_in, other.len, other.mask, other.ccid
     case START:
-        refusal = service == 0 ? ref_start(LENT(t), OF_CALL, OF_OTHER, &s, PLACE)
-                               : ref_start(LENT(t), OF_OTHER, OF_CALL, &s, PLACE);
+        refusal = service == 0 ? ref_start(LENT_ALL(t), OF_CALL, OF_OTHER, &s, PLACE)
+                               : ref_start(LENT_ALL(t), OF_OTHER, OF_CALL, &s, PLACE);
         break;
-    case SET_NAME: refusal = ref_set_name(LENT(t), &s, service, in, len, PLACE); break;
-    case ACTIVATE: refusal = ref_activate(LENT(t), &s, service, number, PLACE); break;
-    case DEACTIVATE: refusal = ref_deactivate(LENT(t), &s, service, PLACE); break;
-    case ADVANCE: refusal = ref_advance(LENT(t), &s, service, number, PLACE); break;
-    case CONNECT: refusal = ref_connect(LENT(t), &s, client, number, (uint8_t)what, PLACE); break;
-    case DISCONNECT: refusal = ref_disconnect(LENT(t), &s, client, PLACE); break;
-    case SUBSCRIBE: refusal = ref_subscribe(LENT(t), &s, client, service, what, PLACE); break;
-    case UNSUBSCRIBE: refusal = ref_unsubscribe(LENT(t), &s, client, service, what, PLACE); break;
+    case SET_NAME: refusal = ref_set_name(LENT_ALL(t), &s, service, in, len, PLACE); break;
+    case ACTIVATE: refusal = ref_activate(LENT_ALL(t), &s, service, number, PLACE); break;
+    case DEACTIVATE: refusal = ref_deactivate(LENT_ALL(t), &s, service, PLACE); break;
+    case ADVANCE: refusal = ref_advance(LENT_ALL(t), &s, service, number, PLACE); break;
+    case CONNECT: refusal = ref_connect(LENT_ALL(t), &s, client, number, (uint8_t)what, PLACE); break;
+    case DISCONNECT: refusal = ref_disconnect(LENT_ALL(t), &s, client, PLACE); break;
+    case SUBSCRIBE: refusal = ref_subscribe(LENT_ALL(t), &s, client, service, what, PLACE); break;
+    case UNSUBSCRIBE: refusal = ref_unsubscribe(LENT_ALL(t), &s, client, service, what, PLACE); break;
     case READ:
-        refusal = ref_read(LENT(t), &s, client, service, what, number, out, room, &said.length, PLACE);
+        refusal = ref_read(LENT_ALL(t), &s, client, service, what, number, out, room, &said.length, PLACE);
         answer = said.length;
         break;
-    case WRITE: refusal = ref_write(LENT(t), &s, client, service, what, in, len, PLACE); break;
-    default: refusal = ref_take(LENT(t), &s, out, room, said.served, PLACE); answer = said.served[3]; break;
+    case WRITE: refusal = ref_write(LENT_ALL(t), &s, client, service, what, in, len, PLACE); break;
+    case TAKE: refusal = ref_take(LENT_ALL(t), &s, out, room, said.served, PLACE); answer = said.served[3]; break;
+    default: refusal = ref_title(LENT_ALL(t), &s, service, said.part, PLACE); break;
     }
     memcpy(said.out, room == 0 ? said.out : out, room);
     /* "A refusal returns its number alone and alters nothing." */
@@ -187,7 +221,7 @@ static uint32_t makes(int call, uint32_t client, uint32_t what, uint32_t number,
     CHECK(refusal != 0 || leaves_others(call, client, &before));
     /* "lent octets behind the answer stay"; and the state that is left stands, since 202 comes behind 201. */
     CHECK(refusal != 0 || (answer <= room && all_are(said.out + answer, FILL, sizeof said.out - answer)));
-    CHECK(refusal != 0 || ref_disconnect(LENT(t), &s, 4, PLACE) == 202);
+    CHECK(refusal != 0 || ref_disconnect(LENT_ALL(t), &s, 4, PLACE) == 202);
     CHECK(place_fits(refusal));
     free_copies(t); free(in); free(other_in); free(out);
     return refusal;
@@ -251,6 +285,7 @@ static uint32_t disconnects(uint32_t client) { return makes(DISCONNECT, client, 
 static uint32_t subscribes(uint32_t client, uint32_t to) { return makes(SUBSCRIBE, client, to, 0, NULL, 0, 0); }
 static uint32_t unsubscribes(uint32_t client, uint32_t from) { return makes(UNSUBSCRIBE, client, from, 0, NULL, 0, 0); }
 static uint32_t reads(uint32_t client, uint32_t what, uint32_t offset) { return makes(READ, client, what, offset, NULL, 0, ROOM); }
+static uint32_t title(void) { return makes(SAY_TITLE, 0, 0, 0, NULL, 0, 0); }
 static uint32_t writes(uint32_t client, uint32_t what, uint8_t octet) { return makes(WRITE, client, what, 0, &octet, 1, 0); }
 
 static const uint8_t *numbered(int opcode, long n)
@@ -642,6 +677,18 @@ static void judge(void)
 #define AS_JUDGED(refusal)                                                                                                 \
     CHECK(((refusal) == 200) == judged.wrong && ((refusal) != 200 || (place.track == judged.track && place.offset == judged.offset)))
 
+/* W-210 a second time: whether 224 refuses an entry, and whether it refuses what the office lends beside a catalogue that stands. */
+static int is_unfit(uint32_t offset, uint32_t len)
+{
+    return len > 128 || (len > 0 && ((uint64_t)offset + len > office.text_len || farthest(office.text + offset, len) < len));
+}
+static int office_is_unfit(void)
+{
+    int unfit = office.words_len != lent.len[TRACKS] / 6 * 2;
+    EACH(0, unfit ? 0 : lent.len[TRACKS] / 6) unfit |= is_unfit(office.words[2 * k], office.words[2 * k + 1]);
+    return office.renames && unfit;
+}
+
 /* ---- Refusals: 200, 207, the order of the table, 201 */
 
 /* Service numbers over 1. */
@@ -847,14 +894,23 @@ static void name_cases(void)
     EQUAL(place.offset, UNTOUCHED); PLAYER.name_len = 129; EQUAL(set_name("a\xFF"), 201); EQUAL(place.offset, UNTOUCHED);
 }
 
+/* W-210: titles that 224 refuses: the sample's last entry is cut, or has 129 octets, or its part is behind the text. */
+static void spoil_office(uint32_t how)
+{
+    static const uint8_t LONG[129];
+    lend_office(LONG, 129);
+    if (how % 3 == 0) office.words_len--; else rename_track(3, how % 3 == 1 ? 0 : 129, how % 3 == 1 ? 129 : 1);
+}
+
 /* Each refusal of each call, with every later one of the table that can apply as well. Client 0 is encrypted, has read the name
  * and has eight results waiting, 1 is unencrypted, 2 not connected. The octets written are zeros. W-208: "219, service number
- * over 1, after 202", and so before all the others that a row gives; connect, disconnect and take are of no service. */
+ * over 1, after 202", and so before all the others that a row gives; connect, disconnect and take are of no service. W-210: 224
+ * stands "after 200", and so before all others. */
 static void order_cases(void)
 {
     static const struct { int call; uint32_t client, what, number, len, gives; } ROW[] = {
         {SET_NAME, 0, 0, 0, 129, 207}, {ACTIVATE, 0, 0, 0, 0, 208}, {ACTIVATE, 0, 0, 2, 0, 208}, {ACTIVATE, 0, 0, 4, 0, 208},
-        {DEACTIVATE, 0, 0, 0, 0, 0}, {ADVANCE, 0, 0, 9, 0, 0}, {TAKE, 0, 0, 0, 0, 0},
+        {DEACTIVATE, 0, 0, 0, 0, 0}, {ADVANCE, 0, 0, 9, 0, 0}, {TAKE, 0, 0, 0, 0, 0}, {SAY_TITLE, 0, 0, 0, 0, 0},
         {CONNECT, 4, 1, 22, 0, 202}, {CONNECT, 0, 1, 22, 0, 204}, {CONNECT, 2, 1, 22, 0, 206}, {CONNECT, 2, 1, 518, 0, 206},
         {DISCONNECT, 4, 0, 0, 0, 202}, {DISCONNECT, 2, 0, 0, 0, 203},
         {SUBSCRIBE, 4, 3, 0, 0, 202}, {SUBSCRIBE, 2, 3, 0, 0, 203}, {SUBSCRIBE, 1, 3, 0, 0, 0x01}, {SUBSCRIBE, 1, 16, 0, 0, 209},
@@ -887,11 +943,15 @@ static void order_cases(void)
             service = OVER[j];
             s = good; EQUAL(MAKES(room), of_none || ROW[k].gives == 202 ? ROW[k].gives : 219);
             s = good; s.turn = 4; EQUAL(MAKES(room), 201); EQUAL(MAKES(small), room > 0 ? 205 : 201);
-            lent.len[GROUPS] = 11; EQUAL(MAKES(small), 200); lent.len[GROUPS] = 12;
+            spoil_office(j); EQUAL(MAKES(small), 224); EQUAL(MAKES(room), 224);
+            lent.len[GROUPS] = 11; EQUAL(MAKES(small), 200); lent.len[GROUPS] = 12; rename_nothing();
         }
         service = right;
         s = good; EQUAL(MAKES(room), ROW[k].gives); s = good; EQUAL(MAKES(small), room > 0 ? 205 : ROW[k].gives);
-        s = good; s.turn = 4; EQUAL(MAKES(small), room > 0 ? 205 : 201); EQUAL(MAKES(room), 201);
+        spoil_office(k); s = good; EQUAL(MAKES(small), 224); EQUAL(MAKES(room), 224);
+        s.turn = 4; EQUAL(MAKES(small), 224); EQUAL(MAKES(room), 224); EQUAL(makes(START, 0, 0, 0, ZEROS, 129, 0), 224);
+        lent.text[17] = 0xC3; EQUAL(MAKES(small), 200); EQUAL(place.track, 3); EQUAL(place.offset, 3); lent.text[17] = 'l';
+        rename_nothing(); EQUAL(MAKES(small), room > 0 ? 205 : 201); EQUAL(MAKES(room), 201);
         lent.len[GROUPS] = 11; EQUAL(MAKES(small), 200); EQUAL(makes(START, 0, 0, 0, ZEROS, 129, 0), 200); lent.len[GROUPS] = 12;
         lent.text[17] = 0xC3; EQUAL(MAKES(small), 200); EQUAL(place.track, 3); EQUAL(place.offset, 3); lent.text[17] = 'l';
     }
@@ -1019,8 +1079,8 @@ static void number_cases(void)
         /* 201, then 219, then 207 and 208. */
         service = OVER[k]; EQUAL(set_name("\xFF"), 219); EQUAL(set_name("Desk"), 219); EQUAL(activate(2), 219);
         EQUAL(activate(1), 219);
-        EQUAL(deactivate(), 219); EQUAL(advance(1), 219); s.layout = 0; EQUAL(set_name("\xFF"), 201); EQUAL(activate(2), 201);
-        EQUAL(deactivate(), 201); EQUAL(advance(1), 201); s.layout = 0x83;
+        EQUAL(deactivate(), 219); EQUAL(advance(1), 219); EQUAL(title(), 219); s.layout = 0; EQUAL(set_name("\xFF"), 201);
+        EQUAL(activate(2), 201); EQUAL(deactivate(), 201); EQUAL(advance(1), 201); EQUAL(title(), 201); s.layout = 0x83;
     }
     for (service = 0; service < 2; service++) { EQUAL(set_name("\xFF"), 207); EQUAL(activate(2), 208); }
 }
@@ -1058,7 +1118,7 @@ static void apart_cases(void)
 #define STAYS(call) do { EQUAL(call, 0); CHECK(memcmp(&kept, &s.services[1 - to], sizeof kept) == 0); } while (0)
         STAYS(subscribes(0, 8)); STAYS(subscribes(1, 18)); STAYS(set_name("Other")); STAYS(activate(1)); STAYS(writes(0, 8, 9));
         STAYS(writes(1, 15, 4)); STAYS(moves_to(0, 50)); STAYS(commands(1, PLAY, 0)); STAYS(advance(3)); STAYS(advance(6000));
-        STAYS(reads(0, 7, 0)); STAYS(reads(1, 1, 0)); STAYS(reads(1, 1, 2)); STAYS(commands(1, TRACK + NEXT, 0));
+        STAYS(reads(0, 7, 0)); STAYS(reads(1, 1, 0)); STAYS(reads(1, 1, 2)); STAYS(commands(1, TRACK + NEXT, 0)); STAYS(title());
         STAYS(sets(0, 12, 0x1002)); STAYS(sets(1, 11, 0x1000)); STAYS(sets(0, 14, 0x2003)); STAYS(deactivate());
         OWES(0, 0); OWES(1, B18); STAYS(unsubscribes(1, 18)); STAYS(unsubscribes(0, 8)); STAYS(unsubscribes(0, 17));
         /* Another client's coming and going is nothing to it either. */
@@ -1800,6 +1860,265 @@ static void object_read_cases(void)
     octets[48993] = 2; EQUAL(reads_object(GROUP_OBJECT, octets, 49000, 20999), 222);
 }
 
+/* ---- W-210: the office's titles */
+
+/* "Abfahrt" at 0, "Rast" at 7, C3 9C and "bung" at 11, and a character of three octets at 17; 20 octets. The sample's own titles are C3
+ * 9C and "berfahrt" of track 0, at 0, "Rast" of track 1, at 10, none of track 2, at 14, and "Ziel" of track 3, at 14. */
+static const char OFFICE[] = "AbfahrtRast\xC3\x9C" "bung\xE2\x82\xAC";
+#define CARD_0 "\xC3\x9C" "berfahrt"
+#define LEND_OFFICE() do { lend_sample(); lend_office(OFFICE, 20); } while (0)
+/* The call, with another title of track 0 than the calls before; of length 0 it is the card's. */
+#define WITH(offset, len, call) (rename_track(0, offset, len), (call))
+/* The title is that part of that text, and 5 reads as its octets. */
+enum { CARDS, OFFICES };
+#define SHOWS_PART(which, offset, octets, len)                                                                             \
+    do {                                                                                                                   \
+        EQUAL(title(), 0); EQUAL(said.part[0], which); EQUAL(said.part[1], offset); EQUAL(said.part[2], len);              \
+        CHECK(reads_as(0, 5, 0, octets, len));                                                                             \
+    } while (0)
+
+/* W-210: "a part of the office's text or of the card's text", and "length 0 meaning not renamed" */
+static void renamed_cases(void)
+{
+    LEND_OFFICE(); stand(3, 0, 0); SHOWS_PART(CARDS, 0, CARD_0, 10);
+    rename_track(0, 0, 7); SHOWS_PART(OFFICES, 0, "Abfahrt", 7); rename_track(0, 7, 4); SHOWS_PART(OFFICES, 7, "Rast", 4);
+    rename_track(0, 0, 20); SHOWS_PART(OFFICES, 0, OFFICE, 20); rename_track(0, 17, 3); SHOWS_PART(OFFICES, 17, "\xE2\x82\xAC", 3);
+    rename_track(0, 3, 1); SHOWS_PART(OFFICES, 3, "a", 1);
+    /* Not renamed, wherever the offset is. */
+    rename_track(0, 20, 0); SHOWS_PART(CARDS, 0, CARD_0, 10); rename_track(0, 21, 0); SHOWS_PART(CARDS, 0, CARD_0, 10);
+    rename_track(0, 0xFFFFFFFFu, 0); SHOWS_PART(CARDS, 0, CARD_0, 10);
+    /* Each track has its own entry: 1 is renamed to what it is called already, 3 to another title; 0 and 2 are not renamed. */
+    rename_track(1, 7, 4); rename_track(3, 11, 6); SHOWS_PART(CARDS, 0, CARD_0, 10);
+    EQUAL(result(TRACK + NEXT, 0), 1); SHOWS_PART(OFFICES, 7, "Rast", 4); rename_track(1, 0, 0); SHOWS_PART(CARDS, 10, "Rast", 4);
+    EQUAL(result(TRACK + NEXT, 0), 1); SHOWS_PART(CARDS, 14, "", 0); rename_track(2, 11, 6); SHOWS_PART(OFFICES, 11, "\xC3\x9C" "bung", 6);
+    EQUAL(result(GROUP + NEXT, 0), 1); SHOWS_PART(OFFICES, 11, "\xC3\x9C" "bung", 6);
+    rename_track(3, 11, 0); SHOWS_PART(CARDS, 14, "Ziel", 4);
+    /* An empty title of the card is at its own offset, at the text's end too. */
+    EQUAL(sets(0, 14, 0x2001) || sets(0, 11, 0x1002), 0); rename_track(2, 5, 0); SHOWS_PART(CARDS, 14, "", 0);
+    lent.words[TRACKS][6 * 2 + 4] = 18; SHOWS_PART(CARDS, 18, "", 0); lent.words[TRACKS][6 * 2 + 4] = 0; SHOWS_PART(CARDS, 0, "", 0);
+    /* "Refused or Inactive, the part is the empty front of the card's text.", whatever track 0 of group 0 is called. */
+    EACH(0, 4) rename_track(k, 0, 7);
+    SHOWS_PART(OFFICES, 0, "Abfahrt", 7); EQUAL(deactivate(), 0); SHOWS_PART(CARDS, 0, "", 0);
+    nest_groups(); EQUAL(activate(0), 0); SHOWS_PART(OFFICES, 0, "Abfahrt", 7); EQUAL(deactivate(), 0); SHOWS_PART(CARDS, 0, "", 0);
+    /* An office that renames nothing. */
+    lend_sample(); rename_nothing(); stand(3, 0, 0); SHOWS_PART(CARDS, 0, CARD_0, 10);
+    lend_office("", 0); SHOWS_PART(CARDS, 0, CARD_0, 10); rename_nothing();
+}
+
+/* Both clients have read 5 at 0; then a call makes that owed to each, and changes 5, which loses their marks of it, or does not. */
+#define TITLE_TOLD(call, slots0, slots1, changed)                                                                          \
+    do {                                                                                                                   \
+        EQUAL(reads(0, 5, 0) || reads(1, 5, 0), 0); TOLD(call, slots0, slots1);                                            \
+        EQUAL(ACCOUNT(0).fresh >> 5 & 1, !(changed)); EQUAL(ACCOUNT(1).fresh >> 5 & 1, !(changed));                        \
+    } while (0)
+/* What a client is told of the step from track 0 to 1 beside 5, and 18 where it made it; and so is it of the step back. */
+#define STEP (TRACK_BITS | B6 | B12)
+
+/* W-210: "5 shows it from then on in reads, takes and changed marks" */
+static void renamed_owed_cases(void)
+{
+    LEND_OFFICE(); stand_with_two(3, 0, 0);
+    /* From the office's text to the card's and back; both of the office's; both of the card's. */
+    rename_track(0, 0, 7); TITLE_TOLD(commands(1, TRACK + NEXT, 0), STEP | B5, STEP | B5 | B18, 1);
+    TITLE_TOLD(commands(1, TRACK + PREVIOUS, 0), STEP | B5, STEP | B5 | B18, 1);
+    rename_track(1, 11, 6); TITLE_TOLD(sets(0, 11, 0x1001), (STEP | B5) & ~B11, STEP | B5, 1);
+    TITLE_TOLD(sets(1, 11, 0x1000), STEP | B5, (STEP | B5) & ~B11, 1);
+    rename_track(0, 0, 0); rename_track(1, 0, 0); TITLE_TOLD(commands(0, TRACK + LAST, 0), STEP | B5 | B18, STEP | B5, 1);
+    TITLE_TOLD(activate(1), STEP | B5, STEP | B5, 1);
+    /* Two tracks that share a renamed title: 4 is owed, and 5 is not. Equal octets of two parts, likewise. */
+    rename_track(0, 7, 4); rename_track(1, 7, 4); TITLE_TOLD(commands(0, TRACK + NEXT, 0), STEP | B18, STEP, 0);
+    TITLE_TOLD(commands(0, TRACK + PREVIOUS, 0), STEP | B18, STEP, 0);
+    lend_office("RastRaste", 9); rename_track(0, 0, 4); rename_track(1, 4, 4);
+    TITLE_TOLD(commands(0, TRACK + NEXT, 0), STEP | B18, STEP, 0); TITLE_TOLD(activate(1), STEP, STEP, 0);
+    /* One octet more is another title, and one that is as long and differs in the last. */
+    rename_track(1, 4, 5); TITLE_TOLD(commands(0, TRACK + NEXT, 0), STEP | B5 | B18, STEP | B5, 1);
+    TITLE_TOLD(commands(0, TRACK + PREVIOUS, 0), STEP | B5 | B18, STEP | B5, 1);
+    lend_office("RastRasz", 8); rename_track(0, 0, 4); rename_track(1, 4, 4);
+    TITLE_TOLD(commands(0, TRACK + NEXT, 0), STEP | B5 | B18, STEP | B5, 1); EQUAL(activate(1), 0); FORGIVE();
+    /* Equal from the two texts: track 0 is renamed to what the card calls track 1, and then 1 to what it calls 0. */
+    rename_track(1, 0, 0); TITLE_TOLD(commands(0, TRACK + NEXT, 0), STEP | B18, STEP, 0);
+    TITLE_TOLD(commands(0, TRACK + PREVIOUS, 0), STEP | B18, STEP, 0); lend_office(CARD_0, 10); rename_track(1, 0, 10);
+    TITLE_TOLD(commands(0, TRACK + NEXT, 0), STEP | B18, STEP, 0); TITLE_TOLD(commands(0, TRACK + PREVIOUS, 0), STEP | B18, STEP, 0);
+    /* Equal on the card, and one is renamed. */
+    lent.words[TRACKS][6 + 4] = 0; lent.words[TRACKS][6 + 5] = 10; lend_office(OFFICE, 20);
+    TITLE_TOLD(commands(0, TRACK + NEXT, 0), STEP | B18, STEP, 0); rename_track(1, 0, 7);
+    TITLE_TOLD(commands(0, TRACK + PREVIOUS, 0), STEP | B5 | B18, STEP | B5, 1);
+    /* The end of a track, once the step is not "below D"; and group 3, whose track has no next one. */
+    LEND_OFFICE(); rename_track(0, 0, 7); rename_track(1, 7, 4); EQUAL(commands(0, PLAY, 0), 0); FORGIVE();
+    TITLE_TOLD(advance(5999), 0, 0, 0); TITLE_TOLD(advance(1), STEP | B5, STEP | B5, 1);
+    rename_track(3, 7, 4); TITLE_TOLD(sets(0, 14, 0x2003), TRACK_BITS | B6 | B12, TRACK_BITS | B6 | B12 | B14, 0);
+    /* To and from none: track 2 has no title on the card, and is then renamed. 12 is none before and after. */
+    stand_with_two(3, 2, 0); TITLE_TOLD(deactivate(), NONE_BITS | B6, NONE_BITS | B6, 0);
+    stand_with_two(3, 2, 0); rename_track(2, 17, 3); TITLE_TOLD(deactivate(), NONE_BITS | B5 | B6, NONE_BITS | B5 | B6, 1);
+    TITLE_TOLD(activate(1), NONE_BITS | B5 | B6 | B12, NONE_BITS | B5 | B6 | B12, 1);
+
+    /* Titles exchanged between calls make nothing owed and mark nothing: each of these has another title of the current track. */
+    LEND_OFFICE(); stand_with_two(3, 0, 0); EQUAL(reads(0, 5, 0) || reads(1, 5, 0), 0);
+    TOLD(WITH(0, 7, set_name("N")), B1, B1); TOLD(WITH(7, 4, writes(0, 8, 1)), 0, B8); TOLD(WITH(0, 0, moves_to(0, 5)), B7, B7);
+    TOLD(WITH(11, 6, commands(0, PLAY, 0)), B17 | B18, B17); TOLD(WITH(0, 7, advance(1)), 0, 0); TOLD(WITH(7, 4, advance(0)), 0, 0);
+    TOLD(WITH(17, 3, commands(1, 0x77, 0)), 0, B18); TOLD(WITH(0, 20, sets(0, 12, 0x1002)), 0, B12);
+    TOLD(WITH(0, 0, sets(0, 11, 0x1000)), B7, B7); TOLD(WITH(7, 4, activate(1)), B17, B17); TOLD(WITH(0, 7, writes(1, 15, 4)), B15, 0);
+    TOLD(WITH(7, 4, sets(0, 14, 0x2001)), 0, 0); TOLD(WITH(0, 7, commands(0, TRACK + GOTO, 0)), B18, 0);
+    TOLD(WITH(11, 6, connects(2, 23)), 0, 0); TOLD(WITH(7, 4, subscribes(2, 5)), 0, 0); TOLD(WITH(0, 7, unsubscribes(2, 5)), 0, 0);
+    TOLD(WITH(0, 0, disconnects(2)), 0, 0); TOLD(WITH(7, 4, reads(0, 1, 0)), 0, 0); TOLD(WITH(0, 7, title()), 0, 0);
+    CHECK(WITH(11, 6, takes(0, 0, "", 0)));
+    EQUAL(ACCOUNT(0).fresh >> 5 & 1, 1); EQUAL(ACCOUNT(1).fresh >> 5 & 1, 1);
+    /* Both values are read with what the call is lent: the clients have read the card's title of track 0, and now 0 and 1 are both
+     * "Rast". And the other way round: what was equal when they read it is not so in the call. */
+    LEND_OFFICE(); stand_with_two(3, 0, 0); EQUAL(reads(0, 5, 0) || reads(1, 5, 0), 0);
+    TOLD(WITH(7, 4, commands(0, TRACK + NEXT, 0)), STEP | B18, STEP); EQUAL(ACCOUNT(0).fresh >> 5 & 1, 1);
+    CHECK(reads_as(0, 5, 1, "ast", 3)); TOLD(WITH(0, 0, commands(0, TRACK + PREVIOUS, 0)), STEP | B5 | B18, STEP | B5);
+    EQUAL(ACCOUNT(0).fresh >> 5 & 1, 0); EQUAL(ACCOUNT(1).fresh >> 5 & 1, 0);
+    /* What a take hands out is the value by what the take is lent; what is owed stays owed. */
+    LEND_OFFICE(); stand(3, 0, 0); rename_track(1, 0, 7); EQUAL(subscribes(0, 5) || commands(0, TRACK + NEXT, 0), 0); OWES(0, B5);
+    rename_track(1, 11, 6); CHECK(takes(0, 5, "\xC3\x9C" "bung", 6) && takes(0, 0, "", 0));
+    EQUAL(commands(0, TRACK + PREVIOUS, 0), 0); OWES(0, B5); CHECK(takes(0, 5, CARD_0, 10) && takes(0, 0, "", 0));
+    EQUAL(WITH(0, 7, commands(0, TRACK + NEXT, 0)), 0); rename_nothing(); OWES(0, B5); CHECK(takes(0, 5, "Rast", 4) && takes(0, 0, "", 0));
+}
+
+/* A title of 128 octets, which an ATT_MTU of 23 cuts: the office's text is 300 octets, of which no two near each other are the same. */
+static void renamed_read_cases(void)
+{
+    static const uint32_t CUT[4][3] = {{23, 20, 22}, {130, 127, 128}, {131, 128, 128}, {517, 128, 128}};
+    uint8_t text[300];
+    EACH(0, 300) text[k] = (uint8_t)(' ' + k % 90);
+    lend_sample(); lend_office(text, 300); rename_track(0, 50, 128); stand(3, 0, 0);
+    EACH(0, 6) CHECK(reads_as(0, 5, 22 * k, text + 50 + 22 * k, k < 5 ? 22 : 18));
+    CHECK(reads_as(0, 5, 127, text + 177, 1) && reads_as(0, 5, 128, "", 0)); EQUAL(reads(0, 5, 129), 0x07);
+    /* Only other titles are lent between: the read goes on in what is lent now, and 0x07 is above the length of that. */
+    rename_track(0, 60, 128); CHECK(reads_as(0, 5, 22, text + 82, 22));
+    rename_track(0, 172, 128); CHECK(reads_as(0, 5, 110, text + 282, 18));
+    rename_track(0, 60, 30); CHECK(reads_as(0, 5, 22, text + 82, 8) && reads_as(0, 5, 30, "", 0)); EQUAL(reads(0, 5, 31), 0x07);
+    rename_track(0, 0, 0); CHECK(reads_as(0, 5, 2, "berfahrt", 8) && reads_as(0, 5, 10, "", 0)); EQUAL(reads(0, 5, 11), 0x07);
+    EQUAL(reads(0, 5, 22), 0x07); rename_nothing(); CHECK(reads_as(0, 5, 9, "t", 1)); EQUAL(reads(0, 5, 22), 0x07);
+    lend_office(text, 300); rename_track(0, 50, 128); CHECK(reads_as(0, 5, 44, text + 94, 22));
+    /* What 224 refuses between alters nothing of it either. */
+    rename_track(0, 173, 128); EQUAL(reads(0, 5, 44), 224); EQUAL(reads(0, 5, 0), 224); EQUAL(commands(0, TRACK + NEXT, 0), 224);
+    EQUAL(deactivate(), 224); rename_track(0, 50, 128); CHECK(reads_as(0, 5, 66, text + 116, 22));
+    /* The track changed between, and back; then a read at 0, after which it goes on. */
+    EQUAL(commands(0, TRACK + NEXT, 0), 0); EQUAL(reads(0, 5, 66), 0x80); EQUAL(reads(0, 5, 200), 0x80); EQUAL(reads(0, 5, 1), 0x80);
+    EQUAL(commands(0, TRACK + PREVIOUS, 0), 0); EQUAL(reads(0, 5, 66), 0x80);
+    CHECK(reads_as(0, 5, 0, text + 50, 22) && reads_as(0, 5, 66, text + 116, 22));
+    /* Onto a track that shares the title, by another part of equal octets: 90 octets further on they are the same. */
+    rename_track(1, 140, 128); EQUAL(commands(0, TRACK + NEXT, 0), 0); CHECK(reads_as(0, 5, 88, text + 138, 22));
+    EQUAL(commands(0, TRACK + NEXT, 0), 0); EQUAL(reads(0, 5, 88), 0x80); EQUAL(reads(0, 5, 0), 0); EQUAL(reads(0, 5, 1), 0x07);
+    /* From a renamed track to none: 0x80 comes before 0x07. */
+    EQUAL(activate(1) || reads(0, 5, 0) || reads(0, 5, 22) || deactivate(), 0); EQUAL(reads(0, 5, 22), 0x80); EQUAL(reads(0, 5, 0), 0);
+    EQUAL(said.length, 0); EQUAL(reads(0, 5, 22), 0x07); EQUAL(reads(0, 5, 1), 0x07);
+    /* The first ATT_MTU − 3 octets in a take, up to ATT_MTU − 1 in a read. */
+    EACH(0, 4) {
+        EQUAL(start(ALL_OPCODES) || connects(2, CUT[k][0]) || subscribes(2, 5) || activate(1), 0);
+        CHECK(takes(2, 5, text + 50, CUT[k][1]) && reads_as(2, 5, 0, text + 50, CUT[k][2]) && reads_as(2, 5, 120, text + 170, 8));
+    }
+    rename_nothing();
+}
+
+/* W-210: "224, not one entry per track, a length over 128, a part of length above 0 that is outside the text or not UTF-8": every call on
+ * a state gives it, and it carries nothing. */
+static void all_give_224(int line)
+{
+    EACH(0, CALLS) {
+        equal_at(line, makes((int)k, 0, 1, 0, "a", 1, ROOM), 224, "the refusal");
+        equal_at(line, place.track, UNTOUCHED, "the track"); equal_at(line, place.offset, UNTOUCHED, "the offset");
+    }
+}
+#define UNFIT(edit) do { LEND_OFFICE(); edit; all_give_224(__LINE__); } while (0)
+#define FIT(edit) do { ref_state kept = s; LEND_OFFICE(); edit; EQUAL(start(0), 0); s = kept; } while (0)
+/* Of so many octets of a text, that part is the title of a track, or cannot be. */
+#define IS_PART(octets, n, offset, len) FIT(lend_office(octets, n); rename_track(k, offset, len))
+#define NO_PART(octets, n, offset, len) UNFIT(lend_office(octets, n); rename_track(k, offset, len))
+static void rename_refusal_cases(void)
+{
+    static const struct { const char *octets; uint32_t len; } NOT_TEXT[] = {
+        {"\x80", 1}, {"\xC3", 1}, {"\xC0\x80", 2}, {"\xC3x", 2}, {"\xE2\x82", 2}, {"\xE0\x9F\xBF", 3}, {"\xED\xA0\x80", 3},
+        {"\xF0\x9F\x8E", 3}, {"\xF4\x90\x80\x80", 4}, {"\xF5\x80\x80\x80", 4}, {"\xFF", 1}};
+    static const char BESIDE[] = "\x80\xFF" "Rast\xC3\xF8";
+    size_t *len = &office.words_len;
+    uint8_t text[400];
+    memset(text, 'a', sizeof text);
+    lend_sample(); rename_nothing(); EQUAL(start(ALL_OPCODES) || connects(0, 23) || activate(1), 0);
+    /* "not one entry per track": four tracks, eight words. One too few, one too many, and a table that ends inside an entry. */
+    FIT(*len = 8); UNFIT(*len = 6); UNFIT(*len = 10); UNFIT(*len = 7); UNFIT(*len = 9); UNFIT(*len = 0); UNFIT(*len = 1); UNFIT(*len = 4);
+    UNFIT(*len = 16); UNFIT(*len = 24); UNFIT(*len = 0; office.text_len = 0);
+    /* Three tracks; none; and the most that there may be. */
+    FIT(lent.len[TRACKS] = 18; lent.words[GROUPS][11] = 0; *len = 6); UNFIT(lent.len[TRACKS] = 18; lent.words[GROUPS][11] = 0);
+    FIT(lent = (tables){.len = {0}}; *len = 0); UNFIT(lent = (tables){.len = {0}}; *len = 1); UNFIT(lent = (tables){.len = {0}}; *len = 2);
+    FIT(lend_full(256); *len = 512); UNFIT(lend_full(256); *len = 511); UNFIT(lend_full(256); *len = 510);
+    UNFIT(lend_full(256); *len = 513); UNFIT(lend_full(256); *len = 514);
+    /* Of each track, be it the current one, 0, or not. */
+    EACH(0, 4) {
+        /* "a length over 128", though all of it lies in the text. */
+        IS_PART(text, 400, 0, 128); NO_PART(text, 400, 0, 129); IS_PART(text, 400, 271, 128); NO_PART(text, 400, 271, 129);
+        NO_PART(text, 400, 0, 256); NO_PART(text, 400, 0, 0x10000); NO_PART(text, 400, 0, 0x80000000u); NO_PART(text, 400, 0, 0xFFFFFFFFu);
+        NO_PART(text, 400, 1, 0xFFFFFFFFu); NO_PART(text, 400, 0xFFFFFFFFu, 0xFFFFFFFFu);
+        /* A part that ends with the text's last octet, and one octet beyond. */
+        IS_PART(OFFICE, 20, 17, 3); IS_PART(OFFICE, 20, 0, 20); IS_PART(text, 128, 0, 128); NO_PART(text, 127, 0, 128);
+        IS_PART(text, 400, 272, 128); NO_PART(text, 400, 273, 128); IS_PART(text, 400, 399, 1); NO_PART(text, 400, 399, 2);
+        NO_PART(text, 400, 400, 1); NO_PART(text, 400, 401, 1); NO_PART(text, 0, 0, 1);
+        /* The offset and the length come to 2^32 and more, in 32 bits to a place inside the text; and to less than that. */
+        NO_PART(OFFICE, 20, 0xFFFFFFFFu, 1); NO_PART(OFFICE, 20, 0xFFFFFFFFu, 2); NO_PART(OFFICE, 20, 0xFFFFFFF0u, 20);
+        NO_PART(OFFICE, 20, 0xFFFFFF80u, 128); NO_PART(text, 400, 0xFFFFFFFFu, 128); NO_PART(text, 400, 0xFFFFFF81u, 128);
+        NO_PART(OFFICE, 20, 0x80000000u, 7); NO_PART(OFFICE, 20, 0x10000, 7); NO_PART(OFFICE, 20, 0xFFFFFF00u, 7);
+        /* "a part of length above 0": an entry of length 0 is not looked at further. */
+        IS_PART(OFFICE, 20, 20, 0); IS_PART(OFFICE, 20, 21, 0); IS_PART(OFFICE, 20, 0xFFFFFFFFu, 0); IS_PART(OFFICE, 20, 12, 0);
+        IS_PART("", 0, 0xFFFFFFFFu, 0); IS_PART("\x80", 1, 0, 0);
+        /* Cut inside a character, at its front and at its end; what lies beside the part does not make it whole. */
+        NO_PART(OFFICE, 20, 12, 5); NO_PART(OFFICE, 20, 12, 1); NO_PART(OFFICE, 20, 7, 5); NO_PART(OFFICE, 20, 11, 1);
+        IS_PART(OFFICE, 20, 11, 2); IS_PART(OFFICE, 20, 13, 4); NO_PART(OFFICE, 20, 13, 5); NO_PART(OFFICE, 20, 13, 6);
+        IS_PART(OFFICE, 20, 13, 7); NO_PART(OFFICE, 20, 18, 2); NO_PART(OFFICE, 20, 19, 1); NO_PART(OFFICE, 20, 0, 18);
+        /* Outside the part any octets, also such as a character begins or ends with. */
+        IS_PART(BESIDE, 8, 2, 4); NO_PART(BESIDE, 8, 2, 5); NO_PART(BESIDE, 8, 1, 5); NO_PART(BESIDE, 8, 0, 8);
+        for (uint32_t j = 0; j < sizeof NOT_TEXT / sizeof NOT_TEXT[0]; j++) {
+            uint32_t n = NOT_TEXT[j].len;
+            /* Alone, and in the middle of a part; and directly before and behind one, where it is none of it. */
+            NO_PART(NOT_TEXT[j].octets, n, 0, n); memcpy(text + 100, NOT_TEXT[j].octets, n); NO_PART(text, 400, 50, 128);
+            IS_PART(text, 400, 0, 100); IS_PART(text, 400, 100 + n, 128); IS_PART(text, 400, 100, 0); memset(text + 100, 'a', n);
+        }
+        /* It is the office's text that counts. The card's has 18 octets; the office's has none, or more, and then has no limit. */
+        NO_PART("", 0, 0, 4); FIT(office.text_len = 70000; rename_track(k, 69872, 128));
+        UNFIT(office.text_len = 70000; rename_track(k, 69873, 128)); UNFIT(office.text_len = 69999; rename_track(k, 69872, 128));
+        /* The last tracks of the full catalogue. */
+        FIT(lend_full(193); *len = 512; rename_track(252 + k, 17, 3)); UNFIT(lend_full(193); *len = 512; rename_track(252 + k, 17, 2));
+    }
+    /* Parts may be shared, overlap, and stand in any order. */
+    FIT(EACH(0, 4) rename_track(k, 0, 20));
+    FIT(rename_track(0, 11, 6); rename_track(1, 0, 13); rename_track(2, 7, 4); rename_track(3, 3, 4));
+    /* While Inactive; with a state that is wrong as well; and with a name that is. */
+    EQUAL(start(0), 0); UNFIT(rename_track(3, 12, 1)); UNFIT(rename_track(3, 12, 1); s.turn = 9); s.turn = 3;
+    EQUAL(set_name("\xFF"), 224); EQUAL(makes(START, 0, 0, 0, "\xFF", 1, 0), 224);
+    /* 200 comes before it: a plain one, which carries nothing, and a bad title with its place. */
+    LEND_OFFICE(); rename_track(0, 12, 1); *len = 7; lent.len[GROUPS] = 11; all_give_200(__LINE__, UNTOUCHED, UNTOUCHED);
+    LEND_OFFICE(); rename_track(0, 12, 1); lent.text[12] = 0xFF; all_give_200(__LINE__, 1, 2);
+    LEND_OFFICE(); *len = 0; lent.text[12] = 0xFF; all_give_200(__LINE__, 1, 2);
+    rename_nothing();
+}
+
+/* Both services show the same titles, each that of its own track; the calls to one are nothing to the other. */
+static void both_titles_cases(void)
+{
+    LEND_OFFICE(); rename_track(0, 0, 7); rename_track(3, 11, 6);
+    EQUAL(IN(0, start(ALL_OPCODES)) || connects(0, 23) || IN(0, activate(1)) || subscribes(0, 5) || IN(1, subscribes(0, 5)), 0);
+    service = 0; SHOWS_PART(OFFICES, 0, "Abfahrt", 7); service = 1; SHOWS_PART(CARDS, 0, "", 0);
+    EQUAL(IN(1, activate(3)), 0); OWES_IN(0, 0, 0); OWES_IN(1, 0, B5); SHOWS_PART(OFFICES, 11, "\xC3\x9C" "bung", 6);
+    service = 0; SHOWS_PART(OFFICES, 0, "Abfahrt", 7); EQUAL(commands(0, TRACK + NEXT, 0), 0); OWES_IN(0, 0, B5);
+    SHOWS_PART(CARDS, 10, "Rast", 4); CHECK(IN(0, takes(0, 5, "Rast", 4)) && IN(1, takes(0, 5, "\xC3\x9C" "bung", 6)));
+    /* A title that changed in one is read on in the other. */
+    EQUAL(IN(0, reads(0, 5, 0)) || IN(1, reads(0, 5, 0)) || IN(0, commands(0, TRACK + PREVIOUS, 0)), 0); EQUAL(reads(0, 5, 1), 0x80);
+    CHECK(IN(1, reads_as(0, 5, 2, "bung", 4)));
+    /* The title call: 224 before 201, 201 before 219, of whichever service; refused it leaves the part as it was. */
+    EACH(0, 6) {
+        service = OVER[k]; EQUAL(title(), 219); EQUAL(said.part[0], UNTOUCHED); s.services[k % 2].player.order = 9; EQUAL(title(), 201);
+        EQUAL(said.part[1], UNTOUCHED); rename_track(2, 20, 1); EQUAL(title(), 224); EQUAL(said.part[2], UNTOUCHED);
+        lent.len[TEXT] = 17; EQUAL(title(), 200); EQUAL(said.part[0], UNTOUCHED); EQUAL(place.track, UNTOUCHED);
+        lent.len[TEXT] = 18; lent.text[17] = 0xC3; EQUAL(title(), 200); EQUAL(place.track, 3); EQUAL(place.offset, 3); lent.text[17] = 'l';
+        for (service = 0; service < 2; service++) {
+            EQUAL(title(), 224); rename_track(2, 20, 0); EQUAL(title(), 201); EQUAL(said.part[2], UNTOUCHED); rename_track(2, 20, 1);
+        }
+        s.services[k % 2].player.order = 3; rename_track(2, 0, 0);
+    }
+    rename_nothing();
+}
+
 /* ---- Cards */
 
 static tables got;
@@ -2203,6 +2522,32 @@ static int is_shown(const ref_player *p, uint32_t what, uint32_t offset, uint32_
     return len == (shown == NO_OBJECT ? 0 : 6) - offset && memcmp(said.out, object(shown) + offset, len) == 0;
 }
 
+/* W-210 a second time: where the title of a player's track begins, in which text, and how long it is. */
+typedef struct { uint32_t text, offset, len; const uint8_t *octets; } part;
+static part should_be_called(const ref_player *p)
+{
+    const uint32_t *own = lent.words[TRACKS] + 6 * p->track + 4, *given = office.words + 2 * p->track;
+    if (p->media == REF_INACTIVE) return (part){CARDS, 0, 0, lent.text};
+    if (office.renames && given[1] > 0) return (part){OFFICES, given[0], given[1], office.text + given[0]};
+    return (part){CARDS, own[0], own[1], lent.text + own[0]};
+}
+static int are_equal(part a, part b) { return a.len == b.len && memcmp(a.octets, b.octets, a.len) == 0; }
+/* Whether so many octets of the output are the title's from that offset on, at most so many. */
+static int is_called(const ref_player *p, uint32_t offset, uint32_t most, uint32_t len)
+{
+    part is = should_be_called(p);
+    return len == (is.len - offset > most ? most : is.len - offset) && memcmp(said.out, is.octets + offset, len) == 0;
+}
+
+/* How often a random call gave a name, kept one, used one by Next Track and by an end, used that of the current track, and dropped one;
+ * went to a track and to a group by 11 and 14; was refused with 0x13 for an object number; changed the title from or to one of the
+ * office's; went from one such to another track, which has the same part, or an equal one; read and took a title of the office's, and
+ * read on in one; found that one had changed, and that one was too short for that; said which text it is a part of, the card's or the
+ * office's; and was refused with 224. */
+enum { GIVEN, KEPT, BY_NEXT, BY_END, ONTO_ITSELF, DROPPED, TO_TRACK, TO_GROUP, NOT_OBJECT, RENAMED, SAME_PART, EQUAL_PART, READ_TITLE,
+       TOOK_TITLE, READ_ON, READ_CHANGED, READ_SHORT, OF_CARD, OF_OFFICE, NOT_FIT, MET };
+static unsigned long met[MET];
+
 /* W-208: "a client's slots running through the generic service and then the other": of all that is owed, the least by the clients
  * behind the one served last, and then by the places behind the client's mark. */
 static void take_is_next(const ref_state *was)
@@ -2217,14 +2562,13 @@ static void take_is_next(const ref_state *was)
     }
     CHECK(memcmp(next, said.served, sizeof next) == 0);
     EQUAL(s.turn, least == UNTOUCHED ? was->turn : next[0]);
-    /* Of 11 to 14 the present value is handed out. */
+    /* Of 5 and of 11 to 14 the present value is handed out. */
     if (next[2] >= 11 && next[2] <= 14) CHECK(is_shown(&s.services[next[1]].player, next[2], 0, said.served[3]));
+    if (next[2] == 5) {
+        const ref_player *p = &s.services[next[1]].player;
+        CHECK(is_called(p, 0, s.links[next[0]].mtu - 3, said.served[3])); met[TOOK_TITLE] += should_be_called(p).text == OFFICES;
+    }
 }
-
-/* How often a random call gave a name, kept one, used one by Next Track and by an end, used that of the current track, and dropped one;
- * went to a track and to a group by 11 and 14; and was refused with 0x13 for an object number. */
-enum { GIVEN, KEPT, BY_NEXT, BY_END, ONTO_ITSELF, DROPPED, TO_TRACK, TO_GROUP, NOT_OBJECT, MET };
-static unsigned long met[MET];
 
 /* W-209: what an object number is to do that is written to a player, which leads to the group and track that it is then to be on. */
 static int goes_there(const ref_player *b, uint32_t what, uint64_t number, uint32_t *group, uint32_t *track)
@@ -2242,6 +2586,21 @@ static int goes_there(const ref_player *b, uint32_t what, uint64_t number, uint3
     to.group = *group = (uint32_t)number - 0x2000;
     *track = to.order <= 2 ? lent.words[GROUPS][3 * to.group + 1] : least_above(&to, 0, 1);
     return 1;
+}
+
+/* What a call makes owed, and marks, of a characteristic whose value it changed or did not. `spared` is the client that is not told of
+ * it; `reader` is the one that read it at 0. */
+#define NOBODY 4u
+static void is_told(const ref_state *was, uint32_t c, int changed, uint32_t spared, uint32_t reader)
+{
+    EACH(0, 4) {
+        const ref_account *had = &was->services[service].accounts[k], *has = &ACCOUNT(k);
+        for (uint32_t slot = 0; slot < SLOTS; slot++) {
+            uint32_t told = changed && k != spared ? had->subscribed >> slot & 1 : 0;
+            if (SLOT[slot] == c) CHECK((has->owed >> slot & 1) == ((had->owed >> slot & 1) | told));
+        }
+        EQUAL(has->fresh >> c & 1, changed ? 0 : k == reader ? 1 : had->fresh >> c & 1);
+    }
 }
 
 /* The calls that read or write a player, by whichever client. */
@@ -2281,20 +2640,32 @@ static void object_rules_hold(const ref_state *was, uint32_t refusal, uint32_t c
     name = moved || by_next || by_end ? 0 : call == WRITE && what == 12 ? (uint32_t)object_number - 0x1000 + 1 : b->next;
     EQUAL(a->next, name);
     for (uint32_t c = 10; c < 15; c++) {
-        uint32_t slot = c < 11 ? 32 : c - 4;
-        int changed = should_show(b, c) != should_show(a, c);
-        EACH(0, 4) {
-            const ref_account *had = &was->services[service].accounts[k], *has = &ACCOUNT(k);
-            uint32_t fresh = had->fresh >> c & 1;
-            if (c > 10) {
-                uint32_t told = changed && !(by_object && what == c && k == client) ? had->subscribed >> slot & 1 : 0;
-                CHECK((has->owed >> slot & 1) == ((had->owed >> slot & 1) | told));
-            }
-            if (call == READ && what == c && number == 0 && k == client) fresh = 1;
-            EQUAL(has->fresh >> c & 1, changed ? 0 : fresh);
-        }
+        is_told(was, c, should_show(b, c) != should_show(a, c), by_object && what == c ? client : NOBODY,
+                call == READ && what == c && number == 0 ? client : NOBODY);
     }
     if (call == READ && what >= 10 && what <= 14) CHECK(is_shown(a, what, number, said.length));
+}
+
+/* W-210: a call to `service` that was accepted, or a read of 5 that 0x80 or 0x07 refused. The titles before and after it are those of
+ * what it was lent. */
+static void title_rules_hold(const ref_state *was, uint32_t refusal, uint32_t call, uint32_t client, uint32_t what, uint32_t number)
+{
+    const ref_player *b = &was->services[service].player, *a = &PLAYER;
+    part before = should_be_called(b), after = should_be_called(a);
+    int reads_it = call == READ && what == 5, of_office = before.text == OFFICES || after.text == OFFICES;
+    if (reads_it) {
+        int fresh = (was->services[service].accounts[client].fresh >> 5 & 1) != 0;
+        EQUAL(refusal, number > 0 && !fresh ? 0x80 : number > before.len ? 0x07 : 0);
+        if (refusal == 0) CHECK(is_called(b, number, s.links[client].mtu - 1, said.length));
+        if (of_office) met[refusal == 0x80 ? READ_CHANGED : refusal == 0x07 ? READ_SHORT : number > 0 ? READ_ON : READ_TITLE]++;
+    }
+    is_told(was, 5, !are_equal(before, after), NOBODY, reads_it && refusal == 0 && number == 0 ? client : NOBODY);
+    if (of_office && !are_equal(before, after)) met[RENAMED]++;
+    if (of_office && are_equal(before, after) && a->track != b->track) met[before.octets == after.octets ? SAME_PART : EQUAL_PART]++;
+    if (call == SAY_TITLE) {
+        EQUAL(said.part[0], after.text); EQUAL(said.part[1], after.offset); EQUAL(said.part[2], after.len);
+        met[after.text == OFFICES ? OF_OFFICE : OF_CARD]++;
+    }
 }
 
 static void exchange_services(void)
@@ -2338,14 +2709,19 @@ static uint32_t tries(uint32_t call, uint32_t client, uint32_t what, uint32_t nu
     refusal = makes((int)call, client, what, number, octets, len, room);
     (refusal == 0 ? accepted : refused)[call]++;
     /* W-207: 207 and its offset, where nothing comes before; W-208: "generic (0) checked first" */
-    if ((call == START || call == SET_NAME) && refusal != 200 && refusal != 201 && refusal != 219) {
+    if ((call == START || call == SET_NAME) && refusal != 200 && refusal != 224 && refusal != 201 && refusal != 219) {
         uint32_t bad = call == START && service > 0 ? bad_at(other.name, other.len) : bad_at(octets, len);
         if (bad == UNTOUCHED && call == START) bad = service > 0 ? bad_at(octets, len) : bad_at(other.name, other.len);
         EQUAL(refusal, bad == UNTOUCHED ? 0 : 207); EQUAL(place.offset, bad);
     }
+    met[NOT_FIT] += refusal == 224;
     if (call == TAKE && refusal == 0) take_is_next(&was);
     if (may_move((int)call) && (refusal == 0 || (refusal == 0x13 && what != 15))) {
         object_rules_hold(&was, refusal, call, client, what, number, octets);
+    }
+    if ((refusal == 0 && (may_move((int)call) || call == SAY_TITLE)) ||
+        (call == READ && what == 5 && (refusal == 0x80 || refusal == 0x07))) {
+        title_rules_hold(&was, refusal, call, client, what, number);
     }
     if (call != START && call != TAKE) is_the_called_ones(&was, refusal, (int)call, client, what, number, octets, len, room);
     return refusal;
@@ -2362,7 +2738,7 @@ static const uint8_t *random_number(uint32_t what)
 
 static uint32_t random_call(void)
 {
-    static const uint32_t WRITABLE[9] = {7, 8, 11, 12, 14, 15, 18, 18, 18}, RANGE[CALLS] = {1, 1, 65, 1, 300, 600, 1, 1, 1, 140, 1, 1};
+    static const uint32_t WRITABLE[9] = {7, 8, 11, 12, 14, 15, 18, 18, 18}, RANGE[CALLS] = {1, 1, 65, 1, 300, 600, 1, 1, 1, 140, 1, 1, 1};
     uint32_t call = below(CALLS + 6), client = one_in(24) ? 4 : below(4), what = one_in(12) ? below(30) : SLOT[below(SLOTS)], number;
     uint8_t octets[140], beside[140];
     uint32_t refusal;
@@ -2401,24 +2777,83 @@ static void random_name(void)
     (void)tries(call, client, what, call == ACTIVATE ? below(4) : one_in(2) ? below(400) : 10000, octets, what < 15 ? 6 : 1, ROOM);
 }
 
-/* A call with an octet of the state, or a word, an octet and a length of the catalogue, changed and then changed back. */
+/* A part of a text, as its offset and its length: most begin and end between characters, and have at most 128 octets. */
+static void random_part(const uint8_t *text, uint32_t octets, uint32_t words[2])
+{
+    uint32_t from = below(octets + 1), to = from + below(octets - from + 1);
+    int apart = one_in(8);
+    while (!apart && from > 0 && from < octets && (text[from] & 0xC0) == 0x80) from--;
+    if (to > from + 128 && !one_in(30)) to = from + 128;
+    while (!apart && to > from && to < octets && (text[to] & 0xC0) == 0x80) to--;
+    words[0] = from;
+    words[1] = to - from;
+}
+
+/* Titles for the lent catalogue that 224 does not refuse. The office's text is sometimes a copy of the card's, sometimes of one letter,
+ * from which the titles are short, so that many are equal. Some tracks are called as the card calls one of them, some as the office
+ * calls another; some are not renamed, and sometimes none is. */
+static void lend_random_titles(void)
+{
+    uint8_t text[300];
+    uint32_t octets = below(300), tracks = (uint32_t)(lent.len[TRACKS] / 6), how = below(3);
+    if (how == 0) random_text(text, octets, 3); else if (how == 1) memcpy(text, lent.text, octets); else memset(text, 'a', octets);
+    lend_office(text, octets);
+    EACH(0, tracks) {
+        uint32_t *words = office.words + 2 * k;
+        random_part(text, octets, words);
+        if (how == 2) words[1] = 1 + below(2);
+        if (how < 2 && one_in(3)) memcpy(words, lent.words[TRACKS] + 6 * below(tracks) + 4, 8);
+        if (k > 0 && one_in(3)) memcpy(words, office.words + 2 * below(k), 8);
+        if (one_in(4) || is_unfit(words[0], words[1])) { words[0] = any(); words[1] = 0; }
+    }
+    office.renames = !one_in(6);
+}
+
+/* A word, an octet or a length of what the office lends is changed. */
+static void damage_office(void)
+{
+    uint32_t how = below(4);
+    if (how < 2) office.words[below((uint32_t)office.words_len + 1)] = one_in(2) ? 0xFFFFFFFFu - below(200) : below(200);
+    if (how == 2) office.text[below((uint32_t)office.text_len + 1)] = (uint8_t)any();
+    if (how == 3 && one_in(2)) office.words_len = below((uint32_t)office.words_len + 3);
+    else if (how == 3) office.text_len = below((uint32_t)office.text_len + 1);
+}
+
+/* W-210: one of the calls that read titles, in parts too, that change and take them, and that say where they stand; before some of them
+ * other titles are lent. */
+static void random_title(void)
+{
+    static const struct { uint32_t call, what; } HOW[8] = {{READ, 5}, {READ, 5}, {READ, 5}, {TAKE, 0}, {SAY_TITLE, 0},
+                                                           {WRITE, 18}, {WRITE, 11}, {ACTIVATE, 0}};
+    uint32_t how = below(8), number = one_in(2) ? 0 : below(HOW[how].call == ACTIVATE ? 4 : 30);
+    uint8_t octets[6] = {(uint8_t)(TRACK + below(4))};
+    service = below(2);
+    if (HOW[how].what == 11) memcpy(octets, random_number(11), 6);
+    if (one_in(4)) lend_random_titles();
+    (void)tries(HOW[how].call, below(3), HOW[how].what, number, octets, HOW[how].what == 11 ? 6 : 1, ROOM);
+}
+
+/* A call with an octet of the state, or a word, an octet and a length of the catalogue, or one of them of the titles, changed and then
+ * changed back. */
 static void damaged_call(void)
 {
     static tables right;
+    static titles right_titles;
     ref_state stood = s;
     uint32_t table = below(3), refusal;
-    right = lent;
+    right = lent; right_titles = office;
+    if (one_in(2)) damage_office();
     if (one_in(2)) {
         ((uint8_t *)&s)[below(sizeof s)] = (uint8_t)any();
-    } else {
+    } else if (one_in(2)) {
         lent.words[table][below((uint32_t)lent.len[table] + 1)] = one_in(2) ? 0xFFFFFFFFu - below(3) : below(9);
         lent.text[below(18)] = one_in(8) ? (uint8_t)any() : 'b';
         lent.len[below(4)] -= one_in(4) ? below(4) : 0;
     }
     judge();
     refusal = random_call();
-    AS_JUDGED(refusal);
-    lent = right;
+    AS_JUDGED(refusal); EQUAL(refusal == 224, !judged.wrong && office_is_unfit());
+    lent = right; office = right_titles;
     s = stood;
 }
 
@@ -2435,31 +2870,30 @@ static void lend_random(void)
         memcpy(lent.words[GROUPS] + 3 * k, record, sizeof record); track += count;
     }
     EACH(0, tracks) {
-        uint32_t starts = below(4), last = 0, from = below(octets + 1), to = from + below(octets - from + 1);
-        int apart = one_in(8);
+        uint32_t starts = below(4), last = 0;
         for (uint32_t j = 0; j < starts; j++) lent.words[SEGMENTS][segment + j] = last += j == 0 ? 0 : 1 + below(9);
-        /* Most titles begin and end between characters. */
-        while (!apart && from > 0 && from < octets && (lent.text[from] & 0xC0) == 0x80) from--;
-        if (to > from + 128 && !one_in(30)) to = from + 128;
-        while (!apart && to > from && to < octets && (lent.text[to] & 0xC0) == 0x80) to--;
-        const uint32_t record[6] = {one_in(4) ? UNKNOWN : last + 1, below(5), segment, starts, from, to - from};
+        const uint32_t record[4] = {one_in(4) ? UNKNOWN : last + 1, below(5), segment, starts};
         memcpy(lent.words[TRACKS] + 6 * k, record, sizeof record); segment += starts;
+        random_part(lent.text, octets, lent.words[TRACKS] + 6 * k + 4);
     }
     lent.len[SEGMENTS] = segment;
     if (one_in(4)) lent.words[table][below((uint32_t)lent.len[table] + 1)] = one_in(2) ? 0xFFFFFFFFu - below(3) : below(9);
     if (one_in(16)) { table = below(4); lent.len[table] -= lent.len[table] > 0; }
 }
 
-/* How many random catalogues stand, have a bad title, break another rule, and do both. */
+/* How many random catalogues stand, have a bad title, break another rule, and do both. The titles lent beside each are sometimes such as
+ * 224 refuses, which is given where the catalogue stands, and by the calls on a state alone. */
 static unsigned long kinds[4];
 static void random_catalogue(void)
 {
     uint32_t refusal;
-    lend_random(); judge();
+    int of_tables = one_in(3);
+    lend_random(); judge(); lend_random_titles();
+    if (one_in(3)) damage_office();
     kinds[judged.beside ? 3 : judged.wrong ? judged.track == UNTOUCHED ? 2 : 1 : 0]++;
-    refusal = one_in(8) ? start(ALL_OPCODES) : one_in(8) ? writes_card(below(9) * 512)
-            : one_in(4) ? writes_object(GROUP_OBJECT + (int)below(2), below(9), below(100)) : random_call();
-    AS_JUDGED(refusal);
+    refusal = !of_tables ? one_in(8) ? start(ALL_OPCODES) : random_call()
+            : one_in(3) ? writes_card(below(9) * 512) : writes_object(GROUP_OBJECT + (int)below(2), below(9), below(100));
+    AS_JUDGED(refusal); EQUAL(refusal == 224, !of_tables && !judged.wrong && office_is_unfit());
     if (!judged.wrong) all_go_round();
 }
 
@@ -2515,6 +2949,7 @@ static void history(void)
 {
     one_in(4) ? lend_full(one_in(2) ? 193 : 256) : lend_sample();
     lent.words[TRACKS][6 * below(4)] = one_in(3) ? UNKNOWN : END;
+    lend_random_titles();
     service = below(2); EQUAL(start(one_in(3) ? any() : ALL_OPCODES), 0);
     EACH(0, 3 * ROUND) {
         service = k / SLOTS % 2;
@@ -2522,6 +2957,7 @@ static void history(void)
         EQUAL((k % ROUND == 0 ? connects(k / ROUND, 23 + below(200)) : 0) + subscribes(k / ROUND, SLOT[k % SLOTS]), 0);
     }
     EACH(0, 100) random_name();
+    EACH(0, 100) random_title();
     EACH(0, 150) { if (one_in(6)) damaged_call(); else (void)random_call(); }
     EACH(0, 30) { damaged_octets(); random_object(); }
     (void)writes_card(below(50000));
@@ -2537,10 +2973,12 @@ int main(int argc, char **argv)
         move_cases(); previous_segment_cases(); running_cases(); media_cases(); owed_cases(); take_cases();
         name_cases(); order_cases(); state_cases();
         value_cases(); object_mark_cases(); object_write_cases(); name_kept_cases(); name_used_cases(); told_cases();
+        renamed_cases(); renamed_owed_cases(); renamed_read_cases();
     }
     service = 0;
     catalogue_cases(); title_cases();
     start_cases(); number_cases(); apart_cases(); both_owed_cases(); mark_cases(); round_cases(); both_states_cases();
+    rename_refusal_cases(); both_titles_cases();
     object_cases(); object_read_cases(); card_cases(); reason_cases(); short_cases(); writer_cases(); sheet_cases();
     for (unsigned long k = 0; k < histories; k++) history();
     EACH(0, CALLS) { CHECK(histories < 40 || (accepted[k] > 0 && refused[k] > 0)); made += accepted[k] + refused[k]; }

@@ -6,6 +6,11 @@ is whether it is encrypted of a connect, and the part of the state of damage. A 
 octet of the characteristic; its text is an octet with the length of service 0's name, that name, four octets, little endian, with service 1's mask, one
 with its Content Control ID, and service 1's name.
 
+A frame of titles is no call: it says what the office's own titles (document 02, W-210) are that are lent to every call behind it. Where its octet of the
+characteristic is 1, nothing is renamed: an empty text and an entry of zeros for each track of the catalogue that the call is made with; the script
+begins with these. Where it is 0, the word is the number of the entries' words, at most 64; the text is these words, little endian, and behind them the
+office's text, at most 1,024 octets. Its line is 'titles none', or 'titles' with the numbers of words and of octets, and no state.
+
 A line is the answer and, for each of the two services (document 02, W-208), the state of its player that the call leaves and what is seen of each of the
 four clients in it. The state of a player is written
 
@@ -14,7 +19,8 @@ four clients in it. The state of a player is written
 with the number of the named next track (W-209) as the last part, or '-' where none is named. In the script the last part is left out where none is.
 The state stays as it is where a call is refused, is one that does not touch the player, or is to the other service. The answer of a refused call is
 'refused', the number and, behind it, what 200 and 207 carry (W-207): 'refused 200 1 5' has the track and the offset of a bad title, 'refused 207 0' the
-offset within the name. A plain 200 and every other refusal carry nothing.
+offset within the name. A plain 200 and every other refusal carry nothing. The answer of the title call (W-210) is 'title card' or 'title office', by the
+text that the title of the service's current track stands in, the offset there, the length, and the octets.
 
 A call is to the service that it names or, where it names none, to the one that `on` named last. What falls due by it is given as characteristics of that
 service behind the client: 'left 17 18; screen 17'. Each client is seen in each service, as 'ATT_MTU: subscribed; owed; waiting results', or '-' while it
@@ -23,16 +29,18 @@ and `seen` holds them to what was worked out by hand.
 """
 import struct
 
-# The catalogues of the program: document 01's sample; the same with long titles; one whose group 3 is its own parent; one whose groups end inside a
-# record; the sample with other segments in track 0, from 0, 200, 450 and 5800 on, of which the first two and the last are shorter than 300; the sample
-# with tracks 1, 2 and 3 still running, the first of them with segments from 0, 1500 and 8639999 on; the sample with other titles, whose text is the 8
-# octets 'Pr\xC3\xA9lude', the 10 octets 'Inter\xC3ezzo' and the 4 octets 'Cod\xFF', so that the titles of tracks 1 and 3 are bad, at 5 and at 3, and
-# that of track 2 is empty; the same with group 3 its own parent; the sample with folders, group 0 with track 0, group 1 in it with tracks 1 and 2, and
-# in that one group 2 without tracks and group 3 with track 3; one of 64 groups, of which the last has all 256 tracks, of duration 0, without segments
-# and with empty titles, and the others none.
+# The catalogues of the program: document 01's sample, whose text is the 10 octets '\xC3\x9Cberfahrt', the 4 octets 'Rast' and the 4 octets 'Ziel', the
+# titles of tracks 0, 1 and 3 at 0, 10 and 14, with that of track 2 empty at 14; the same with long titles; one whose group 3 is its own parent; one
+# whose groups end inside a record; the sample with other segments in track 0, from 0, 200, 450 and 5800 on, of which the first two and the last are
+# shorter than 300; the sample with tracks 1, 2 and 3 still running, the first of them with segments from 0, 1500 and 8639999 on; the sample with other
+# titles, whose text is the 8 octets 'Pr\xC3\xA9lude', the 10 octets 'Inter\xC3ezzo' and the 4 octets 'Cod\xFF', so that the titles of tracks 1 and 3
+# are bad, at 5 and at 3, and that of track 2 is empty; the same with group 3 its own parent; the sample with folders, group 0 with track 0, group 1 in
+# it with tracks 1 and 2, and in that one group 2 without tracks and group 3 with track 3; one of 64 groups, of which the last has all 256 tracks, of
+# duration 0, without segments and with empty titles, and the others none.
 SAMPLE, LONG, OWN_PARENT, CUT, CLOSE, RUNNING, BAD_TITLES, BAD_AND_WRONG, FOLDERS, MANY = range(10)
 
-(NOTE, START, SET_NAME, ACTIVATE, DEACTIVATE, ADVANCE, CONNECT, DISCONNECT, SUBSCRIBE, UNSUBSCRIBE, READ, WRITE, TAKE, DAMAGE) = range(14)
+(NOTE, START, SET_NAME, ACTIVATE, DEACTIVATE, ADVANCE, CONNECT, DISCONNECT, SUBSCRIBE, UNSUBSCRIBE, READ, WRITE, TAKE, DAMAGE,
+ TITLES, TITLE) = range(16)
 
 # The two services: "generic (0)" and the named player.
 GENERIC, NAMED = range(2)
@@ -264,3 +272,19 @@ def damage(part, number, who=0, shows=None, beside=None, state=None, service=Non
     for each in SERVICES:
         DAMAGED[each][who] = shows if each == service else beside
     made(DAMAGE, who, service, part, number, b'', 'damaged', SAMPLE)
+
+
+def titles(entries=None, text=b''):
+    """The office's own titles (W-210) from here on: "an offset and length per track, length 0 meaning not renamed", in the office's text. An entry of
+    one word is one that the table ends in. Without entries nothing is renamed."""
+    if entries is None:
+        frame(SAMPLE, TITLES, 0, 0, 1, 0, 0, b'', 'titles none')
+        return
+    words = [number for entry in entries for number in entry]
+    assert len(words) <= 64 and len(text) <= 1024, (CASES[0], len(words), len(text))
+    frame(SAMPLE, TITLES, 0, 0, 0, len(words), 0, b''.join(map(word, words)) + text, 'titles %d %d' % (len(words), len(text)))
+
+
+def title(answer, catalogue=SAMPLE, service=None):
+    """'title office 6 3 4b 61 69': the text, the offset, the length and the octets of the title; or a refusal."""
+    made(TITLE, 0, to(service), 0, 0, b'', answer, catalogue)

@@ -1,5 +1,6 @@
 #!/usr/bin/env python3
-"""The vectors of the card reader, the catalogue check, the text check, the cue sheet reader, the card writer, and the writing and reading of objects.
+"""The vectors of the card reader, the catalogue check, the text check, the cue sheet reader, the card writer, the writing and reading of objects, and
+the check of the office's own titles.
 
     python3 vectors/make.py            writes the files below
     python3 vectors/make.py --check    compares them, and fails on a difference
@@ -10,13 +11,14 @@
 
 Each vector has its answer beside it, worked out by hand from document 01 and from these requests of document 02: W-205 for a
 card with a bad block, W-206 for one with a block that is not full, W-202 for a running recording, W-207 for a bad title, W-212
-for a sheet, W-204 for a written card, W-209 for an object. Only four things are computed: the check numbers of the tables, from
-the tables that the vector was made of; those of written cards, from cards made by document 01's words on blocks; those of objects,
-from their entries, which are stated, by the tables of sections 4.2 and 4.4 of document 001; and the starts of the two sheets that
-have 1,024 and 3,640 of them, by the request's formula. Many sheets, some cards and some catalogues are variants that a loop
-makes, with one answer set by hand for all of them or, of a card, with the number that REASONS sets for each reason. The refused
-catalogues of REFUSED_TITLES are also ones to be written, with the same answer. A comment in quotation marks is a sentence of
-document 01, and of document 02 where a request is named with it or it stands over sheets or written cards.
+for a sheet, W-204 for a written card, W-209 for an object, W-210 for titles of the office. Only four things are computed: the
+check numbers of the tables, from the tables that the vector was made of; those of written cards, from cards made by document
+01's words on blocks; those of objects, from their entries, which are stated, by the tables of sections 4.2 and 4.4 of document
+001; and the starts of the two sheets that have 1,024 and 3,640 of them, by the request's formula. Many sheets, some cards, some
+catalogues and some titles are variants that a loop makes, with one answer set by hand for all of them or, of a card, with the
+number that REASONS sets for each reason. The refused catalogues of REFUSED_TITLES are also ones to be written, with the same
+answer. A comment in quotation marks is a sentence of document 01, and of document 02 where a request is named with it or it
+stands over sheets, written cards, objects or the office's titles.
 """
 import struct
 import sys
@@ -25,7 +27,7 @@ from vector_files import write_or_compare
 
 WORD = 0xFFFFFFFF
 
-CARD, CATALOGUE, TEXT, SHEET, WRITE, GROUP_OBJECT, SEGMENTS_OBJECT, GROUP_READ, SEGMENTS_READ = range(1, 10)
+CARD, CATALOGUE, TEXT, SHEET, WRITE, GROUP_OBJECT, SEGMENTS_OBJECT, GROUP_READ, SEGMENTS_READ, RENAMED = range(1, 11)
 GROUP_KIND, TRACK_KIND, SEGMENT_KIND, TEXT_KIND = 1, 2, 3, 4
 
 # One entry for each vector: its kind, its name, the octets of its case, its answer.
@@ -1931,6 +1933,152 @@ read_segments('read-segments-of-a-group', '222', group_octets(track_entries(0, 3
 read_group('read-group-of-segments', '222', segment_octets([(b'', 0), (b'', 1500), (b'', 4000)]), 9)
 
 
+# ---- A catalogue with the office's own titles (W-210): 'fine', or 200 with what it carries, or 224, which carries nothing. A comment in quotation
+# ---- marks is a sentence of W-210.
+
+def renamed(name, answer, entries, office, tables=SAMPLE):
+    """A catalogue, the entries of its tracks, each an offset and a length, and the office's text. An entry of one word is one that the table ends in."""
+    listed = flat(entries)
+    add(RENAMED, 'renamed-' + name, lent_tables(tables) + words((len(listed), len(office))) + words(listed) + office, answer)
+
+
+def renamed_one(name, answer, entry, office, track=3):
+    """The sample with one of its tracks renamed, the last where none is named."""
+    renamed(name, answer, put([NOT_RENAMED] * 4, track, entry), office)
+
+
+# "length 0 meaning not renamed"
+NOT_RENAMED = (0, 0)
+HAFEN = b'Hafen'
+
+renamed('none', 'fine', [NOT_RENAMED] * 4, b'')
+renamed('none-of-a-text', 'fine', [NOT_RENAMED] * 4, HAFEN)
+renamed('none-of-a-bad-text', 'fine', [NOT_RENAMED] * 4, b'\xFF\xC3')
+for track in (0, 1, 2, 3):
+    renamed_one('track-%d' % track, 'fine', (0, 5), HAFEN, track)
+renamed('all', 'fine', [(0, 5), (5, 3), (8, 6), (14, 4)], HAFEN + b'KaiStilleZiel')
+renamed('all-share-a-part', 'fine', [(0, 5)] * 4, HAFEN)
+renamed('all-overlap', 'fine', [(0, 5), (1, 4), (0, 4), (2, 1)], HAFEN)
+renamed('as-on-the-card', 'fine', [(0, 8), (8, 10), NOT_RENAMED, (18, 4)], SAMPLE_TEXT)
+
+# "not one entry per track": none at all, one too few, one too many, and a table that ends inside an entry; also where no entry would rename.
+for count in (0, 1, 3, 5, 8):
+    renamed('%d-entries-for-4-tracks' % count, '224', [(0, 5)] * count, HAFEN)
+renamed('3-entries-of-zeros', '224', [NOT_RENAMED] * 3, b'')
+renamed('5-entries-of-zeros', '224', [NOT_RENAMED] * 5, b'')
+for count in (0, 3, 4):
+    renamed('%d-entries-and-a-word' % count, '224', [(0, 5)] * count + [(0,)], HAFEN)
+renamed('4-entries-of-zeros-and-a-word', '224', [NOT_RENAMED] * 4 + [(0,)], b'')
+renamed('a-word-for-each-track', '224', [(0,)] * 4, HAFEN)
+renamed('a-record-for-each-track', '224', [(0,) * 6] * 4, HAFEN)
+# The number of the tracks, and not of the groups: four of each in the sample.
+ONE_OF_FOUR = Tables([(0, 0, 0), (0, 0, 0), (0, 0, 0), (0, 0, 1)], [PLAIN])
+renamed('one-track-of-four-groups', 'fine', [(0, 5)], HAFEN, ONE_OF_FOUR)
+renamed('four-groups-of-one-track', '224', [(0, 5)] * 4, HAFEN, ONE_OF_FOUR)
+renamed('one-track-and-no-entry', '224', [], HAFEN, ONE_OF_FOUR)
+# Without tracks there is no entry.
+renamed('empty-catalogue', 'fine', [], b'', Tables())
+renamed('empty-catalogue-with-a-text', 'fine', [], HAFEN, Tables())
+renamed('empty-catalogue-with-a-bad-text', 'fine', [], b'\xFF', Tables())
+renamed('empty-catalogue-one-entry', '224', [NOT_RENAMED], b'', Tables())
+renamed('empty-catalogue-one-entry-of-a-text', '224', [(0, 5)], HAFEN, Tables())
+renamed('empty-catalogue-one-word', '224', [(0,)], b'', Tables())
+renamed('no-tracks-in-64-groups', 'fine', [], b'', Tables(bare_groups(64)))
+renamed('no-tracks-in-64-groups-one-entry', '224', [NOT_RENAMED], b'', Tables(bare_groups(64)))
+
+# "a part of length above 0 that is outside the text". The card's text has 22 octets, and plays no part.
+renamed_one('ends-with-the-text', 'fine', (3, 2), HAFEN)
+renamed_one('last-octet', 'fine', (4, 1), HAFEN)
+renamed_one('beyond-by-one', '224', (3, 3), HAFEN)
+renamed_one('whole-beyond-by-one', '224', (0, 6), HAFEN)
+renamed_one('begins-at-the-end', '224', (5, 1), HAFEN)
+renamed_one('begins-beyond', '224', (6, 1), HAFEN)
+renamed_one('in-an-empty-text', '224', (0, 1), b'')
+renamed_one('in-the-text-of-the-card-alone', '224', (8, 10), HAFEN)
+renamed_one('beyond-the-text-of-the-card', 'fine', (23, 5), b'.' * 23 + HAFEN)
+# Sums that are inside only where they are taken in 32 bits.
+for offset, length in ((WORD, 1), (WORD, 2), (0xFFFFFFFC, 8), (0xFFFFFF80, 128), (0xFFFFFF81, 128)):
+    renamed_one('wraps-%d-and-%d' % (offset, length), '224', (offset, length), HAFEN)
+renamed_one('wraps-first-of-four', '224', (0xFFFFFFFC, 8), HAFEN, 0)
+# Offsets that are 0 in 31 bits and in 16.
+renamed_one('offset-with-the-highest-bit', '224', (0x80000000, 5), HAFEN)
+renamed_one('offset-65536-of-five', '224', (65536, 5), HAFEN)
+# "an offset and length per track, length 0 meaning not renamed": such an entry is not looked at further.
+for offset in (5, 6, 0x80000000, WORD):
+    renamed_one('length-0-at-%d' % offset, 'fine', (offset, 0), HAFEN)
+renamed('length-0-at-greatest-of-all', 'fine', [(WORD, 0)] * 4, b'')
+renamed_one('length-0-inside-a-character', 'fine', (1, 0), b'\xC3\xA9')
+
+# "a length over 128", though the text has as many octets where it is no more than 1,000.
+LONG_OFFICE = b'h' * 1000
+for length, answer in ((127, 'fine'), (128, 'fine'), (129, '224'), (256, '224'), (1000, '224'), (65536, '224'), (65664, '224'), (0x80000005, '224'),
+                       (WORD, '224')):
+    renamed_one('length-%d' % length, answer, (0, length), LONG_OFFICE)
+renamed_one('length-129-of-129', '224', (0, 129), b'h' * 129)
+renamed_one('length-128-at-the-end', 'fine', (872, 128), LONG_OFFICE)
+renamed_one('length-128-beyond-by-one', '224', (873, 128), LONG_OFFICE)
+renamed_one('greatest-length-at-1', '224', (1, WORD), LONG_OFFICE)
+renamed_one('halves-of-2-to-the-32', '224', (0x80000000, 0x80000000), LONG_OFFICE)
+# The office's text has no limit: above the 32,768 octets of a card's, and at an offset above 65,535.
+renamed_one('in-a-text-of-40000', 'fine', (39995, 5), b'\xFF' * 39995 + HAFEN)
+renamed_one('in-a-text-of-40000-beyond-by-one', '224', (39996, 5), b'\xFF' * 39995 + HAFEN)
+renamed_one('in-a-text-of-65600', 'fine', (65595, 5), b'\xFF' * 65595 + HAFEN)
+# Octets 65,590 to 65,594 are no text; at 54 to 58, where an offset of 16 bits would lead, they are.
+renamed_one('in-a-text-of-65600-bad', '224', (65590, 5), b'.' * 65590 + b'\xFF' * 5 + HAFEN)
+
+# ".. or not UTF-8": as the titles of a card are (RFC 3629). The first and the last characters of the rows of its syntax.
+for form in ('00', '7F', 'C280', 'E0A080', 'ED9FBF', 'EE8080', 'F0908080', 'F48FBFBF'):
+    renamed_one('character-' + form, 'fine', (2, 1 + len(form) // 2), b'\xFF\xFFn' + bytes.fromhex(form))
+# Overlong forms, surrogates, what lies above U+10FFFF, a tail where a character has to begin, characters that the part's end cuts, and a letter for a
+# tail.
+for form in ('C080', 'C1BF', 'E09FBF', 'F08FBFBF', 'EDA080', 'EDBFBF', 'F4908080', 'F5808080', 'FF', '80', 'C3', 'E2', 'E282', 'F09D84', 'C341'):
+    renamed_one('form-' + form, '224', (2, 1 + len(form) // 2), b'\xFF\xFFn' + bytes.fromhex(form))
+renamed_one('form-C080-between', '224', (1, 6), b'.abc\xC0\x80d.', 1)
+renamed_one('form-F4908080-between', '224', (1, 8), b'.abc\xF4\x90\x80\x80d.', 0)
+# Parts that begin and end with a character, or inside one, of which the text has the rest. The ten octets are characters of one, two, three and four.
+for offset, length, answer in ((0, 10, 'fine'), (3, 7, 'fine'), (1, 2, 'fine'), (0, 6, 'fine'), (0, 2, '224'), (2, 8, '224'), (2, 1, '224'),
+                               (0, 5, '224'), (4, 6, '224'), (0, 7, '224'), (0, 9, '224'), (7, 3, '224'), (9, 1, '224')):
+    renamed_one('part-%d-%d-of-characters' % (offset, length), answer, (offset, length), GOOD)
+renamed_one('128-bad-last', '224', (0, 128), b'h' * 127 + b'\xFF')
+renamed_one('128-cut-2', '224', (0, 128), b'h' * 127 + b'\xC3\xA9')
+renamed_one('128-cut-4', '224', (0, 128), b'h' * 125 + b'\xF0\x9D\x84\x9E')
+renamed_one('128-whole-4', 'fine', (0, 128), b'h' * 124 + b'\xF0\x9D\x84\x9E')
+renamed_one('128-between-bad-octets', 'fine', (1, 128), b'\xFF' + b'h' * 128 + b'\xFF')
+# The parts alone: what lies before, between and behind them is not looked at.
+AROUND = b'\xFFab\xC3\xFFcd\xF0\x9D'
+renamed('around-bad-text', 'fine', [(1, 2), NOT_RENAMED, (5, 2), (1, 1)], AROUND)
+for offset, length in ((0, 3), (1, 3), (4, 3), (5, 3)):
+    renamed('around-bad-text-%d-%d' % (offset, length), '224', [(1, 2), (offset, length), (5, 2), (1, 1)], AROUND)
+# One bad entry, of each track, beside good ones; and three reasons at once.
+for track in (0, 1, 2, 3):
+    renamed('bad-beside-good-%d' % track, '224', put([(0, 5)] * 4, track, (5, 1)), HAFEN + b'\xFF')
+renamed_one('too-long-and-outside-and-bad', '224', (0, 130), b'\xFF' * 129)
+
+# "224, .., after 200": a plain 200, or one with the track and the offset of a bad title of the card (W-207), also where that track is renamed.
+for rule, answer, records in (('title', '200 1 5', BAD_TITLE), ('starts', '200', BAD_STARTS), ('cut-groups', '200', CUT_GROUPS),
+                              ('cut-tracks', '200', (SAMPLE_GROUPS, SAMPLE_TRACKS + [(100, 0, 3)], SAMPLE_SEGMENTS, SAMPLE_TEXT)),
+                              ('title-and-starts', '200', (SAMPLE_GROUPS, SAMPLE_TRACKS, [0, 1500, 1500], BAD_TEXT))):
+    for entries_are, entries, office in (('good', [(0, 5)] * 4, HAFEN), ('not-utf-8', [(0, 5)] * 4, b'\xFFafen'), ('too-few', [(0, 5)] * 3, HAFEN)):
+        renamed('200-%s-and-entries-%s' % (rule, entries_are), answer, entries, office, Tables(*records))
+renamed('200-257-tracks-and-entries', '200', [NOT_RENAMED] * 257, b'', Tables([(0, 0, 257)], [PLAIN] * 257))
+renamed('200-first-title-and-entries-too-many', '200 0 0', [(0, 5)] * 2, HAFEN, Tables(*one_title(b'\xFFabc')))
+
+# 256 tracks, each renamed to 128 octets, with characters of four, three, two and one octets, in the order of the tracks and from behind.
+FULL_OFFICE = b''.join(b'\xF0\x9D\x84\x9E' * 8 + b'\xE2\x82\xAC' * 10 + b'\xC3\xA9' * 31 + b'+%03d' % i for i in range(256))
+FULL_ENTRIES = [(128 * i, 128) for i in range(256)]
+renamed('full', 'fine', FULL_ENTRIES, FULL_OFFICE, FULL)
+renamed('full-from-behind', 'fine', FULL_ENTRIES[::-1], FULL_OFFICE, FULL)
+renamed('full-none', 'fine', [NOT_RENAMED] * 256, b'', FULL)
+# The last octet of the last title, the first octet of the first one, and the last title too long by one octet.
+renamed('full-last-bad', '224', FULL_ENTRIES, spoiled(FULL_OFFICE, 32767, 0xFF), FULL)
+renamed('full-first-bad', '224', FULL_ENTRIES, spoiled(FULL_OFFICE, 0, 0x80), FULL)
+renamed('full-last-too-long', '224', put(FULL_ENTRIES, 255, (32639, 129)), FULL_OFFICE, FULL)
+renamed('full-one-entry-short', '224', FULL_ENTRIES[:255], FULL_OFFICE, FULL)
+renamed('full-one-entry-over', '224', FULL_ENTRIES + [NOT_RENAMED], FULL_OFFICE, FULL)
+# The title of the card's last track is bad too, at its last character.
+renamed('full-both-bad', '200 255 124', FULL_ENTRIES, spoiled(FULL_OFFICE, 32767, 0xFF), Tables(*BAD_AT_LAST))
+
+
 # ---- Files
 
 def files():
@@ -1947,7 +2095,7 @@ def main(arguments):
     differing = write_or_compare(__doc__, arguments, files())
     for kind, kind_name in ((CARD, 'cards'), (CATALOGUE, 'catalogues'), (TEXT, 'texts'), (SHEET, 'sheets'), (WRITE, 'written cards'),
                             (GROUP_OBJECT, 'written groups'), (SEGMENTS_OBJECT, 'written segments'), (GROUP_READ, 'read groups'),
-                            (SEGMENTS_READ, 'read segments')):
+                            (SEGMENTS_READ, 'read segments'), (RENAMED, 'catalogues with titles')):
         print('%s: %d' % (kind_name, sum(1 for vector in VECTORS if vector[0] == kind)))
     if differing:
         sys.exit(1)

@@ -1,4 +1,4 @@
-"""The object numbers' cases: 10 to 14 of the standard (document 02, W-209), which vectors/script.py puts last.
+"""The object numbers' cases: 10 to 14 of the standard (document 02, W-209), which vectors/script.py puts behind the player's.
 
 Each call has its answer, the state of the player that it leaves and what falls due by it to whom beside it, worked out by hand from documents 01 and
 02. vectors/calls.py says how they are written: the last part of a state is the named next track. The cases of one client are the left pedal's, as in

@@ -1358,12 +1358,9 @@ take('refused 205', 127)
 take('nothing')
 read(LEFT, 1, 0, 'read 41')
 
-# "a catalogue rule above fails, or a lent table ends inside a record"; W-207: "a bad title carries the lowest such track and the offset; every other
-# 200 carries neither and comes before". Each call is lent the catalogue, and each tells the same.
-for catalogue, answer in ((OWN_PARENT, 'refused 200'), (CUT, 'refused 200'), (BAD_TITLES, 'refused 200 1 5'), (BAD_AND_WRONG, 'refused 200')):
-    case('a wrong catalogue')
-    office('1 17 18')
-    set_name(b'A', 'done', 'left 1')
+
+def each_call(answer, catalogue=SAMPLE):
+    """Every call but the title call that is lent the catalogue, as it would be accepted in the office of the left pedal, to which 1 is owed."""
     start(b'Desk', ALL, 7, answer, catalogue=catalogue)
     set_name(b'B', answer, catalogue=catalogue)
     activate(1, answer, catalogue=catalogue)
@@ -1376,6 +1373,15 @@ for catalogue, answer in ((OWN_PARENT, 'refused 200'), (CUT, 'refused 200'), (BA
     read(LEFT, 1, 0, answer, catalogue=catalogue)
     write(LEFT, 18, [PLAY], answer, catalogue=catalogue)
     take(answer, catalogue=catalogue)
+
+
+# "a catalogue rule above fails, or a lent table ends inside a record"; W-207: "a bad title carries the lowest such track and the offset; every other
+# 200 carries neither and comes before". Each call is lent the catalogue, and each tells the same.
+for catalogue, answer in ((OWN_PARENT, 'refused 200'), (CUT, 'refused 200'), (BAD_TITLES, 'refused 200 1 5'), (BAD_AND_WRONG, 'refused 200')):
+    case('a wrong catalogue')
+    office('1 17 18')
+    set_name(b'A', 'done', 'left 1')
+    each_call(answer, catalogue)
     # 200 before whatever else there is.
     start(b'\xFF', ALL, 7, answer, catalogue=catalogue)
     set_name(b'\xFF', answer, catalogue=catalogue)
@@ -1401,14 +1407,14 @@ for catalogue, answer in ((OWN_PARENT, 'refused 200'), (CUT, 'refused 200'), (BA
     take('nothing')
 
 
-def before_the_others(catalogue, answer):
-    """200 comes before every refusal behind it, and carries what it carries without them."""
+def before_the_others(words, refused):
+    """What comes before every refusal behind it, and carries what it carries without them: `refused` makes a call that meets it."""
     def before(other, call, *arguments, **room):
-        """A call with the wrong catalogue, and then the same with the sample, which meets the other refusal."""
-        call(*arguments, answer, catalogue=catalogue, **room)
+        """A call that meets the earlier refusal, and then the same with the sample and right titles, which meets the other one."""
+        refused(call, *arguments, **room)
         call(*arguments, other, **room)
 
-    case('a wrong catalogue before the other refusals')
+    case(words)
     office('1 17', None, '18', None)
     connect(SCREEN, 517, OPEN, 'done')
     set_name(b'A', 'done', 'left 1')
@@ -1479,15 +1485,20 @@ def before_the_others(catalogue, answer):
         before('refused 201', take)
         before('refused 205', take, room=127)
         # Start takes no state.
-        start(b'Desk', ALL, 7, answer, catalogue=catalogue)
+        refused(start, b'Desk', ALL, 7)
         before('refused 207 1', start, b'a\xFF', ALL, 7)
         damage(part, right, state='Paused 3 0 0 | 1 0 0')
     take('left 1 41')
     take('headset 18 30 04')
 
 
-before_the_others(BAD_TITLES, 'refused 200 1 5')
-before_the_others(BAD_AND_WRONG, 'refused 200')
+def with_catalogue(catalogue, answer):
+    """What makes a call with a wrong catalogue."""
+    return lambda call, *arguments, **room: call(*arguments, answer, catalogue=catalogue, **room)
+
+
+before_the_others('a wrong catalogue before the other refusals', with_catalogue(BAD_TITLES, 'refused 200 1 5'))
+before_the_others('a wrong catalogue before the other refusals', with_catalogue(BAD_AND_WRONG, 'refused 200'))
 
 # W-207: 200 with a bad title comes whatever the call would do: where it would change nothing, and where no track is current.
 case('a bad title while nothing would happen')

@@ -17,10 +17,9 @@ use Rattle.ground.specs.Limits.{mostGroups, mostTracks, mostSegments, mostText,
 use Rattle.ground.proofs.Bounded.{all-at}
 use Rattle.ground.proofs.Cases.{and-left, and-right, clash, true-or}
 use Rattle.text.specs.Grammar.{Text}
-use Rattle.text.specs.Utf8.{textOf, isFine}
-use Rattle.text.specs.declared.Checked.{Checked}
-use Rattle.text.specs.declared.Checked.the-variants.{Fine, BadAt}
-use Rattle.text.proofs.Law.{fine-is-text}
+use Rattle.text.specs.Utf8.{textOf}
+use Rattle.text.specs.declared.Checked.the-variants.{Fine}
+use Rattle.text.proofs.Law.{only-fine, fine-is-text}
 use Rattle.catalogue_tables.specs.Tables.{Tables, groupCount, trackCount, parentOf, firstTrackOf, tracksIn, durationOf, isUnknown, endBy, endOf, firstSegmentOf, segmentsIn, titleOffsetOf, titleLengthOf, startsOf, titleOf}
 use Rattle.catalogue_rules.specs.Rules.{sizesRule, parentsRule, trackRunsRule, segmentRunsRule, durationsRule, startsRule, titlesPlacedRule, titlesTextRule, badTitle}
 use Rattle.catalogue_check.specs.Catalogue.{plainRule, catalogueRule, catalogueCarries, checkSaid, Right}
@@ -94,10 +93,6 @@ kept k right = plain-kept k (and-left (plainRule k) (titlesTextRule (k .tracks) 
 utf8 : (k : Tables) → Right k → titlesTextRule (k .tracks) (k .text) ≡ true
 unfolding catalogueRule
 utf8 k right = and-right (plainRule k) (titlesTextRule (k .tracks) (k .text)) (passed k right)
-
-fine : (c : Checked) → isFine c ≡ true → c ≡ Fine
-fine Fine e = refl
-fine (BadAt at) e = clash e
 
 module _ (k : Tables) (right : Right k) where
   abbrev sizes-kept : sizesRule (length (k .groups)) (length (k .tracks)) (length (k .segments)) (length (k .text)) ≡ true
@@ -202,7 +197,7 @@ module _ (k : Tables) (right : Right k) where
 
     pub title-fine : textOf (titleOf (k .tracks) (k .text) t) ≡ Fine
     unfolding titlesTextRule
-    title-fine = fine _ (all-at _ (trackCount (k .tracks)) (utf8 k right) t exists)
+    title-fine = only-fine _ (all-at _ (trackCount (k .tracks)) (utf8 k right) t exists)
 
     pub title-valid : Text (titleOf (k .tracks) (k .text) t)
     title-valid = fine-is-text (titleOf (k .tracks) (k .text) t) .0 title-fine

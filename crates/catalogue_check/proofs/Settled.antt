@@ -21,8 +21,12 @@ unfolding answerAs
 said-back Fine = refl
 said-back (Refused r) = ap Refused (refusal-back r)
 
+-- an answer is settled by what it says
+pub answer-settles : (a b : Catalogue) → saidOf a ≡ saidOf b → a ≡ b
+answer-settles = settled-by saidOf answerAs said-back
+
 pub check-settled : (κs : Lfts 4) (groups tracks segments text : RefT (List ℕ)) (o₁ o₂ : Catalogue)
     → check.Post κs (groups, (tracks, (segments, (text, tt)))) o₁ (groups, (tracks, (segments, (text, tt))))
     → check.Post κs (groups, (tracks, (segments, (text, tt)))) o₂ (groups, (tracks, (segments, (text, tt))))
     → o₁ ≡ o₂
-check-settled κs groups tracks segments text o₁ o₂ p q = settled-by saidOf answerAs said-back o₁ o₂ (settled p q)
+check-settled κs groups tracks segments text o₁ o₂ p q = answer-settles o₁ o₂ (settled p q)

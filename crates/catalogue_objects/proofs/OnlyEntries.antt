@@ -11,14 +11,12 @@ use lib.Dec.{ltb}
 use lib.ListN.{length, getD, take, drop, length-drop, take-append-drop}
 use lib.Seq.{length-take-le, drop-drop}
 use Rattle.ground.specs.Words.{halfOf, wordOf, wordAt, sixOctets, octetsOfWord, words, octetsOf}
-use Rattle.ground.proofs.Cases.{clash, and-left, and-right}
+use Rattle.ground.proofs.Cases.{and-left, and-right}
 use Rattle.ground.proofs.Octets.{Octs, octs-drop, octets-words}
 use Rattle.ground.proofs.Octets.Octs.{no-octets, octet}
 use Rattle.ground.proofs.Words.{word-drop}
-use Rattle.text.specs.declared.Checked.{Checked}
-use Rattle.text.specs.declared.Checked.the-variants.{Fine, BadAt}
 use Rattle.text.specs.Utf8.{textOf, isFine}
-use Rattle.text.proofs.Law.{fine-is-text}
+use Rattle.text.proofs.Law.{only-fine, fine-is-text}
 use Rattle.catalogue_objects.specs.declared.Kind.{Kind}
 use Rattle.catalogue_objects.specs.declared.Kind.the-variants.{Group, Segments}
 use Rattle.catalogue_objects.specs.Entries.{memberOctets, labelOctets, allOctets}
@@ -133,10 +131,6 @@ four (octet ha (octet hb (octet hc no-octets))) long = absurd (let z : ⊥ = ome
 four (octet ha (octet hb (octet hc (octet {s = s} hd o)))) long =
     ap (λ (word : List ℕ). word ++ s) (sym (octets-words 1 (octet ha (octet hb (octet hc (octet hd no-octets)))) refl))
 
-fine : (c : Checked) → isFine c ≡ true → c ≡ Fine
-fine Fine e = refl
-fine (BadAt at) e = clash e
-
 -- a label in front: n octets of a name, and a word behind them
 module _ (n : ℕ) (t : List ℕ) where
   position-at : wordAt (n ∷ t) (n + 1) ≡ wordAt (drop n t) 0
@@ -165,7 +159,7 @@ module _ (n : ℕ) (t : List ℕ) where
       record {
         entry = record { name = name; position = wordAt (drop n t) 0 };
         fits = record {
-          named = fine-is-text name .0 (ap (λ (k : ℕ). textOf (take k t)) (sym one) ∙ fine _ named);
+          named = fine-is-text name .0 (ap (λ (k : ℕ). textOf (take k t)) (sym one) ∙ only-fine _ named);
           short = omega arith;
           positive = omega (arith, position-at, ltb-true (wordAt (n ∷ t) (n + 1)) 0x8000_0000 positive);
         };

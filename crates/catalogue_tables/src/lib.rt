@@ -2,7 +2,7 @@
 ghost use mathlib.Core.Path.{_≡_};
 ghost use Prim.Native.Nat.{min, _+_, _-_, _≤_, _<_};
 ghost use Rattle.catalogue_tables.specs.Objects.{trackObject, groupObject, segmentsObject};
-ghost use Rattle.catalogue_tables.specs.Tables.{wordIn, groupCount, trackCount, parentOf, firstTrackOf, tracksIn, durationOf, isRunning, endBy, endOf, firstSegmentOf, segmentsIn, titleOffsetOf, titleLengthOf, startsOf, titleOf};
+ghost use Rattle.catalogue_tables.specs.Tables.{wordIn, groupCount, trackCount, parentOf, firstTrackOf, tracksIn, durationOf, isRunning, endBy, endOf, firstSegmentOf, segmentsIn, titleOffsetOf, titleLengthOf, startsOf};
 
 // Group, track and segment numbers and hundredths are counted apart.
 pub struct GroupNo(pub u32);
@@ -40,7 +40,7 @@ pub const TITLE_LENGTH_AT: usize = 5;
 pub const NOT_YET_KNOWN: u32 = 0xFFFF_FFFF;
 
 // A word of record i.
-fn word_in(table: &[u32], width: usize, i: u32, column: usize) -> u32
+pub fn word_in(table: &[u32], width: usize, i: u32, column: usize) -> u32
     requires { ⌜ (width ≤ 6) × (column ≤ 6) ⌝ }
     ensures { λ r. ⌜ r ≡ wordIn width (now (table .entry)) i column ⌝ }
 {
@@ -127,22 +127,22 @@ pub fn segments_in(tracks: &[u32], t: TrackNo) -> u32
     word_in(tracks, TRACK_WORDS, t.0, SEGMENT_COUNT_AT)
 }
 
-fn title_offset(tracks: &[u32], t: TrackNo) -> u32
+pub fn title_offset(tracks: &[u32], t: TrackNo) -> u32
     ensures { λ r. ⌜ r ≡ titleOffsetOf (now (tracks .entry)) (t .0) ⌝ }
 {
     word_in(tracks, TRACK_WORDS, t.0, TITLE_OFFSET_AT)
 }
 
-fn title_length(tracks: &[u32], t: TrackNo) -> u32
+pub fn title_length(tracks: &[u32], t: TrackNo) -> u32
     ensures { λ r. ⌜ r ≡ titleLengthOf (now (tracks .entry)) (t .0) ⌝ }
 {
     word_in(tracks, TRACK_WORDS, t.0, TITLE_LENGTH_AT)
 }
 
 // The start and the end of a run, cut off at the end of its table.
-struct Run {
-    start: usize,
-    end: usize,
+pub struct Run {
+    pub start: usize,
+    pub end: usize,
 }
 
 fn lesser(a: usize, b: usize) -> usize
@@ -154,7 +154,7 @@ fn lesser(a: usize, b: usize) -> usize
     b
 }
 
-fn run_within(first: u32, count: u32, len: usize) -> Run
+pub fn run_within(first: u32, count: u32, len: usize) -> Run
     ensures { λ r. ⌜ (r .start ≡ min first len) × (r .end ≡ r .start + min count (len - r .start)) ⌝ }
 {
     let start = lesser(ground::wide_word(first), len);
@@ -175,18 +175,6 @@ pub fn starts<'a>(tracks: &[u32], segments: &'a [u32], t: TrackNo) -> &'a [u32]
     let a = run.start;
     let e = run.end;
     &segments[a..e]
-}
-
-// The octets of a track's title, a part of the text.
-pub fn title<'a>(tracks: &[u32], text: &'a [u8], t: TrackNo) -> &'a [u8]
-    ensures { λ r. ⌜ now r ≡ titleOf (now (tracks .entry)) (now (text .entry)) (t .0) ⌝ }
-{
-    let offset = title_offset(tracks, t);
-    let len = title_length(tracks, t);
-    let run = run_within(offset, len, text.len());
-    let a = run.start;
-    let e = run.end;
-    &text[a..e]
 }
 
 // Where the numbers of the objects of tracks, of groups and of a track's segments begin.

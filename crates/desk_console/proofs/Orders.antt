@@ -4,13 +4,13 @@ use mathlib.Core.Bool.{true, false}
 use mathlib.Core.List.{List, [], _∷_, _++_}
 use Prim.Native.Nat.{ℕ}
 use Rattle.ground.specs.Refusals.{table, inOrder}
-use Rattle.catalogue_tables.specs.Tables.{Tables}
+use Rattle.catalogue_titles.specs.Lent.{Lent}
 use Rattle.player_check.specs.Standing.{nameRow}
 use Rattle.desk_state.specs.declared.Desk.{Desk}
 use Rattle.desk_replies.specs.Replies.{lentRows, fronted}
 use Rattle.desk_console.specs.Console.{Beginning, nameRows, activateRows, serviceRows}
 
-module _ (k : Tables) where
+module _ (k : Lent) where
   -- start asks 207 of the one name and then of the other
   pub start-order : (named : Beginning) → inOrder table (lentRows k false ++ (nameRow (named .name) ∷ [])) ≡ true
   start-order named = refl

@@ -5,8 +5,9 @@ use mathlib.Core.List.{List, _++_}
 use Prim.Native.Nat.{ℕ, _<_}
 use Rattle.ground.specs.Refusals.{Row}
 use Rattle.ground.proofs.Rows.{NoneApplies}
-use Rattle.catalogue_tables.specs.Tables.{Tables}
 use Rattle.catalogue_check.specs.Catalogue.{Right}
+use Rattle.catalogue_titles.specs.Lent.{Lent, catalogueOf}
+use Rattle.catalogue_titles.proofs.Laws.{fit-right}
 use Rattle.player_state.specs.declared.Player.{Player}
 use Rattle.player_check.specs.Standing.{playerRule}
 use Rattle.player_moves.specs.Moves.{Shaped, Sits}
@@ -18,19 +19,19 @@ use Rattle.desk_replies.specs.Replies.{fronted}
 use Rattle.desk_replies.proofs.Gates as gates
 use Rattle.desk_console.specs.Console.{playerOf}
 
-module _ (k : Tables) (d : Desk) (behind : List Row) (passed : NoneApplies (fronted k false d ++ behind)) (service : ℕ) (there : service < serviceCount) where
-  right : Right k
-  right = gates.right k false d behind passed
+module _ (k : Lent) (d : Desk) (behind : List Row) (passed : NoneApplies (fronted k false d ++ behind)) (service : ℕ) (there : service < serviceCount) where
+  right : Right (catalogueOf k)
+  right = fit-right k (gates.fit k false d behind passed)
 
   pub shaped : Shaped (k .groups) (k .tracks) (k .segments)
-  shaped = ready.shaped k right
+  shaped = ready.shaped (catalogueOf k) right
 
   pub stands : playerRule (k .groups) (k .tracks) (playerOf d service) ≡ true
   stands = gates.player k false d behind passed service there
 
   -- the player before, and one that is what stands after
   pub sits : Sits (k .groups) (k .tracks) (playerOf d service)
-  sits = player-sits k right (playerOf d service) stands
+  sits = player-sits (catalogueOf k) right (playerOf d service) stands
 
   pub sits-after : (q r : Player) → q ≡ r → playerRule (k .groups) (k .tracks) r ≡ true → Sits (k .groups) (k .tracks) q
-  sits-after q r e kept = player-sits k right q (ap (playerRule (k .groups) (k .tracks)) e ∙ kept)
+  sits-after q r e kept = player-sits (catalogueOf k) right q (ap (playerRule (k .groups) (k .tracks)) e ∙ kept)

@@ -2,7 +2,7 @@
 ghost use mathlib.Core.Path.{_≡_};
 ghost use mathlib.Core.List.{_∷_, []};
 ghost use Rattle.ground.specs.Refusals.{granted, leaves};
-ghost use Rattle.catalogue_tables.specs.Tables.{tables};
+ghost use Rattle.catalogue_titles.specs.Lent.{lending};
 ghost use Prim.Native.Nat.{_<_, _≤_};
 ghost use lib.ListN.{length};
 ghost use Rattle.ground.specs.Limits.{mostTitle};
@@ -53,6 +53,8 @@ pub fn start(
     tracks: &[u32],
     segments: &[u32],
     text: &[u8],
+    renames: &[u32],
+    office: &[u8],
     name0: &[u8],
     mask0: u32,
     ccid0: u8,
@@ -60,11 +62,11 @@ pub fn start(
     mask1: u32,
     ccid1: u8,
 ) -> desk_replies::Outcome
-    ensures { λ r. ⌜ leftBy r ≡ startCall (tables (now (groups .entry)) (now (tracks .entry)) (now (segments .entry)) (now (text .entry))) (record { name = now (name0 .entry); mask = mask0; ccid = ccid0 }) (record { name = now (name1 .entry); mask = mask1; ccid = ccid1 }) ⌝ }
+    ensures { λ r. ⌜ leftBy r ≡ startCall (lending (now (groups .entry)) (now (tracks .entry)) (now (segments .entry)) (now (text .entry)) (now (renames .entry)) (now (office .entry))) (record { name = now (name0 .entry); mask = mask0; ccid = ccid0 }) (record { name = now (name1 .entry); mask = mask1; ccid = ccid1 }) ⌝ }
 {
     let none: [u8; 0] = [];
     let blank = fresh(&none, mask0, ccid0, &none, mask1, ccid1);
-    let g = desk_replies::lent_gate(groups, tracks, segments, text, false);
+    let g = desk_replies::lent_gate(groups, tracks, segments, text, renames, office, false);
     if !g.passes {
         return desk_replies::shut(g, blank);
     }
@@ -81,10 +83,12 @@ pub fn start(
 }
 
 // The service's player becomes q by a call of no client, and every client is told. quiet: an advance in Playing that stays below D.
-fn becoming(
+fn becoming<'a>(
     groups: &[u32],
     tracks: &[u32],
-    text: &[u8],
+    text: &'a [u8],
+    renames: &[u32],
+    office: &'a [u8],
     d: desk_state::Desk,
     service: u32,
     q: player_state::Player,
@@ -93,11 +97,11 @@ fn becoming(
     requires { ⌜ service < serviceCount ⌝ }
     requires { ⌜ Sits (now groups) (now tracks) (playerOf d service) ⌝ }
     requires { ⌜ Sits (now groups) (now tracks) q ⌝ }
-    ensures { λ r. ⌜ leftBy r ≡ leaves (granted []) (withService service (settled (source (now (groups .entry)) (now (tracks .entry)) (now (text .entry))) (noWriter quiet) q (serviceAt d service)) d) ⌝ }
+    ensures { λ r. ⌜ leftBy r ≡ leaves (granted []) (withService service (settled (source (now (groups .entry)) (now (tracks .entry)) (now (text .entry)) (now (renames .entry)) (now (office .entry))) (noWriter quiet) q (serviceAt d service)) d) ⌝ }
 {
     let cause = desk_notices::no_writer(quiet);
     let s = desk_state::service_at(d, service);
-    let told = desk_notices::settle(groups, tracks, text, s, q, cause);
+    let told = desk_notices::settle(groups, tracks, text, renames, office, s, q, cause);
     let e = desk_state::with_service(d, service, told);
     desk_replies::left(desk_replies::Answer::Done, e)
 }
@@ -112,18 +116,20 @@ fn player_at(d: desk_state::Desk, service: u32) -> player_state::Player
 }
 
 // Another name.
-pub fn set_name(
+pub fn set_name<'a>(
     groups: &[u32],
     tracks: &[u32],
     segments: &[u32],
-    text: &[u8],
+    text: &'a [u8],
+    renames: &[u32],
+    office: &'a [u8],
     d: desk_state::Desk,
     service: u32,
     name: &[u8],
 ) -> desk_replies::Outcome
-    ensures { λ r. ⌜ leftBy r ≡ nameCall (tables (now (groups .entry)) (now (tracks .entry)) (now (segments .entry)) (now (text .entry))) d service (now (name .entry)) ⌝ }
+    ensures { λ r. ⌜ leftBy r ≡ nameCall (lending (now (groups .entry)) (now (tracks .entry)) (now (segments .entry)) (now (text .entry)) (now (renames .entry)) (now (office .entry))) d service (now (name .entry)) ⌝ }
 {
-    let g = desk_replies::service_gate(groups, tracks, segments, text, d, service);
+    let g = desk_replies::service_gate(groups, tracks, segments, text, renames, office, d, service);
     if !g.passes {
         return desk_replies::shut(g, d);
     }
@@ -133,22 +139,24 @@ pub fn set_name(
     }
     let p = player_at(d, service);
     let q = player_state::set_name(p, name);
-    becoming(groups, tracks, text, d, service, q, false)
+    becoming(groups, tracks, text, renames, office, d, service, q, false)
 }
 
 // A group becomes current.
-pub fn activate(
+pub fn activate<'a>(
     groups: &[u32],
     tracks: &[u32],
     segments: &[u32],
-    text: &[u8],
+    text: &'a [u8],
+    renames: &[u32],
+    office: &'a [u8],
     d: desk_state::Desk,
     service: u32,
     group: catalogue_tables::GroupNo,
 ) -> desk_replies::Outcome
-    ensures { λ r. ⌜ leftBy r ≡ activateCall (tables (now (groups .entry)) (now (tracks .entry)) (now (segments .entry)) (now (text .entry))) d service (group .0) ⌝ }
+    ensures { λ r. ⌜ leftBy r ≡ activateCall (lending (now (groups .entry)) (now (tracks .entry)) (now (segments .entry)) (now (text .entry)) (now (renames .entry)) (now (office .entry))) d service (group .0) ⌝ }
 {
-    let g = desk_replies::service_gate(groups, tracks, segments, text, d, service);
+    let g = desk_replies::service_gate(groups, tracks, segments, text, renames, office, d, service);
     if !g.passes {
         return desk_replies::shut(g, d);
     }
@@ -157,27 +165,29 @@ pub fn activate(
     }
     let p = player_at(d, service);
     let q = player_moves::activate(groups, tracks, p, group);
-    becoming(groups, tracks, text, d, service, q, false)
+    becoming(groups, tracks, text, renames, office, d, service, q, false)
 }
 
 // No track is current.
-pub fn deactivate(
+pub fn deactivate<'a>(
     groups: &[u32],
     tracks: &[u32],
     segments: &[u32],
-    text: &[u8],
+    text: &'a [u8],
+    renames: &[u32],
+    office: &'a [u8],
     d: desk_state::Desk,
     service: u32,
 ) -> desk_replies::Outcome
-    ensures { λ r. ⌜ leftBy r ≡ deactivateCall (tables (now (groups .entry)) (now (tracks .entry)) (now (segments .entry)) (now (text .entry))) d service ⌝ }
+    ensures { λ r. ⌜ leftBy r ≡ deactivateCall (lending (now (groups .entry)) (now (tracks .entry)) (now (segments .entry)) (now (text .entry)) (now (renames .entry)) (now (office .entry))) d service ⌝ }
 {
-    let g = desk_replies::service_gate(groups, tracks, segments, text, d, service);
+    let g = desk_replies::service_gate(groups, tracks, segments, text, renames, office, d, service);
     if !g.passes {
         return desk_replies::shut(g, d);
     }
     let p = player_at(d, service);
     let q = player_state::deactivate(p);
-    becoming(groups, tracks, text, d, service, q, false)
+    becoming(groups, tracks, text, renames, office, d, service, q, false)
 }
 
 // Whether a step of time stays below the end of the track that plays.
@@ -189,23 +199,25 @@ fn is_quiet(tracks: &[u32], p: player_state::Player, step: u32) -> bool
 }
 
 // A step of time.
-pub fn advance(
+pub fn advance<'a>(
     groups: &[u32],
     tracks: &[u32],
     segments: &[u32],
-    text: &[u8],
+    text: &'a [u8],
+    renames: &[u32],
+    office: &'a [u8],
     d: desk_state::Desk,
     service: u32,
     step: u32,
 ) -> desk_replies::Outcome
-    ensures { λ r. ⌜ leftBy r ≡ advanceCall (tables (now (groups .entry)) (now (tracks .entry)) (now (segments .entry)) (now (text .entry))) d service step ⌝ }
+    ensures { λ r. ⌜ leftBy r ≡ advanceCall (lending (now (groups .entry)) (now (tracks .entry)) (now (segments .entry)) (now (text .entry)) (now (renames .entry)) (now (office .entry))) d service step ⌝ }
 {
-    let g = desk_replies::service_gate(groups, tracks, segments, text, d, service);
+    let g = desk_replies::service_gate(groups, tracks, segments, text, renames, office, d, service);
     if !g.passes {
         return desk_replies::shut(g, d);
     }
     let p = player_at(d, service);
     let q = player_moves::advance(groups, tracks, p, step);
     let quiet = is_quiet(tracks, p, step);
-    becoming(groups, tracks, text, d, service, q, quiet)
+    becoming(groups, tracks, text, renames, office, d, service, q, quiet)
 }

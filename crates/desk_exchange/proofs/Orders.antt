@@ -4,13 +4,13 @@ use mathlib.Core.Bool.{Bool, true, false}
 use mathlib.Core.List.{List, _++_}
 use Prim.Native.Nat.{ℕ}
 use Rattle.ground.specs.Refusals.{table, inOrder}
-use Rattle.catalogue_tables.specs.Tables.{Tables}
+use Rattle.catalogue_titles.specs.Lent.{Lent}
 use Rattle.desk_state.specs.declared.Desk.{Desk}
 use Rattle.desk_replies.specs.Replies.{fronted}
 use Rattle.desk_exchange.specs.Read.{readRows}
 use Rattle.desk_exchange.specs.Write.{writeRows}
 
-module _ (k : Tables) (d : Desk) (who service characteristic : ℕ) where
+module _ (k : Lent) (d : Desk) (who service characteristic : ℕ) where
   pub read-order : (small connected encrypted inMind : Bool) (offset size : ℕ)
       → inOrder table (fronted k small d ++ readRows who service connected encrypted inMind characteristic offset size) ≡ true
   read-order small connected encrypted inMind offset size = refl

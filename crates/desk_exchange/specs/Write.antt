@@ -9,6 +9,7 @@ use Rattle.ground.specs.Cases.{pick, within}
 use Rattle.ground.specs.Refusals.{granted, Left, leaves, Row, row}
 use Rattle.ground.specs.Words.{wordAt, sixAt}
 use Rattle.catalogue_tables.specs.Tables.{Tables}
+use Rattle.catalogue_titles.specs.Lent.{Lent, catalogueOf}
 use Rattle.catalogue_tables.specs.Objects.{trackObjects, groupObjects}
 use Rattle.desk_slots.specs.Table.{sizeOf}
 use Rattle.desk_slots.specs.Characteristics.{writables, isIn}
@@ -84,17 +85,17 @@ unfoldable pub numberOf : List ℕ → ℕ
 numberOf value = pick (eqb (length value) 5) (wordAt value 1) 0
 
 -- the service's player becomes q by a client's write, and every client is told
-abbrev pub becomingBy : Tables → Service → ℕ → ℕ → Player → Service
+abbrev pub becomingBy : Lent → Service → ℕ → ℕ → Player → Service
 becomingBy k s who characteristic q = settled (sourceOf k) (byWriter who characteristic) q s
 
 -- a control write: what the opcode comes to, and its result for the writer
 abbrev pub withResult : ℕ → ℕ → ℕ → Service → Service
 withResult who opcode code s = withAccount who (resulted opcode code (accountIn s who)) s
 
-abbrev pub outcomeOf : Tables → Player → List ℕ → Controlled
+abbrev pub outcomeOf : Lent → Player → List ℕ → Controlled
 outcomeOf k p value = controlled (k .groups) (k .tracks) (k .segments) (firstOctet value) (numberOf value) p
 
-unfoldable pub controlWritten : Tables → Service → ℕ → List ℕ → Service
+unfoldable pub controlWritten : Lent → Service → ℕ → List ℕ → Service
 controlWritten k s who value =
     withResult who (firstOctet value) (outcomeOf k (s .player) value .result) (becomingBy k s who 18 (outcomeOf k (s .player) value .player))
 
@@ -109,18 +110,18 @@ playerWritten k p characteristic value =
     (withOrder (firstOctet value) p)))))
 
 -- what is written to a service
-unfoldable pub written : Tables → Service → ℕ → ℕ → List ℕ → Service
+unfoldable pub written : Lent → Service → ℕ → ℕ → List ℕ → Service
 written k s who characteristic value =
     pick (eqb characteristic 18) (controlWritten k s who value)
-    (becomingBy k s who characteristic (playerWritten k (s .player) characteristic value))
+    (becomingBy k s who characteristic (playerWritten (catalogueOf k) (s .player) characteristic value))
 
 -- of the client that writes
-abbrev pub writerRows : Tables → Desk → ℕ → ℕ → ℕ → List ℕ → List Row
+abbrev pub writerRows : Lent → Desk → ℕ → ℕ → ℕ → List ℕ → List Row
 writerRows k d who service characteristic value =
     writeRows who service (linkOf d who .connected) (linkOf d who .encrypted) (allowed (k .groups) (serviceAt d service .player) characteristic value)
     (accountOf d who service .waiting) characteristic value
 
-unfoldable pub writeCall : Tables → Desk → ℕ → ℕ → ℕ → List ℕ → Left Desk
+unfoldable pub writeCall : Lent → Desk → ℕ → ℕ → ℕ → List ℕ → Left Desk
 writeCall k d who service characteristic value =
     asked k false d (writerRows k d who service characteristic value)
     (leaves (granted []) (withService service (written k (serviceAt d service) who characteristic value) d))

@@ -8,6 +8,7 @@ ghost use lib.ListN.{length as len};
 ghost use Rattle.ground.specs.Limits.{mostGroups, leastOutput};
 ghost use Rattle.ground.specs.Lists.{tableAfter};
 ghost use Rattle.catalogue_tables.specs.Tables.{tables, groupCount};
+ghost use Rattle.catalogue_titles.specs.Lent.{Fit, lending};
 ghost use Rattle.catalogue_tables.specs.Objects.{trackObjects, groupObjects};
 ghost use Rattle.catalogue_check.specs.Catalogue.{Right};
 ghost use Rattle.player_check.specs.Standing.{playerRule};
@@ -28,11 +29,13 @@ fn after_read(a: desk_client::Account, characteristic: u32, offset: u32) -> desk
 }
 
 // The refusals of a read.
-fn read_gate(
+fn read_gate<'a>(
     groups: &[u32],
     tracks: &[u32],
     segments: &[u32],
-    text: &[u8],
+    text: &'a [u8],
+    renames: &[u32],
+    office: &'a [u8],
     d: desk_state::Desk,
     who: u32,
     service: u32,
@@ -40,13 +43,15 @@ fn read_gate(
     offset: u32,
     room: usize,
 ) -> desk_replies::Gate
-    ensures { λ r. ⌜ Gated (fronted (tables (now (groups .entry)) (now (tracks .entry)) (now (segments .entry)) (now (text .entry))) (ltb room leastOutput) d ++ readerRows d who service characteristic offset (len (valueNow (tables (now (groups .entry)) (now (tracks .entry)) (now (segments .entry)) (now (text .entry))) d service characteristic))) r ⌝ }
+    ensures { λ r. ⌜ Gated (fronted (lending (now (groups .entry)) (now (tracks .entry)) (now (segments .entry)) (now (text .entry)) (now (renames .entry)) (now (office .entry))) (ltb room leastOutput) d ++ readerRows d who service characteristic offset (len (valueNow (lending (now (groups .entry)) (now (tracks .entry)) (now (segments .entry)) (now (text .entry)) (now (renames .entry)) (now (office .entry))) d service characteristic))) r ⌝ }
 {
     let g = desk_replies::characteristic_gate(
         groups,
         tracks,
         segments,
         text,
+        renames,
+        office,
         room < ground::LEAST_OUTPUT,
         d,
         who,
@@ -65,7 +70,7 @@ fn read_gate(
         return desk_replies::gate_shut(ground::VALUE_CHANGED);
     }
     let p = asked.player;
-    let h = player_values::hold(groups, tracks, text, p, characteristic);
+    let h = player_values::hold(groups, tracks, text, renames, office, p, characteristic);
     let from = ground::wide_word(offset);
     if h.len < from {
         return desk_replies::gate_shut(ground::BEYOND_END);
@@ -74,11 +79,13 @@ fn read_gate(
 }
 
 // A client reads a characteristic from an offset on, over the front of out.
-pub fn read(
+pub fn read<'a>(
     groups: &[u32],
     tracks: &[u32],
     segments: &[u32],
-    text: &[u8],
+    text: &'a [u8],
+    renames: &[u32],
+    office: &'a [u8],
     d: desk_state::Desk,
     who: u32,
     service: u32,
@@ -86,14 +93,16 @@ pub fn read(
     offset: u32,
     out: &mut [u8],
 ) -> desk_replies::Outcome
-    ensures { λ r. ⌜ leftBy r ≡ readCall (tables (now (groups .entry)) (now (tracks .entry)) (now (segments .entry)) (now (text .entry))) d who service characteristic offset (len (now (out .entry))) ⌝ }
-    ensures { λ r. ⌜ now (out .exit) ≡ tableAfter (saidOf (r .answer)) (readOctets (tables (now (groups .entry)) (now (tracks .entry)) (now (segments .entry)) (now (text .entry))) d who service characteristic offset) (now (out .entry)) ⌝ }
+    ensures { λ r. ⌜ leftBy r ≡ readCall (lending (now (groups .entry)) (now (tracks .entry)) (now (segments .entry)) (now (text .entry)) (now (renames .entry)) (now (office .entry))) d who service characteristic offset (len (now (out .entry))) ⌝ }
+    ensures { λ r. ⌜ now (out .exit) ≡ tableAfter (saidOf (r .answer)) (readOctets (lending (now (groups .entry)) (now (tracks .entry)) (now (segments .entry)) (now (text .entry)) (now (renames .entry)) (now (office .entry))) d who service characteristic offset) (now (out .entry)) ⌝ }
 {
     let g = read_gate(
         groups,
         tracks,
         segments,
         text,
+        renames,
+        office,
         d,
         who,
         service,
@@ -108,7 +117,7 @@ pub fn read(
     let l = desk_state::link_at(d, who);
     let a = desk_state::account_in(s, who);
     let p = s.player;
-    let h = player_values::hold(groups, tracks, text, p, characteristic);
+    let h = player_values::hold(groups, tracks, text, renames, office, p, characteristic);
     let from = ground::wide_word(offset);
     let most = ground::wide_word(l.mtu - 1);
     let n = player_values::hand(out, h, from, most);
@@ -215,19 +224,23 @@ fn write_gate(
     tracks: &[u32],
     segments: &[u32],
     text: &[u8],
+    renames: &[u32],
+    office: &[u8],
     d: desk_state::Desk,
     who: u32,
     service: u32,
     characteristic: u32,
     value: &[u8],
 ) -> desk_replies::Gate
-    ensures { λ r. ⌜ Gated (fronted (tables (now (groups .entry)) (now (tracks .entry)) (now (segments .entry)) (now (text .entry))) false d ++ writerRows (tables (now (groups .entry)) (now (tracks .entry)) (now (segments .entry)) (now (text .entry))) d who service characteristic (now (value .entry))) r ⌝ }
+    ensures { λ r. ⌜ Gated (fronted (lending (now (groups .entry)) (now (tracks .entry)) (now (segments .entry)) (now (text .entry)) (now (renames .entry)) (now (office .entry))) false d ++ writerRows (lending (now (groups .entry)) (now (tracks .entry)) (now (segments .entry)) (now (text .entry)) (now (renames .entry)) (now (office .entry))) d who service characteristic (now (value .entry))) r ⌝ }
 {
     let g = desk_replies::characteristic_gate(
         groups,
         tracks,
         segments,
         text,
+        renames,
+        office,
         false,
         d,
         who,
@@ -265,19 +278,21 @@ fn number_of(value: &[u8]) -> u32
 }
 
 // An opcode is carried out, and the writer gets its result.
-fn control(
+fn control<'a>(
     groups: &[u32],
     tracks: &[u32],
     segments: &[u32],
-    text: &[u8],
+    text: &'a [u8],
+    renames: &[u32],
+    office: &'a [u8],
     s: desk_state::Service,
     who: u32,
     value: &[u8],
 ) -> desk_state::Service
-    requires { ⌜ Right (tables (now groups) (now tracks) (now segments) (now text)) ⌝ }
+    requires { ⌜ Fit (lending (now groups) (now tracks) (now segments) (now text) (now renames) (now office)) ⌝ }
     requires { ⌜ playerRule (now groups) (now tracks) (s .player) ≡ true ⌝ }
     requires { ⌜ who < clientCount ⌝ }
-    ensures { λ r. ⌜ r ≡ controlWritten (tables (now (groups .entry)) (now (tracks .entry)) (now (segments .entry)) (now (text .entry))) s who (now (value .entry)) ⌝ }
+    ensures { λ r. ⌜ r ≡ controlWritten (lending (now (groups .entry)) (now (tracks .entry)) (now (segments .entry)) (now (text .entry)) (now (renames .entry)) (now (office .entry))) s who (now (value .entry)) ⌝ }
 {
     let p = s.player;
     let opcode = ground::octet_or_zero(value, 0);
@@ -286,7 +301,7 @@ fn control(
     let q = done.player;
     let code = done.result;
     let cause = desk_notices::by_writer(who, 18);
-    let t = desk_notices::settle(groups, tracks, text, s, q, cause);
+    let t = desk_notices::settle(groups, tracks, text, renames, office, s, q, cause);
     let a = desk_state::account_in(t, who);
     let next = desk_client::note_result(a, opcode, code);
     desk_state::with_account(t, who, next)
@@ -319,51 +334,67 @@ fn player_written(
 }
 
 // What a write does.
-fn carry_out(
+fn carry_out<'a>(
     groups: &[u32],
     tracks: &[u32],
     segments: &[u32],
-    text: &[u8],
+    text: &'a [u8],
+    renames: &[u32],
+    office: &'a [u8],
     s: desk_state::Service,
     who: u32,
     characteristic: u32,
     value: &[u8],
 ) -> desk_state::Service
-    requires { ⌜ Right (tables (now groups) (now tracks) (now segments) (now text)) ⌝ }
+    requires { ⌜ Fit (lending (now groups) (now tracks) (now segments) (now text) (now renames) (now office)) ⌝ }
     requires { ⌜ playerRule (now groups) (now tracks) (s .player) ≡ true ⌝ }
     requires { ⌜ who < clientCount ⌝ }
     requires { ⌜ lengthRight characteristic (now value) ≡ true ⌝ }
     requires { ⌜ allowed (now groups) (s .player) characteristic (now value) ≡ true ⌝ }
-    ensures { λ r. ⌜ r ≡ written (tables (now (groups .entry)) (now (tracks .entry)) (now (segments .entry)) (now (text .entry))) s who characteristic (now (value .entry)) ⌝ }
+    ensures { λ r. ⌜ r ≡ written (lending (now (groups .entry)) (now (tracks .entry)) (now (segments .entry)) (now (text .entry)) (now (renames .entry)) (now (office .entry))) s who characteristic (now (value .entry)) ⌝ }
 {
     if characteristic == 18 {
-        return control(groups, tracks, segments, text, s, who, value);
+        return control(
+            groups,
+            tracks,
+            segments,
+            text,
+            renames,
+            office,
+            s,
+            who,
+            value,
+        );
     }
     let p = s.player;
     let q = player_written(groups, tracks, segments, text, p, characteristic, value);
     let cause = desk_notices::by_writer(who, characteristic);
-    desk_notices::settle(groups, tracks, text, s, q, cause)
+    desk_notices::settle(groups, tracks, text, renames, office, s, q, cause)
 }
 
 // A client writes a characteristic.
-pub fn write(
+pub fn write<'a>(
     groups: &[u32],
     tracks: &[u32],
     segments: &[u32],
-    text: &[u8],
+    text: &'a [u8],
+    renames: &[u32],
+    office: &'a [u8],
     d: desk_state::Desk,
     who: u32,
     service: u32,
     characteristic: u32,
     value: &[u8],
 ) -> desk_replies::Outcome
-    ensures { λ r. ⌜ leftBy r ≡ writeCall (tables (now (groups .entry)) (now (tracks .entry)) (now (segments .entry)) (now (text .entry))) d who service characteristic (now (value .entry)) ⌝ }
+    ensures { λ r. ⌜ leftBy r ≡ writeCall (lending (now (groups .entry)) (now (tracks .entry)) (now (segments .entry)) (now (text .entry)) (now (renames .entry)) (now (office .entry))) d who service characteristic (now (value .entry)) ⌝ }
 {
     let g = write_gate(
         groups,
         tracks,
         segments,
         text,
+        renames,
+        office,
         d,
         who,
         service,
@@ -379,6 +410,8 @@ pub fn write(
         tracks,
         segments,
         text,
+        renames,
+        office,
         s,
         who,
         characteristic,

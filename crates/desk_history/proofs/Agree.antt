@@ -6,8 +6,8 @@ use Prim.Native.Nat.{ℕ, _≤_, _<_}
 use native.Mathlib.Omega.{arith}
 use Rattle.ground.specs.Cases.{pick}
 use Rattle.ground.proofs.Rows.{state-of}
-use Rattle.catalogue_tables.specs.Tables.{Tables}
-use Rattle.catalogue_check.specs.Catalogue.{catalogueRule}
+use Rattle.catalogue_titles.specs.Lent.{Lent, lentRule}
+use Rattle.catalogue_titles.proofs.Laws.{rules-kept, renames-kept}
 use Rattle.player_check.specs.Standing.{textRule, playerRule}
 use Rattle.player_moves.proofs.Kept.{started}
 use Rattle.desk_slots.specs.Slots.{slotCount, clientCount, placeOf}
@@ -27,7 +27,7 @@ use Rattle.desk_history.proofs.Exchanges.{read-step, write-step}
 use Rattle.desk_history.proofs.Taking.{take-step, take-agrees}
 use Rattle.desk_history.proofs.LedgerLaws.{InRange, wantsAt, ledgerSystem, laws}
 
-module _ (k : Tables) (right : catalogueRule k ≡ true) where
+module _ (k : Lent) (right : lentRule k ≡ true) where
   step : (call : Call) (L : Ledger) (d : Desk) → Ok k L d → Ok k (after k call L) (left k call d .state)
   step (setName v name) L d ok = name-step k right L d ok v name
   step (activate v g) L d ok = activate-step k right L d ok v g
@@ -60,7 +60,7 @@ module _ (k : Tables) (right : catalogueRule k ≡ true) where
     begins =
         subst (Ok k (ledgerAt k gen nam []))
         (sym (state-of (startedDesk (freshly (nameless gen)) (freshly (nameless nam))) (startRows k gen nam) _
-        ∙ (λ i. pick (not (not (right i)) && (not false && (not (not (gt i)) && (not (not (nt i)) && true)))) (startedDesk (freshly gen) (freshly nam)) (startedDesk (freshly (nameless gen)) (freshly (nameless nam))))))
+        ∙ (λ i. pick (not (not (rules-kept k right i)) && (not (not (renames-kept k right i)) && (not false && (not (not (gt i)) && (not (not (nt i)) && true))))) (startedDesk (freshly gen) (freshly nam)) (startedDesk (freshly (nameless gen)) (freshly (nameless nam))))))
         (agree-start (freshly gen) (freshly nam), start-keeps (k .groups) (k .tracks) (freshly gen) (freshly nam) (fresh gen gt) (fresh nam nt))
       where
         fresh : (n : Beginning) → textRule (n .name) ≡ true → playerRule (k .groups) (k .tracks) (freshly n) ≡ true

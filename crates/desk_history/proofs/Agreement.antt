@@ -14,7 +14,7 @@ use lib.Seq.{getD-set-same, getD-set-other}
 use Rattle.ground.specs.Cases.{pick, has}
 use Rattle.ground.specs.Lists.{mapFrom}
 use Rattle.ground.proofs.Cases.{true-or}
-use Rattle.catalogue_tables.specs.Tables.{Tables}
+use Rattle.catalogue_titles.specs.Lent.{Lent}
 use Rattle.player_state.specs.declared.Player.{Player}
 use Rattle.player_check.specs.Standing.{playerRule}
 use Rattle.desk_slots.specs.Slots.{slotCount, serviceCount, clientCount, characteristicOf}
@@ -123,7 +123,7 @@ map-length f j [] = refl
 map-length f j (a ∷ l) = ap suc (map-length f (suc j) l)
 
 -- 18 never falls due by a change of values
-quiet-control : (k : Tables) (p q : Player) (cause : Cause) (who : ℕ) → has (dueTo (sourceOf k) p q cause who) controlSlot ≡ false
+quiet-control : (k : Lent) (p q : Player) (cause : Cause) (who : ℕ) → has (dueTo (sourceOf k) p q cause who) controlSlot ≡ false
 unfolding dueTo characteristicOf isIn
 quiet-control k p q cause who =
     set-has (λ s. fallsDue (changed (sourceOf k) p q (characteristicOf s)) (trackChanged p q) (characteristicOf s) && not (spared cause who (characteristicOf s))) slotCount controlSlot (omega arith)
@@ -145,7 +145,7 @@ told-fits l a due altered quiet fits =
     (λ q. blank-unconnected l (noted due altered a) q (kept-blank a due altered (unconnected-blank l a fits q)))
     (true-or (l .connected))
 
-module _ (k : Tables) (b : Book) (s : Service) (like : LikeService b s) where
+module _ (k : Lent) (b : Book) (s : Service) (like : LikeService b s) where
   abbrev tells : Player → Player → Cause → ℕ → Account → Account
   tells p q cause who a = noted (dueTo (sourceOf k) p q cause who) (alteredOf (sourceOf k) p q) a
 

@@ -10,7 +10,7 @@ use lib.Seq.{getD-set-same, getD-set-other, set-getD}
 use Rattle.ground.specs.Cases.{pick, has}
 use Rattle.ground.specs.Limits.{leastOutput}
 use Rattle.ground.specs.Refusals.{Said, granted, Left, leaves, keeping, Row, answered}
-use Rattle.catalogue_tables.specs.Tables.{Tables}
+use Rattle.catalogue_titles.specs.Lent.{Lent}
 use Rattle.player_state.specs.Player.{renamed, deactivated}
 use Rattle.player_moves.specs.Clock.{advanced, activated}
 use Rattle.player_values.specs.Values.{sourceOf, valueOf}
@@ -65,7 +65,7 @@ module _ {A : Type 0} (f : Desk → A) (d e d′ e′ : Desk) (said : Said) (fou
       at false ih = ih
 
 -- a call to service v by its parts: what it asks, says and makes of the service, from the service and the links alone
-record Shape (k : Tables) (v : ℕ) (call : Call) : Type 0 where
+record Shape (k : Lent) (v : ℕ) (call : Call) : Type 0 where
   small : Bool
   rows : Service → (ℕ → Link) → List Row
   values : Service → (ℕ → Link) → List ℕ
@@ -73,7 +73,7 @@ record Shape (k : Tables) (v : ℕ) (call : Call) : Type 0 where
   is : (d : Desk) → left k call d
       ≡ asked k small d (rows (serviceAt d v) (unmarked d)) (leaves (granted (values (serviceAt d v) (unmarked d))) (withService v (next (serviceAt d v) (unmarked d)) d))
 
-module _ (k : Tables) where
+module _ (k : Lent) where
   shape : {v : ℕ} {call : Call} → To v call → Shape k v call
   unfolding nameCall activateCall deactivateCall advanceCall slotCall readCall readOctets writeCall
   shape {v} (naming name) =

@@ -15,8 +15,7 @@ use lib.ListN.{length, take as firsts}
 use Rattle.ground.specs.Cases.{pick, has}
 use Rattle.ground.specs.Limits.{leastOutput}
 use Rattle.ground.specs.Refusals.{row, accepted}
-use Rattle.catalogue_tables.specs.Tables.{Tables}
-use Rattle.catalogue_check.specs.Catalogue.{catalogueRule}
+use Rattle.catalogue_titles.specs.Lent.{Lent, lentRule}
 use Rattle.player_check.specs.Standing.{textRule}
 use Rattle.desk_slots.specs.Slots.{slotCount, serviceCount, placeCount, clientCount, placeOf, serviceOf, slotAt}
 use Rattle.desk_slots.proofs.NextLaws.{next-nearest}
@@ -63,7 +62,7 @@ hundred-twelve-reached =
       ap (countFor 3 0) e ∙ n .1,
     )
 
-module _ (k : Tables) (right : catalogueRule k ≡ true) (gen nam : Beginning) (gt : textRule (gen .name) ≡ true) (nt : textRule (nam .name) ≡ true) where
+module _ (k : Lent) (right : lentRule k ≡ true) (gen nam : Beginning) (gt : textRule (gen .name) ≡ true) (nt : textRule (nam .name) ≡ true) where
   abbrev ledger : List Call → Ledger
   ledger h = ledgerAt k gen nam h
 

@@ -10,8 +10,9 @@ use lib.Dec.{eqb, ltb, leb}
 use lib.ListN.{length, length-take}
 use Rattle.ground.specs.Cases.{pick, within, has}
 use Rattle.ground.proofs.Cases.{clash, le-or, true-or}
-use Rattle.catalogue_tables.specs.Tables.{Tables}
-use Rattle.catalogue_check.specs.Catalogue.{catalogueRule, catalogueRow}
+use Rattle.catalogue_titles.specs.Lent.{Lent, catalogueOf, lentRule}
+use Rattle.catalogue_titles.proofs.Laws.{rules-kept, renames-kept}
+use Rattle.catalogue_check.specs.Catalogue.{catalogueRow}
 use Rattle.catalogue_check.proofs.Laws.{is-right}
 use Rattle.player_state.specs.declared.Player.{Player}
 use Rattle.player_moves.specs.Control.{controlled}
@@ -71,12 +72,12 @@ as-many x l a alike fit = ap length (sym (alike .waiting)) ∙ length-take (a .w
 
 -- ---- a control write to a service: the opcode is carried out, and then its result is noted
 -- a result code is 1 to 4
-code-within : (k : Tables) (opcode number : ℕ) (p : Player) → within 1 4 (controlled (k .groups) (k .tracks) (k .segments) opcode number p .result) ≡ true
+code-within : (k : Lent) (opcode number : ℕ) (p : Player) → within 1 4 (controlled (k .groups) (k .tracks) (k .segments) opcode number p .result) ≡ true
 code-within k opcode number p =
     ⊎-elim (λ e. ap (within 1 4) e) (λ w. ⊎-elim (λ e. ap (within 1 4) e) (λ v. ⊎-elim (λ e. ap (within 1 4) e) (λ e. ap (within 1 4) e) v) w)
     (result-values p (k .groups) (k .tracks) (k .segments) opcode number)
 
-module _ (k : Tables) (right : catalogueRule k ≡ true) (links : List Link) (b : Book) (s : Service) (ok : OkService k links b s) (who : ℕ) (value : List ℕ) where
+module _ (k : Lent) (right : lentRule k ≡ true) (links : List Link) (b : Book) (s : Service) (ok : OkService k links b s) (who : ℕ) (value : List ℕ) where
   control-step : who < clientCount → linkAt links who .connected ≡ true → length (b .account who .waiting) < mostResults
       → OkService k links (controlWriting k who value b) (controlWritten k s who value)
   unfolding controlWritten
@@ -103,7 +104,7 @@ module _ (k : Tables) (right : catalogueRule k ≡ true) (links : List Link) (b 
       ok1 : OkService k links b1 s1
       ok1 =
           ok-becoming k links b s ok (λ p. byWriter who 18) moved
-          (kept-controlled (k .groups) (k .tracks) (k .segments) (shaped k (is-right k right)) (s .player) (fine k links b s ok) (firstOctet value) (numberOf value))
+          (kept-controlled (k .groups) (k .tracks) (k .segments) (shaped (catalogueOf k) (is-right (catalogueOf k) (rules-kept k right))) (s .player) (fine k links b s ok) (firstOctet value) (numberOf value))
 
       own : Account
       own = accountIn s1 who
@@ -129,15 +130,15 @@ module _ (k : Tables) (right : catalogueRule k ≡ true) (links : List Link) (b 
   written-step c h on writable may room = go (eqb c 18) refl
     where
       go : (t : Bool) → eqb c 18 ≡ t
-          → OkService k links (pick t (controlWriting k who value b) (becoming k (byWriter who c) (playerWritten k (b .player) c value) b))
-          (pick t (controlWritten k s who value) (becomingBy k s who c (playerWritten k (s .player) c value)))
+          → OkService k links (pick t (controlWriting k who value b) (becoming k (byWriter who c) (playerWritten (catalogueOf k) (b .player) c value) b))
+          (pick t (controlWritten k s who value) (becomingBy k s who c (playerWritten (catalogueOf k) (s .player) c value)))
       go true e = control-step h on (room e)
       go false e =
-          ok-becoming k links b s ok (λ p. byWriter who c) (λ p. playerWritten k p c value)
-          (kept-written k (is-right k right) (s .player) (fine k links b s ok) value c writable e
+          ok-becoming k links b s ok (λ p. byWriter who c) (λ p. playerWritten (catalogueOf k) p c value)
+          (kept-written (catalogueOf k) (is-right (catalogueOf k) (rules-kept k right)) (s .player) (fine k links b s ok) value c writable e
           (subst (λ (p : Player). allowed (k .groups) p c value ≡ true) (sym (ok .0 .player)) may))
 
-module _ (k : Tables) (right : catalogueRule k ≡ true) (L : Ledger) (d : Desk) (ok : Ok k L d) where
+module _ (k : Lent) (right : lentRule k ≡ true) (L : Ledger) (d : Desk) (ok : Ok k L d) where
   -- ---- a read: what its rows say is what they say of what the ledger knows
   read-said : (who v c offset room : ℕ)
       → saidBy (row 205 (ltb room leastOutput) ∷ readerRows d who v c offset (length (valueNow k d v c))) ≡ saidBy (rowsOfRead k L who v c offset room)
@@ -224,7 +225,7 @@ module _ (k : Tables) (right : catalogueRule k ≡ true) (L : Ledger) (d : Desk)
   read-number who v c offset room =
       ap (λ (s : Said). s .number) (said-of d (fronted k (ltb room leastOutput) d ++ rows) _)
       ∙ granted-0 (accepted (fronted k (ltb room leastOutput) d ++ rows)) refl
-      ∙ ap (λ (s : Said). s .number) ((λ i. fronting (not (right i)) (not (ok .1 i))) ∙ read-said who v c offset room)
+      ∙ ap (λ (s : Said). s .number) ((λ i. fronting (not (rules-kept k right i)) (not (renames-kept k right i)) (not (ok .1 i))) ∙ read-said who v c offset room)
     where
       rows : List Row
       rows = readerRows d who v c offset (length (valueNow k d v c))
@@ -235,10 +236,10 @@ module _ (k : Tables) (right : catalogueRule k ≡ true) (L : Ledger) (d : Desk)
       granted-0 true e = ap (λ (s : Said). s .number) (all-of (fronted k (ltb room leastOutput) d ++ rows) (none-of (fronted k (ltb room leastOutput) d ++ rows) e))
       granted-0 false e = refl
 
-      -- behind 200 and 201
-      fronting : Bool → Bool → Said
-      fronting wrong fallen =
-          pick wrong (refusedWith (catalogueRow k .number) (catalogueRow k .values)) (pick (ltb room leastOutput) (refused 205) (pick fallen (refused 201) (saidBy rows)))
+      -- behind 200, 224 and 201
+      fronting : Bool → Bool → Bool → Said
+      fronting wrong misnamed fallen =
+          pick wrong (refusedWith (catalogueRow (catalogueOf k) .number) (catalogueRow (catalogueOf k) .values)) (pick misnamed (refused 224) (pick (ltb room leastOutput) (refused 205) (pick fallen (refused 201) (saidBy rows))))
 
   -- ---- a write: accepted exactly where the ledger's rows accept
   write-rows : (who v c : ℕ) (value : List ℕ) → accepted (writerRows k d who v c value) ≡ mayWrite k L who v c value

@@ -4,8 +4,7 @@ use mathlib.Core.Bool.{true}
 use mathlib.Core.List.{List}
 use Prim.Native.Nat.{ℕ, _*_, _≤_, _<_}
 use lib.ListN.{length, take as firsts}
-use Rattle.catalogue_tables.specs.Tables.{Tables}
-use Rattle.catalogue_check.specs.Catalogue.{catalogueRule}
+use Rattle.catalogue_titles.specs.Lent.{Lent, lentRule}
 use Rattle.player_check.specs.Standing.{textRule}
 use Rattle.desk_slots.specs.Slots.{slotCount, serviceCount, placeCount, clientCount, placeOf}
 use Rattle.desk_slots.proofs.PlaceLaws.{place-there}
@@ -19,7 +18,7 @@ use Rattle.desk_history.proofs.Serving.{backlog, backlog-at}
 use Rattle.desk_history.proofs.LedgerLaws.{ledgerSystem, laws}
 use Rattle.desk_history.proofs.Agree.{given-is, in-range, keeps-on}
 
-module _ (k : Tables) (right : catalogueRule k ≡ true) (gen nam : Beginning) (gt : textRule (gen .name) ≡ true) (nt : textRule (nam .name) ≡ true) where
+module _ (k : Lent) (right : lentRule k ≡ true) (gen nam : Beginning) (gt : textRule (gen .name) ≡ true) (nt : textRule (nam .name) ≡ true) where
   abbrev ledger : List Call → Ledger
   ledger h = ledgerAt k gen nam h
 

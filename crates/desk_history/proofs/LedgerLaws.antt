@@ -13,7 +13,7 @@ use lib.Dec.{eqb, leb}
 use lib.ListN.{length, length-append}
 use Rattle.ground.specs.Cases.{pick}
 use Rattle.ground.proofs.Cases.{clash}
-use Rattle.catalogue_tables.specs.Tables.{Tables}
+use Rattle.catalogue_titles.specs.Lent.{Lent, catalogueOf}
 use Rattle.player_state.specs.declared.Player.{Player}
 use Rattle.player_state.specs.Player.{renamed, deactivated}
 use Rattle.player_moves.specs.Clock.{advanced, activated}
@@ -59,7 +59,7 @@ module _ (s : ℕ) (x : Claims) where
   abbrev Held : Claims → Type 0
   Held y = backlog x s ≤ backlog y s
 
-  held-told : (k : Tables) (p q : Player) (cause : Cause) (who : ℕ) → Held (noticing k p q cause who x)
+  held-told : (k : Lent) (p q : Player) (cause : Cause) (who : ℕ) → Held (noticing k p q cause who x)
   held-told k p q cause who = by-slot s _ _ _ _ (λ e. le-refl _) (λ n. bit-up (x .due s) _)
 
   kept-slot : (a b : Bool) → (a && not b) ≡ true → b ≡ false
@@ -97,7 +97,7 @@ module _ (c s : ℕ) where
       go true h = g h
       go false h = le-refl _
 
-  in-becoming : (k : Tables) (cause : Cause) (q : Player) (b : Book) → HeldIn b (becoming k cause q b)
+  in-becoming : (k : Lent) (cause : Cause) (q : Player) (b : Book) → HeldIn b (becoming k cause q b)
   in-becoming k cause q b = held-told s (b .account c) k (b .player) q cause c
 
   -- by a test: one, or the other
@@ -105,10 +105,10 @@ module _ (c s : ℕ) where
   in-either true b d e f g h = f h
   in-either false b d e f g h = g h
 
-  in-writing : (k : Tables) (who x : ℕ) (value : List ℕ) (b : Book) → WantsIn (writing k who x value b) → HeldIn b (writing k who x value b)
+  in-writing : (k : Lent) (who x : ℕ) (value : List ℕ) (b : Book) → WantsIn (writing k who x value b) → HeldIn b (writing k who x value b)
   in-writing k who x value b =
-      in-either (eqb x 18) b (controlWriting k who value b) (becoming k (byWriter who x) (playerWritten k (b .player) x value) b) control
-      (λ h. in-becoming k (byWriter who x) (playerWritten k (b .player) x value) b)
+      in-either (eqb x 18) b (controlWriting k who value b) (becoming k (byWriter who x) (playerWritten (catalogueOf k) (b .player) x value) b) control
+      (λ h. in-becoming k (byWriter who x) (playerWritten (catalogueOf k) (b .player) x value) b)
     where
       control : WantsIn (controlWriting k who value b) → HeldIn b (controlWriting k who value b)
       control h =
@@ -140,7 +140,7 @@ module _ (c v s : ℕ) where
       go true h = g (L .service v) h
       go false h = le-refl _
 
-  still-told : (k : Tables) (t : Bool) (w : ℕ) (cause : Player → Cause) (q : Player → Player) (L : Ledger)
+  still-told : (k : Lent) (t : Bool) (w : ℕ) (cause : Player → Cause) (q : Player → Player) (L : Ledger)
       → Wants (pick t (inService w (λ b. becoming k (cause (b .player)) (q (b .player)) b) L) L)
       → Still L (pick t (inService w (λ b. becoming k (cause (b .player)) (q (b .player)) b) L) L)
   still-told k t w cause q L =
@@ -164,7 +164,7 @@ found : Option Handout → Bool
 found none = false
 found (some a) = true
 
-module _ (k : Tables) (c v s : ℕ) where
+module _ (k : Lent) (c v s : ℕ) where
   still : (call : Call) (L : Ledger) → dueOut k call L ≡ none → Wants c v s (after k call L) → Still c v s L (after k call L)
   unfolding found
   still (setName w name) L e = still-told c v s k (accepted (nameRows w name)) w (λ p. noWriter false) (renamed name) L
@@ -194,12 +194,12 @@ orElse a (some b) = b
 abbrev pub servingNext : Ledger → Ledger
 servingNext L = servingAt L (nextIn L) (placeIn L (nextIn L))
 
-pub record Serves (k : Tables) (call : Call) (L : Ledger) (a : Handout) : Type 0 where
+pub record Serves (k : Lent) (call : Call) (L : Ledger) (a : Handout) : Type 0 where
   pub is : a ≡ answerIn k L (nextIn L)
   pub inside : nextIn L < clientCount
   pub leaves : after k call L ≡ servingNext L
 
-module _ (k : Tables) where
+module _ (k : Lent) where
   never : {A : Type 0} (a : Handout) → none ≡ some a → A
   unfolding found
   never a e = absurd (true≢false (sym (ap found e)))
@@ -236,7 +236,7 @@ InRange L = (L .turn < clientCount) × ((c : ℕ) → c < clientCount → L .lin
 abbrev pub wantsAt : Ledger → ℕ → ℕ → Bool
 wantsAt L who place = L .service (serviceOf place) .account who .wants (slotAt place)
 
-abbrev pub ledgerSystem : Tables → System
+abbrev pub ledgerSystem : Lent → System
 ledgerSystem k =
     record {
       State = Ledger;
@@ -379,7 +379,7 @@ marks-if false M L f = marks-same L
 marks-in : (t : Bool) (w : ℕ) (f : Book → Book) (L : Ledger) → Marks L (pick t (inService w f L) L)
 marks-in t w f L = marks-if t (inService w f L) L (refl, λ c. inl refl)
 
-marks-told : (k : Tables) (t : Bool) (w : ℕ) (cause : Player → Cause) (q : Player → Player) (L : Ledger)
+marks-told : (k : Lent) (t : Bool) (w : ℕ) (cause : Player → Cause) (q : Player → Player) (L : Ledger)
     → Marks L (pick t (inService w (λ b. becoming k (cause (b .player)) (q (b .player)) b) L) L)
 marks-told k t w cause q L = marks-in t w (λ b. becoming k (cause (b .player)) (q (b .player)) b) L
 
@@ -390,7 +390,7 @@ marks-relinking t who on safe mtu L = marks-if t (relinking who (lineOf on safe 
     go c true = inr refl
     go c false = inl refl
 
-module _ (k : Tables) where
+module _ (k : Lent) where
   marks : (call : Call) (L : Ledger) → dueOut k call L ≡ none → Marks L (after k call L)
   unfolding found
   marks (setName w name) L e = marks-told k (accepted (nameRows w name)) w (λ p. noWriter false) (renamed name) L
@@ -410,7 +410,7 @@ module _ (k : Tables) where
       go true false h = absurd (true≢false (ap found h))
       go false u h = marks-same L
 
-module _ (k : Tables) where
+module _ (k : Lent) where
   in-range : (call : Call) (L : Ledger) → InRange L → InRange (after k call L)
   in-range call L g = go (dueOut k call L) refl
     where

@@ -13,7 +13,7 @@ use Rattle.desk_slots.specs.Slots.{slotCount, insert, remove, characteristicOf}
 use Rattle.desk_slots.proofs.Bits.{has-zero}
 use Rattle.desk_slots.proofs.SetLaws.{set-has}
 use Rattle.desk_slots.proofs.SlotLaws.{has-insert, has-remove, remove-other}
-use Rattle.catalogue_tables.specs.Tables.{Tables}
+use Rattle.catalogue_titles.specs.Lent.{Lent}
 use Rattle.player_state.specs.declared.Player.{Player}
 use Rattle.desk_notices.specs.Changes.{changed, trackChanged}
 use Rattle.desk_notices.specs.declared.Cause.{Cause}
@@ -75,7 +75,7 @@ module _ (x : Claims) (a : Account) (like : LikeAccount x a) where
       }
 
   -- what falls due by the players p and q
-  pub like-noted : (k : Tables) (p q : Player) (cause : Cause) (who : ℕ)
+  pub like-noted : (k : Lent) (p q : Player) (cause : Cause) (who : ℕ)
       → LikeAccount (noticing k p q cause who x) (noted (dueTo (sourceOf k) p q cause who) (alteredOf (sourceOf k) p q) a)
   unfolding noted dueTo alteredOf
   like-noted k p q cause who =
@@ -91,7 +91,7 @@ module _ (x : Claims) (a : Account) (like : LikeAccount x a) where
         long = like .long;
       }
     where
-      falls : Tables → Player → Player → Cause → ℕ → ℕ → Bool
+      falls : Lent → Player → Player → Cause → ℕ → ℕ → Bool
       falls k p q cause who s =
           fallsDue (changed (sourceOf k) p q (characteristicOf s)) (trackChanged p q) (characteristicOf s) && not (spared cause who (characteristicOf s))
 

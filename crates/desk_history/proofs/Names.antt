@@ -12,7 +12,7 @@ use Rattle.ground.specs.Cases.{pick}
 use Rattle.ground.specs.Words.{wordAt}
 use Rattle.ground.specs.Refusals.{accepted}
 use Rattle.ground.proofs.Cases.{past, true-or, clash, and-left, and-right, and-both}
-use Rattle.catalogue_tables.specs.Tables.{Tables}
+use Rattle.catalogue_titles.specs.Lent.{Lent, catalogueOf}
 use Rattle.player_walk.specs.declared.Step.the-variants.{Next}
 use Rattle.player_opcodes.specs.Opcodes.{offered, stepOf, actionOf}
 use Rattle.player_state.specs.declared.Player.{Player}
@@ -34,7 +34,7 @@ use Rattle.desk_history.specs.Apart.{To, naming, activating, deactivatin
 use Rattle.desk_history.specs.Names.{endsTrack, mayTouchName, endsHere, UsesName}
 
 -- ---- what a call makes of the player of the service to which it goes, where it is accepted
-abbrev made : Tables → Call → Player → Player
+abbrev made : Lent → Call → Player → Player
 made k (setName v name) p = renamed name p
 made k (activate v g) p = activated (k .groups) (k .tracks) g p
 made k (deactivate v) p = deactivated p
@@ -45,11 +45,11 @@ made k (subscribe who v c) p = p
 made k (unsubscribe who v c) p = p
 made k (read who v c offset room) p = p
 made k (write who v c value) p =
-    pick (eqb c 18) (controlled (k .groups) (k .tracks) (k .segments) (firstOctet value) (numberOf value) p .player) (playerWritten k p c value)
+    pick (eqb c 18) (controlled (k .groups) (k .tracks) (k .segments) (firstOctet value) (numberOf value) p .player) (playerWritten (catalogueOf k) p c value)
 made k (take room) p = p
 
 -- of the player of service v after a call, what holds of it before, and of what the call makes of it where it goes to this service
-module _ (k : Tables) (L : Ledger) (v : ℕ) (P : Player → Type 0) (was : P (L .service v .player)) where
+module _ (k : Lent) (L : Ledger) (v : ℕ) (P : Player → Type 0) (was : P (L .service v .player)) where
   in-service : (t : Bool) (w : ℕ) (f : Book → Book) → (v ≡ w → P (f (L .service v) .player)) → P (pick t (inService w f L) L .service v .player)
   in-service true w f new = at (eqb v w) refl
     where
@@ -97,8 +97,8 @@ module _ (k : Tables) (L : Ledger) (v : ℕ) (P : Player → Type 0) (was : P (L
       b : Book
       b = L .service v
 
-      either : (t : Bool) → P (pick t (outcome k b value .player) (playerWritten k (b .player) c value))
-          → P (pick t (controlWriting k who value b) (becoming k (byWriter who c) (playerWritten k (b .player) c value) b) .player)
+      either : (t : Bool) → P (pick t (outcome k b value .player) (playerWritten (catalogueOf k) (b .player) c value))
+          → P (pick t (controlWriting k who value b) (becoming k (byWriter who c) (playerWritten (catalogueOf k) (b .player) c value) b) .player)
       either true h = h
       either false h = h
   by-call (take room) new = in-take (mayTake room) (leb clientCount (nextIn L)) (nextIn L) (placeIn L (nextIn L))
@@ -112,9 +112,9 @@ neither : (a b : Bool) → (a || b) ≡ false → (a ≡ false) × (b ≡ false)
 neither true b e = clash (sym e)
 neither false b e = (refl, e)
 
-module _ (k : Tables) (p : Player) where
+module _ (k : Lent) (p : Player) where
   -- a write to anything but 12 and 18
-  written-keeps : (c : ℕ) (value : List ℕ) → eqb c 12 ≡ false → Keeps p (playerWritten k p c value)
+  written-keeps : (c : ℕ) (value : List ℕ) → eqb c 12 ≡ false → Keeps p (playerWritten (catalogueOf k) p c value)
   unfolding playerWritten
   written-keeps c value other =
       by-test (Keeps p) (eqb c 7) _ _ (λ e. positioned-keeps p (k .tracks) (wordAt value 0))
@@ -123,12 +123,12 @@ module _ (k : Tables) (p : Player) where
       (λ n11. by-test (Keeps p) (eqb c 12) _ _ (λ e. clash (sym other ∙ e))
       (λ n12. by-test (Keeps p) (eqb c 14) _ _ (λ e. group-keeps p (k .groups) (k .tracks) (groupAt value)) (λ n14. order-keeps p (firstOctet value))))))
 
-  written-elsewhere : (c : ℕ) (value : List ℕ) → NoneElsewhere p (playerWritten k p c value)
+  written-elsewhere : (c : ℕ) (value : List ℕ) → NoneElsewhere p (playerWritten (catalogueOf k) p c value)
   unfolding playerWritten
   written-elsewhere c value =
       ⊎-elim
-      (λ e. subst (λ (x : ℕ). NoneElsewhere p (playerWritten k p x value)) (sym (eqb-true c 12 e)) (λ off. clash (sym off ∙ on-its-own p)))
-      (λ n. kept-elsewhere p (playerWritten k p c value) (written-keeps c value n))
+      (λ e. subst (λ (x : ℕ). NoneElsewhere p (playerWritten (catalogueOf k) p x value)) (sym (eqb-true c 12 e)) (λ off. clash (sym off ∙ on-its-own p)))
+      (λ n. kept-elsewhere p (playerWritten (catalogueOf k) p c value) (written-keeps c value n))
       (true-or (eqb c 12))
 
   still : NoneElsewhere p p
@@ -170,7 +170,7 @@ module _ (k : Tables) (p : Player) where
       (λ n. written-keeps c value (both .0))
   made-keeps (take room) none = stays p
 
-module _ (k : Tables) (L : Ledger) (v : ℕ) where
+module _ (k : Lent) (L : Ledger) (v : ℕ) where
   abbrev before : Player
   before = L .service v .player
 

@@ -12,8 +12,7 @@ use lib.Dec.{eqb}
 use lib.ListN.{length, take as firsts, drop, take-append-drop}
 use Rattle.ground.specs.Cases.{pick}
 use Rattle.ground.proofs.Cases.{past, here}
-use Rattle.catalogue_tables.specs.Tables.{Tables}
-use Rattle.catalogue_check.specs.Catalogue.{catalogueRule}
+use Rattle.catalogue_titles.specs.Lent.{Lent, lentRule}
 use Rattle.player_check.specs.Standing.{textRule}
 use Rattle.desk_slots.specs.Slots.{clientCount, placeOf}
 use Rattle.desk_client.specs.Client.{controlSlot}
@@ -58,7 +57,7 @@ module _ (c v s : ℕ) where
       go false e = e
 
 -- ---- over a history
-module _ (k : Tables) (right : catalogueRule k ≡ true) (gen nam : Beginning) (gt : textRule (gen .name) ≡ true) (nt : textRule (nam .name) ≡ true) (who v : ℕ) (there : who < clientCount) where
+module _ (k : Lent) (right : lentRule k ≡ true) (gen nam : Beginning) (gt : textRule (gen .name) ≡ true) (nt : textRule (nam .name) ≡ true) (who v : ℕ) (there : who < clientCount) where
   abbrev L : List Call → Ledger
   L h = ledgerAt k gen nam h
 

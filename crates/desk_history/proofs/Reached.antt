@@ -13,7 +13,9 @@ use Rattle.ground.specs.Lists.{allBelow, sumBelow}
 use Rattle.ground.specs.Refusals.{accepted}
 use Rattle.ground.specs.Words.{sixOctets}
 use Rattle.ground.proofs.Cases.{and-left, and-right}
-use Rattle.catalogue_tables.specs.Tables.{Tables, startsOf, titleOf}
+use Rattle.catalogue_tables.specs.Tables.{startsOf, titleOf}
+use Rattle.catalogue_titles.specs.Titles.{entryRule, countRule, entriesRule, renamesRule, partOf, octetsAt}
+use Rattle.catalogue_titles.specs.Lent.{Lent, lentRule}
 use Rattle.catalogue_rules.specs.Rules.{sizesRule, parentsRule, follow, trackRunsRule, segmentRunsRule, durationsRule, beginRule, riseRule, belowRule, startsRule, titlesPlacedRule, titlesTextRule}
 use Rattle.catalogue_check.specs.Catalogue.{plainRule, catalogueRule}
 use Rattle.player_walk.specs.Steps.{moveIn}
@@ -33,7 +35,7 @@ use Rattle.player_moves.specs.Clock.{activated}
 use Rattle.desk_slots.specs.Slots.{placeCount, clientCount, slotOf, characteristicOf, serviceOf, slotAt}
 use Rattle.desk_notices.specs.Changes.{sameOctets, changed, trackNumber, trackChanged}
 use Rattle.desk_notices.specs.Owed.{spared, noWriter}
-use Rattle.player_values.specs.Values.{wordOctets, titleValue, durationValue, positionValue, trackNow, nextNow, parentNow, groupNow, objectOctets, valueOf}
+use Rattle.player_values.specs.Values.{wordOctets, titlePart, titleValue, durationValue, positionValue, trackNow, nextNow, parentNow, groupNow, objectOctets, valueOf}
 use Rattle.desk_console.specs.Console.{Beginning, freshly, nameRows, activateRows}
 use Rattle.desk_history.specs.Calls.{Call, setName, activate, deactivate, advance, connect, disconnect, subscribe, unsubscribe, read, write, take}
 use Rattle.desk_history.specs.Ledger.{Ledger, opening, lineOf, inService, changing, relinking, becoming, joining, serving, owes, anyBelow, owedAny, nextIn, placeIn, servingAt, taking, mayConnect, mayJoin, mayWrite, mayTake, writing, after}
@@ -42,7 +44,7 @@ use Rattle.desk_history.specs.History.{answerIn, dueOut, ledgerAt, onwar
 use Rattle.desk_history.specs.Reached.{oneTrack, plain, comes, everything, takes, reachedHistory}
 use Rattle.desk_history.proofs.LedgerLaws.{ledgerSystem}
 
-module _ (k : Tables) where
+module _ (k : Lent) where
   -- what an accepted call makes of the ledger, and whether it is accepted; calls that the history does not make are left as they are
   abbrev sure : Call → Ledger → Ledger
   sure (setName v name) L = inService v (λ b. becoming k (noWriter false) (renamed name (b .player)) b) L
@@ -208,11 +210,11 @@ unfolding slotOf serviceOf
 name-wanted = refl
 
 pub others-served : serveAll oneTrack others waiting ≡ true
-unfolding nextIn placeIn owedAny anyBelow next first serviceOf slotAt slotOf isIn changed sameOctets valueOf characteristicOf startedPlayer renamed spared titleValue durationValue positionValue trackNow nextNow parentNow groupNow wordOctets objectOctets sixOctets trackChanged trackNumber playerWritten activated entryOf controlled offered maskBit has nextTrack trackAfter moveIn tracksInOrder ordered acted actionOf forwarded titleOf
+unfolding nextIn placeIn owedAny anyBelow next first serviceOf slotAt slotOf isIn changed sameOctets valueOf characteristicOf startedPlayer renamed spared titleValue titlePart partOf octetsAt durationValue positionValue trackNow nextNow parentNow groupNow wordOctets objectOctets sixOctets trackChanged trackNumber playerWritten activated entryOf controlled offered maskBit has nextTrack trackAfter moveIn tracksInOrder ordered acted actionOf forwarded titleOf
 others-served = refl
 
 -- ---- the ledger after it
-module _ (k : Tables) (gen nam : Beginning) where
+module _ (k : Lent) (gen nam : Beginning) where
   sure-onward : (cs h : List Call) (L : Ledger) → ledgerAt k gen nam h ≡ L → fitAll k cs L ≡ true → ledgerAt k gen nam (onward k gen nam h cs) ≡ sureAll k cs L
   sure-onward [] h L e f = e
   sure-onward (c ∷ cs) h L e f =
@@ -277,8 +279,8 @@ ledger-is =
     subst (λ (h : List Call). ledgerAt oneTrack plain plain h ≡ waiting) in-parts
     (sure-onward oneTrack plain plain once-more h3 (servedAll oneTrack (round 0) owing) ledger-3 name-changes)
 
-pub one-track-right : catalogueRule oneTrack ≡ true
-unfolding catalogueRule plainRule sizesRule parentsRule trackRunsRule follow segmentRunsRule durationsRule startsRule beginRule riseRule belowRule titlesPlacedRule titlesTextRule allBelow sumBelow startsOf titleOf textOf textFrom charOf
+pub one-track-right : lentRule oneTrack ≡ true
+unfolding lentRule renamesRule countRule entriesRule entryRule catalogueRule plainRule sizesRule parentsRule trackRunsRule follow segmentRunsRule durationsRule startsRule beginRule riseRule belowRule titlesPlacedRule titlesTextRule allBelow sumBelow startsOf titleOf textOf textFrom charOf
 one-track-right = refl
 
 pub no-name-right : textRule (plain .name) ≡ true

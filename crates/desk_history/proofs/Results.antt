@@ -14,7 +14,7 @@ use lib.Seq.{take-all}
 use Rattle.ground.specs.Cases.{pick}
 use Rattle.ground.specs.Refusals.{accepted}
 use Rattle.ground.proofs.Cases.{here, clash, and-fails}
-use Rattle.catalogue_tables.specs.Tables.{Tables}
+use Rattle.catalogue_titles.specs.Lent.{Lent, catalogueOf}
 use Rattle.player_state.specs.declared.Player.{Player}
 use Rattle.player_state.specs.Player.{renamed, deactivated}
 use Rattle.player_moves.specs.Clock.{advanced, activated}
@@ -67,7 +67,7 @@ module _ (c : ℕ) where
   abbrev Now : Book → Book → List (List ℕ) → Type 0
   Now b d R = OfAccount (b .account c) (d .account c) R
 
-  becoming-turn : (k : Tables) (cause : Cause) (q : Player) (b : Book) → Now b (becoming k cause q b) []
+  becoming-turn : (k : Lent) (cause : Cause) (q : Player) (b : Book) → Now b (becoming k cause q b) []
   becoming-turn k cause q b = keeps refl refl
 
   changing-turn : (who : ℕ) (f : Claims → Claims) → ((x : Claims) → OfAccount x (f x) []) → (b : Book) → Now b (changing who f b) []
@@ -77,7 +77,7 @@ module _ (c : ℕ) where
       go true = g (b .account c)
       go false = keeps refl refl
 
-module _ (k : Tables) (c : ℕ) where
+module _ (k : Lent) (c : ℕ) where
   -- a control write: its result behind the others, for a writer that is subscribed
   control-turn : (who : ℕ) (value : List ℕ) (b : Book)
       → Now c b (controlWriting k who value b) (pick (eqb c who && b .account c .wants controlSlot) (resultOctets (resultOf k b value) ∷ []) [])
@@ -105,7 +105,7 @@ module _ (k : Tables) (c : ℕ) where
   written-turn who x value b = go (eqb x 18)
     where
       go : (t : Bool)
-          → Now c b (pick t (controlWriting k who value b) (becoming k (byWriter who x) (playerWritten k (b .player) x value) b))
+          → Now c b (pick t (controlWriting k who value b) (becoming k (byWriter who x) (playerWritten (catalogueOf k) (b .player) x value) b))
           (pick (eqb c who && (t && b .account c .wants controlSlot)) (resultOctets (resultOf k b value) ∷ []) [])
       go true = control-turn who value b
       go false = keeps (λ i. pick (and-fails (eqb c who) refl i) (resultOctets (resultOf k b value) ∷ []) []) refl
@@ -142,7 +142,7 @@ control-place p =
     ap (eqb (placeOf (serviceOf p) controlSlot)) (sym (place-again p)) ∙ same-slot (serviceOf p * slotCount) controlSlot (slotAt p)
 
 -- a take that serves place p of client n, seen by client c at service v
-module _ (k : Tables) (L : Ledger) (n p : ℕ) where
+module _ (k : Lent) (L : Ledger) (n p : ℕ) where
   abbrev given : List (List ℕ)
   given = octetsIn k (L .service (serviceOf p)) n (L .link n) (slotAt p) ∷ []
 
@@ -177,7 +177,7 @@ module _ (k : Tables) (L : Ledger) (n p : ℕ) where
               ]
         ]
 
-module _ (k : Tables) (c v : ℕ) where
+module _ (k : Lent) (c v : ℕ) where
   abbrev Waits : Ledger → Ledger → List (List ℕ) → Type 0
   Waits L M R = Now c (L .service v) (M .service v) R
 

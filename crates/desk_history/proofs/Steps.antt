@@ -9,8 +9,8 @@ use lib.Dec.{eqb, leb}
 use Rattle.ground.specs.Cases.{pick}
 use Rattle.ground.proofs.Cases.{le-or}
 use Rattle.ground.proofs.Rows.{none-of, state-of}
-use Rattle.catalogue_tables.specs.Tables.{Tables}
-use Rattle.catalogue_check.specs.Catalogue.{catalogueRule}
+use Rattle.catalogue_titles.specs.Lent.{Lent, catalogueOf, lentRule}
+use Rattle.catalogue_titles.proofs.Laws.{rules-kept, renames-kept}
 use Rattle.catalogue_check.proofs.Laws.{is-right}
 use Rattle.player_state.specs.declared.Player.{Player}
 use Rattle.player_state.specs.Player.{renamed, deactivated}
@@ -44,7 +44,7 @@ use Rattle.player_values.specs.Values.{sourceOf}
 use Rattle.desk_history.proofs.Agreement.{same-throughout, like-changing, account-kept, like-becoming, settled-stands, agree-service, agree-client, client-kept}
 
 -- ---- alike and standing: the whole, and a service beside the clients' links
-module _ (k : Tables) where
+module _ (k : Lent) where
   abbrev pub Ok : Ledger → Desk → Type 0
   Ok L d = Agrees L d × (stateRight k d ≡ true)
 
@@ -52,7 +52,7 @@ module _ (k : Tables) where
   OkService links b s = LikeService b s × (serviceRule (k .groups) (k .tracks) links s ≡ true)
 
 -- ---- within a service
-module _ (k : Tables) (links : List Link) (b : Book) (s : Service) (ok : OkService k links b s) where
+module _ (k : Lent) (links : List Link) (b : Book) (s : Service) (ok : OkService k links b s) where
   pub fine : playerRule (k .groups) (k .tracks) (s .player) ≡ true
   fine = service-player (k .groups) (k .tracks) links s (ok .1)
 
@@ -79,10 +79,10 @@ module _ (k : Tables) (links : List Link) (b : Book) (s : Service) (ok : OkServi
       )
 
 -- ---- the whole
-module _ (k : Tables) (right : catalogueRule k ≡ true) (L : Ledger) (d : Desk) (ok : Ok k L d) where
+module _ (k : Lent) (right : lentRule k ≡ true) (L : Ledger) (d : Desk) (ok : Ok k L d) where
   -- the rows behind 200 and 201
   pub guard : (small : Bool) (rows : List Row) → accepted (fronted k small d ++ rows) ≡ accepted (row 205 small ∷ rows)
-  guard small rows = λ i. not (not (right i)) && (not small && (not (not (ok .1 i)) && accepted rows))
+  guard small rows = λ i. not (not (rules-kept k right i)) && (not (not (renames-kept k right i)) && (not small && (not (not (ok .1 i)) && accepted rows)))
 
   -- a call that is accepted exactly where the ledger's rows accept
   pub ok-call : (small t : Bool) (rows : List Row) (work : Left Desk) (M : Ledger) → accepted (row 205 small ∷ rows) ≡ t → (t ≡ true → Ok k M (work .state))
@@ -140,7 +140,7 @@ module _ (k : Tables) (right : catalogueRule k ≡ true) (L : Ledger) (d : Desk)
       let there = not-false _ (n .1 .0) in
       player-step v (leb-false serviceCount v (n .0)) (λ p. noWriter false) (activated (k .groups) (k .tracks) g)
       (λ p stands.
-      kept-activated (k .groups) (k .tracks) (k .segments) (shaped k (is-right k right)) p stands g (group-there (k .groups) g there) (group-used (k .groups) g there)))
+      kept-activated (k .groups) (k .tracks) (k .segments) (shaped (catalogueOf k) (is-right (catalogueOf k) (rules-kept k right))) p stands g (group-there (k .groups) g there) (group-used (k .groups) g there)))
 
   pub deactivate-step : (v : ℕ)
       → Ok k (pick (accepted (serviceRows v)) (inService v (λ b. becoming k (noWriter false) (deactivated (b .player)) b) L) L) (deactivateCall k d v .state)
@@ -159,7 +159,7 @@ module _ (k : Tables) (right : catalogueRule k ≡ true) (L : Ledger) (d : Desk)
   advance-step v step =
       ok-call false (accepted (serviceRows v)) (serviceRows v) _ _ refl
       (λ e. player-step v (leb-false serviceCount v (none-of (serviceRows v) e .0)) (λ p. noWriter (quietAdvance (k .tracks) step p)) (advanced (k .groups) (k .tracks) step)
-      (λ p stands. kept-advanced (k .groups) (k .tracks) (k .segments) (shaped k (is-right k right)) p stands step))
+      (λ p stands. kept-advanced (k .groups) (k .tracks) (k .segments) (shaped (catalogueOf k) (is-right (catalogueOf k) (rules-kept k right))) p stands step))
 
   -- ---- the calls of the clients
   -- 202, 219: of a number out of range both say no; of another what stands behind is alike

@@ -18,7 +18,8 @@ use Rattle.ground.specs.Refusals.{Said, granted, Row, row, rowWith, saidBy, lea
 use Rattle.ground.proofs.Rows.{said-of}
 use Rattle.ground.proofs.Cases.{past, here, clash, true-or}
 use Rattle.desk_replies.specs.Replies.{stateRight, fronted, linkOf, accountOf}
-use Rattle.catalogue_tables.specs.Tables.{Tables}
+use Rattle.catalogue_titles.specs.Lent.{Lent, catalogueOf, lentRule, renamesRow}
+use Rattle.catalogue_titles.proofs.Laws.{rules-kept}
 use Rattle.catalogue_check.specs.Catalogue.{catalogueRule, catalogueCarries}
 use Rattle.player_state.specs.declared.Player.{Player}
 use Rattle.player_values.specs.Values.{sourceOf, valueOf}
@@ -71,7 +72,7 @@ all-listed f zero a h = tt
 all-listed f (suc n) a h = (h a (omega arith), all-listed f n (suc a) (λ i l. h i (omega arith)))
 
 -- ---- the whole
-module _ (k : Tables) (right : catalogueRule k ≡ true) (L : Ledger) (d : Desk) (ok : Ok k L d) where
+module _ (k : Lent) (right : lentRule k ≡ true) (L : Ledger) (d : Desk) (ok : Ok k L d) where
   turned : d .turn < clientCount
   turned = turn-there (k .groups) (k .tracks) d (ok .1)
 
@@ -304,11 +305,13 @@ module _ (k : Tables) (right : catalogueRule k ≡ true) (L : Ledger) (d : Desk)
       (λ e. subst (λ (n : ℕ). Ok k (taking L (nextIn L)) (takenBy k d n .state)) (sym next-agrees) taken-ok)
 
   -- the refusals of a take carry nothing where the catalogue is right
-  no-values : (carried : List ℕ) (wrong small fallen : Bool) → wrong ≡ false → saidBy (rowWith 200 carried wrong ∷ row 205 small ∷ row 201 fallen ∷ []) .values ≡ []
-  no-values carried true small fallen e = clash (sym e)
-  no-values carried false true fallen e = refl
-  no-values carried false false true e = refl
-  no-values carried false false false e = refl
+  no-values : (carried : List ℕ) (wrong misnamed small fallen : Bool) → wrong ≡ false
+      → saidBy (rowWith 200 carried wrong ∷ row 224 misnamed ∷ row 205 small ∷ row 201 fallen ∷ []) .values ≡ []
+  no-values carried true misnamed small fallen e = clash (sym e)
+  no-values carried false true small fallen e = refl
+  no-values carried false false true fallen e = refl
+  no-values carried false false false true e = refl
+  no-values carried false false false false e = refl
 
   -- what the desk says of a take, and what it hands out
   pub take-agrees : (room : ℕ) → spoken (takeCall k d room .said .values) (takeOctets k d) ≡ pick (mayTake room) (pick (leb clientCount (nextIn L)) none (some (answerIn k L (nextIn L)))) none
@@ -336,4 +339,4 @@ module _ (k : Tables) (right : catalogueRule k ≡ true) (L : Ledger) (d : Desk)
       enough : (t : Bool) → spoken (pick t (takenBy k d (nextIn L) .said) (saidBy rows) .values) (octets (nextClient d))
           ≡ pick t (pick (leb clientCount (nextIn L)) none (some (answerIn k L (nextIn L)))) none
       enough true = (λ i. spoken (takenBy k d (nextIn L) .said .values) (octets (next-agrees i))) ∙ serves (leb clientCount (nextIn L)) refl
-      enough false = ap (λ (v : List ℕ). spoken v (octets (nextClient d))) (no-values (catalogueCarries k) (not (catalogueRule k)) (ltb room leastOutput) (not (stateRight k d)) (ap not right))
+      enough false = ap (λ (v : List ℕ). spoken v (octets (nextClient d))) (no-values (catalogueCarries (catalogueOf k)) (not (catalogueRule (catalogueOf k))) (renamesRow k .applies) (ltb room leastOutput) (not (stateRight k d)) (ap not (rules-kept k right)))

@@ -3,7 +3,7 @@
 use mathlib.Core.Bool.{Bool}
 use mathlib.Core.List.{List}
 use Prim.Native.Nat.{ℕ}
-use Rattle.catalogue_tables.specs.Tables.{Tables}
+use Rattle.catalogue_titles.specs.Lent.{Lent}
 use Rattle.ground.specs.Refusals.{Left}
 use Rattle.desk_state.specs.declared.Desk.{Desk}
 use Rattle.desk_links.specs.Links.{connectCall, disconnectCall, subscribeCall, unsubscribeCall}
@@ -28,7 +28,7 @@ pub data Call : Type 0 where
   take : ℕ → Call
 
 -- what a call says and leaves, by its contract
-abbrev pub left : Tables → Call → Desk → Left Desk
+abbrev pub left : Lent → Call → Desk → Left Desk
 left k (setName v name) d = nameCall k d v name
 left k (activate v g) d = activateCall k d v g
 left k (deactivate v) d = deactivateCall k d v

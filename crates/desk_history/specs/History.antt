@@ -1,4 +1,4 @@
--- A history: a list of calls after a start, with one catalogue throughout, "each call given the state the last one left". The ledger and the desk after
+-- A history: a list of calls after a start, with one catalogue and one text of renamed titles throughout, "each call given the state the last one left". The ledger and the desk after
 -- it, and what its takes hand out.
 -- Assumes nothing.
 use mathlib.Core.Path.{_≡_}
@@ -9,7 +9,7 @@ use Prim.Native.Nat.{ℕ, suc, _-_, _*_, _≤_, _<_}
 use lib.Dec.{eqb, leb}
 use lib.ListN.{length, take as firsts}
 use Rattle.ground.specs.Cases.{pick}
-use Rattle.catalogue_tables.specs.Tables.{Tables}
+use Rattle.catalogue_titles.specs.Lent.{Lent}
 use Rattle.player_values.specs.Values.{sourceOf, valueOf}
 use Rattle.desk_slots.specs.Slots.{placeCount, clientCount, slotOf, characteristicOf, placeOf, serviceOf, slotAt}
 use Rattle.desk_client.specs.declared.Entry.{Entry}
@@ -27,19 +27,19 @@ abbrev pub oldest : List Entry → List ℕ
 oldest [] = []
 oldest (e ∷ l) = resultOctets e
 
-abbrev pub octetsIn : Tables → Book → ℕ → Line → ℕ → List ℕ
+abbrev pub octetsIn : Lent → Book → ℕ → Line → ℕ → List ℕ
 octetsIn k b who line s =
     firsts (line .mtu - 3) (pick (isControl s) (oldest (b .account who .waiting)) (valueOf (sourceOf k) (b .player) (characteristicOf s)))
 
-abbrev pub answerAt : Tables → Ledger → ℕ → ℕ → Handout
+abbrev pub answerAt : Lent → Ledger → ℕ → ℕ → Handout
 answerAt k L who place =
     record { client = who; place = place; octets = octetsIn k (L .service (serviceOf place)) who (L .link who) (slotAt place) }
 
-abbrev pub answerIn : Tables → Ledger → ℕ → Handout
+abbrev pub answerIn : Lent → Ledger → ℕ → Handout
 answerIn k L who = answerAt k L who (placeIn L who)
 
 -- a take of enough room hands out the next thing that is owed, if anything is; no other call hands out anything
-abbrev pub dueOut : Tables → Call → Ledger → Option Handout
+abbrev pub dueOut : Lent → Call → Ledger → Option Handout
 dueOut k (setName v name) L = none
 dueOut k (activate v g) L = none
 dueOut k (deactivate v) L = none
@@ -62,7 +62,7 @@ spoken (who ∷ v ∷ characteristic ∷ n ∷ []) octets =
     some (record { client = who; place = placeOf v (slotOf characteristic); octets = octets })
 spoken (a ∷ b ∷ c ∷ d ∷ e ∷ l) octets = none
 
-abbrev pub handedOut : Tables → Call → Desk → Option Handout
+abbrev pub handedOut : Lent → Call → Desk → Option Handout
 handedOut k (setName v name) d = none
 handedOut k (activate v g) d = none
 handedOut k (deactivate v) d = none
@@ -76,7 +76,7 @@ handedOut k (write who v c value) d = none
 handedOut k (take room) d = spoken (takeCall k d room .said .values) (takeOctets k d)
 
 -- the result, for client c and service v, of an accepted control write by c to v, subscribed to 18 there at the time: "requested opcode and result"
-abbrev pub resultBy : Tables → ℕ → ℕ → Call → Ledger → List (List ℕ)
+abbrev pub resultBy : Lent → ℕ → ℕ → Call → Ledger → List (List ℕ)
 resultBy k c v (setName w name) L = []
 resultBy k c v (activate w g) L = []
 resultBy k c v (deactivate w) L = []
@@ -91,7 +91,7 @@ resultBy k c v (write who w x value) L =
     (pick (eqb c who && (eqb v w && (eqb x 18 && L .service v .account c .wants controlSlot))) (resultOctets (resultOf k (L .service v) value) ∷ []) []) []
 resultBy k c v (take room) L = []
 
-module _ (k : Tables) (generic named : Beginning) where
+module _ (k : Lent) (generic named : Beginning) where
   -- newest call first
   abbrev pub ledgerAt : List Call → Ledger
   ledgerAt [] = opening (freshly generic) (freshly named)
@@ -150,7 +150,7 @@ pub record Handed : Type 0 where
 abbrev pub handedBy : ℕ → List (List ℕ) → List Handed
 handedBy place l = map (λ o. record { place = place; octets = o }) l
 
-module _ (k : Tables) (generic named : Beginning) (who v : ℕ) where
+module _ (k : Lent) (generic named : Beginning) (who v : ℕ) where
   -- what client who was handed at 18 of service v, first first
   abbrev pub allHanded : List Call → List Handed
   allHanded [] = []

@@ -9,7 +9,7 @@ use lib.ListN.{length}
 use Rattle.ground.specs.Cases.{pick}
 use Rattle.ground.specs.Limits.{leastOutput}
 use Rattle.ground.specs.Refusals.{Row, row, accepted}
-use Rattle.catalogue_tables.specs.Tables.{Tables}
+use Rattle.catalogue_titles.specs.Lent.{Lent, catalogueOf}
 use Rattle.player_state.specs.declared.Player.{Player}
 use Rattle.player_state.specs.Player.{renamed, deactivated}
 use Rattle.player_moves.specs.declared.Controlled.{Controlled}
@@ -92,7 +92,7 @@ relinking who line L =
     }
 
 -- "A slot is owed to a subscribed client when a call changes its value": whatever was owed stays owed; what changed is no longer in mind
-abbrev pub noticing : Tables → Player → Player → Cause → ℕ → Claims → Claims
+abbrev pub noticing : Lent → Player → Player → Cause → ℕ → Claims → Claims
 noticing k p q cause who a =
     record {
       wants = a .wants;
@@ -105,7 +105,7 @@ noticing k p q cause who a =
       mind = λ c. a .mind c && not (changed (sourceOf k) p q c);
     }
 
-abbrev pub becoming : Tables → Cause → Player → Book → Book
+abbrev pub becoming : Lent → Cause → Player → Book → Book
 becoming k cause q b = record { player = q; account = λ c. noticing k (b .player) q cause c (b .account c) }
 
 -- subscribing and unsubscribing: "Unsubscribing drops what the slot owes"
@@ -207,40 +207,40 @@ mayLeave L who = accepted (disconnectRows who (L .link who .on))
 abbrev pub mayJoin : Ledger → ℕ → ℕ → ℕ → Bool
 mayJoin L who v c = accepted (slotRows who v (L .link who .on) (L .link who .safe) c)
 
-abbrev pub mayWrite : Tables → Ledger → ℕ → ℕ → ℕ → List ℕ → Bool
+abbrev pub mayWrite : Lent → Ledger → ℕ → ℕ → ℕ → List ℕ → Bool
 mayWrite k L who v c value =
     accepted (writeRows who v (L .link who .on) (L .link who .safe) (allowed (k .groups) (L .service v .player) c value) (length (L .service v .account who .waiting)) c value)
 
 -- 0x80: "read at offset above 0, and some call changed the value .. since the client's last accepted read of it at 0, or no such read since connecting"
-abbrev pub rowsOfRead : Tables → Ledger → ℕ → ℕ → ℕ → ℕ → ℕ → List Row
+abbrev pub rowsOfRead : Lent → Ledger → ℕ → ℕ → ℕ → ℕ → ℕ → List Row
 rowsOfRead k L who v c offset room =
     row 205 (ltb room leastOutput)
     ∷ readRows who v (L .link who .on) (L .link who .safe) (L .service v .account who .mind c) c offset (length (valueOf (sourceOf k) (L .service v .player) c))
 
-abbrev pub mayRead : Tables → Ledger → ℕ → ℕ → ℕ → ℕ → ℕ → Bool
+abbrev pub mayRead : Lent → Ledger → ℕ → ℕ → ℕ → ℕ → ℕ → Bool
 mayRead k L who v c offset room = accepted (rowsOfRead k L who v c offset room)
 
 abbrev pub mayTake : ℕ → Bool
 mayTake room = accepted (row 205 (ltb room leastOutput) ∷ [])
 
 -- a control write: the requested opcode and the result
-abbrev pub outcome : Tables → Book → List ℕ → Controlled
+abbrev pub outcome : Lent → Book → List ℕ → Controlled
 outcome k b value = controlled (k .groups) (k .tracks) (k .segments) (firstOctet value) (numberOf value) (b .player)
 
-abbrev pub resultOf : Tables → Book → List ℕ → Entry
+abbrev pub resultOf : Lent → Book → List ℕ → Entry
 resultOf k b value = record { opcode = firstOctet value; code = outcome k b value .result }
 
-abbrev pub controlWriting : Tables → ℕ → List ℕ → Book → Book
+abbrev pub controlWriting : Lent → ℕ → List ℕ → Book → Book
 controlWriting k who value b =
     changing who (resulting (resultOf k b value)) (becoming k (byWriter who 18) (outcome k b value .player) b)
 
 -- "7, 8, 15, 18 may be written", and "11, 12, 14"
-abbrev pub writing : Tables → ℕ → ℕ → List ℕ → Book → Book
+abbrev pub writing : Lent → ℕ → ℕ → List ℕ → Book → Book
 writing k who c value b =
-    pick (eqb c 18) (controlWriting k who value b) (becoming k (byWriter who c) (playerWritten k (b .player) c value) b)
+    pick (eqb c 18) (controlWriting k who value b) (becoming k (byWriter who c) (playerWritten (catalogueOf k) (b .player) c value) b)
 
 -- a call that is refused alters nothing
-abbrev pub after : Tables → Call → Ledger → Ledger
+abbrev pub after : Lent → Call → Ledger → Ledger
 after k (setName v name) L =
     pick (accepted (nameRows v name)) (inService v (λ b. becoming k (noWriter false) (renamed name (b .player)) b) L) L
 after k (activate v g) L =

@@ -5,7 +5,7 @@ use mathlib.Core.Path.{_≡_}
 use mathlib.Core.Bool.{Bool, true, false, not, _&&_, _||_}
 use Prim.Native.Nat.{ℕ}
 use lib.Dec.{eqb}
-use Rattle.catalogue_tables.specs.Tables.{Tables}
+use Rattle.catalogue_titles.specs.Lent.{Lent}
 use Rattle.player_opcodes.specs.Opcodes.{actionOf}
 use Rattle.player_state.specs.declared.Player.{Player}
 use Rattle.player_state.specs.Player.{playing, placeAt, isOn}
@@ -16,12 +16,12 @@ use Rattle.desk_exchange.specs.Write.{firstOctet, numberOf}
 use Rattle.desk_history.specs.Calls.{Call, setName, activate, deactivate, advance, connect, disconnect, subscribe, unsubscribe, read, write, take}
 
 -- a step of time reaches the end of a track in Playing; a running recording has none
-abbrev pub endsTrack : Tables → ℕ → Player → Bool
+abbrev pub endsTrack : Lent → ℕ → Player → Bool
 endsTrack k step p = eqb (p .mode .media) playing && not (staysBelow (k .tracks) step p) && not (runningNow (k .tracks) p)
 
 -- a call to the service of this player that may set, use or drop the name and yet end on the track on which it began: Deactivate, a write of 12, Next Track,
 -- the end of a track
-abbrev pub mayTouchName : Tables → Call → Player → Bool
+abbrev pub mayTouchName : Lent → Call → Player → Bool
 mayTouchName k (setName v name) p = false
 mayTouchName k (activate v g) p = false
 mayTouchName k (deactivate v) p = true

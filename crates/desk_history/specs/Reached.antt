@@ -5,16 +5,16 @@ use mathlib.Core.Bool.{true}
 use mathlib.Core.List.{List, [], _∷_, _++_, map}
 use Prim.Native.Nat.{ℕ}
 use lib.ListN.{replicate}
-use Rattle.catalogue_tables.specs.Tables.{Tables, tables}
+use Rattle.catalogue_titles.specs.Lent.{Lent, lending}
 use Rattle.desk_slots.specs.Slots.{slotTable}
 use Rattle.player_moves.specs.Cases01.{everyOpcode}
 use Rattle.desk_console.specs.Console.{Beginning}
 use Rattle.desk_history.specs.Calls.{Call, setName, activate, connect, subscribe, write, take}
 use Rattle.desk_history.specs.History.{onward}
 
--- a group with one track of a second, named A
-abbrev pub oneTrack : Tables
-oneTrack = tables (0 ∷ 0 ∷ 1 ∷ []) (100 ∷ 0 ∷ 0 ∷ 0 ∷ 0 ∷ 1 ∷ []) [] (0x41 ∷ [])
+-- a group with one track of a second, named A and not renamed
+abbrev pub oneTrack : Lent
+oneTrack = lending (0 ∷ 0 ∷ 1 ∷ []) (100 ∷ 0 ∷ 0 ∷ 0 ∷ 0 ∷ 1 ∷ []) [] (0x41 ∷ []) (0 ∷ 0 ∷ []) []
 
 -- a player without a name that offers every opcode
 abbrev pub plain : Beginning

@@ -4,12 +4,12 @@ use mathlib.Core.Bool.{Bool, true, false}
 use mathlib.Core.List.{_++_}
 use Prim.Native.Nat.{ℕ}
 use Rattle.ground.specs.Refusals.{table, inOrder}
-use Rattle.catalogue_tables.specs.Tables.{Tables}
+use Rattle.catalogue_titles.specs.Lent.{Lent}
 use Rattle.desk_state.specs.declared.Desk.{Desk}
 use Rattle.desk_replies.specs.Replies.{fronted}
 use Rattle.desk_links.specs.Links.{connectRows, disconnectRows, slotRows}
 
-module _ (k : Tables) (d : Desk) (who : ℕ) (connected : Bool) where
+module _ (k : Lent) (d : Desk) (who : ℕ) (connected : Bool) where
   pub connect-order : (mtu : ℕ) → inOrder table (fronted k false d ++ connectRows who connected mtu) ≡ true
   connect-order mtu = refl
 

@@ -2,7 +2,7 @@
 ghost use mathlib.Core.Path.{_≡_};
 ghost use Prim.Native.Nat.{_<_};
 ghost use Rattle.ground.specs.Cases.{pick};
-ghost use Rattle.catalogue_tables.specs.Tables.{tables};
+ghost use Rattle.catalogue_titles.specs.Lent.{lending};
 ghost use Rattle.desk_slots.specs.Slots.{slotCount};
 ghost use Rattle.desk_client.specs.Duties.{joined, dropped};
 ghost use Rattle.desk_replies.specs.Replies.{leftBy};
@@ -14,14 +14,26 @@ pub fn connect(
     tracks: &[u32],
     segments: &[u32],
     text: &[u8],
+    renames: &[u32],
+    office: &[u8],
     d: desk_state::Desk,
     who: u32,
     mtu: u32,
     encrypted: bool,
 ) -> desk_replies::Outcome
-    ensures { λ r. ⌜ leftBy r ≡ connectCall (tables (now (groups .entry)) (now (tracks .entry)) (now (segments .entry)) (now (text .entry))) d who mtu encrypted ⌝ }
+    ensures { λ r. ⌜ leftBy r ≡ connectCall (lending (now (groups .entry)) (now (tracks .entry)) (now (segments .entry)) (now (text .entry)) (now (renames .entry)) (now (office .entry))) d who mtu encrypted ⌝ }
 {
-    let g = desk_replies::client_gate(groups, tracks, segments, text, false, d, who);
+    let g = desk_replies::client_gate(
+        groups,
+        tracks,
+        segments,
+        text,
+        renames,
+        office,
+        false,
+        d,
+        who,
+    );
     if !g.passes {
         return desk_replies::shut(g, d);
     }
@@ -44,12 +56,24 @@ pub fn disconnect(
     tracks: &[u32],
     segments: &[u32],
     text: &[u8],
+    renames: &[u32],
+    office: &[u8],
     d: desk_state::Desk,
     who: u32,
 ) -> desk_replies::Outcome
-    ensures { λ r. ⌜ leftBy r ≡ disconnectCall (tables (now (groups .entry)) (now (tracks .entry)) (now (segments .entry)) (now (text .entry))) d who ⌝ }
+    ensures { λ r. ⌜ leftBy r ≡ disconnectCall (lending (now (groups .entry)) (now (tracks .entry)) (now (segments .entry)) (now (text .entry)) (now (renames .entry)) (now (office .entry))) d who ⌝ }
 {
-    let g = desk_replies::client_gate(groups, tracks, segments, text, false, d, who);
+    let g = desk_replies::client_gate(
+        groups,
+        tracks,
+        segments,
+        text,
+        renames,
+        office,
+        false,
+        d,
+        who,
+    );
     if !g.passes {
         return desk_replies::shut(g, d);
     }
@@ -80,13 +104,15 @@ fn set_slot(
     tracks: &[u32],
     segments: &[u32],
     text: &[u8],
+    renames: &[u32],
+    office: &[u8],
     d: desk_state::Desk,
     who: u32,
     service: u32,
     characteristic: u32,
     on: bool,
 ) -> desk_replies::Outcome
-    ensures { λ r. ⌜ leftBy r ≡ slotCall (tables (now (groups .entry)) (now (tracks .entry)) (now (segments .entry)) (now (text .entry))) d who service characteristic (pick on joined dropped) ⌝ }
+    ensures { λ r. ⌜ leftBy r ≡ slotCall (lending (now (groups .entry)) (now (tracks .entry)) (now (segments .entry)) (now (text .entry)) (now (renames .entry)) (now (office .entry))) d who service characteristic (pick on joined dropped) ⌝ }
 {
     let s = desk_slots::slot_of(characteristic);
     let g = desk_replies::characteristic_gate(
@@ -94,6 +120,8 @@ fn set_slot(
         tracks,
         segments,
         text,
+        renames,
+        office,
         false,
         d,
         who,
@@ -119,18 +147,22 @@ pub fn subscribe(
     tracks: &[u32],
     segments: &[u32],
     text: &[u8],
+    renames: &[u32],
+    office: &[u8],
     d: desk_state::Desk,
     who: u32,
     service: u32,
     characteristic: u32,
 ) -> desk_replies::Outcome
-    ensures { λ r. ⌜ leftBy r ≡ subscribeCall (tables (now (groups .entry)) (now (tracks .entry)) (now (segments .entry)) (now (text .entry))) d who service characteristic ⌝ }
+    ensures { λ r. ⌜ leftBy r ≡ subscribeCall (lending (now (groups .entry)) (now (tracks .entry)) (now (segments .entry)) (now (text .entry)) (now (renames .entry)) (now (office .entry))) d who service characteristic ⌝ }
 {
     set_slot(
         groups,
         tracks,
         segments,
         text,
+        renames,
+        office,
         d,
         who,
         service,
@@ -145,18 +177,22 @@ pub fn unsubscribe(
     tracks: &[u32],
     segments: &[u32],
     text: &[u8],
+    renames: &[u32],
+    office: &[u8],
     d: desk_state::Desk,
     who: u32,
     service: u32,
     characteristic: u32,
 ) -> desk_replies::Outcome
-    ensures { λ r. ⌜ leftBy r ≡ unsubscribeCall (tables (now (groups .entry)) (now (tracks .entry)) (now (segments .entry)) (now (text .entry))) d who service characteristic ⌝ }
+    ensures { λ r. ⌜ leftBy r ≡ unsubscribeCall (lending (now (groups .entry)) (now (tracks .entry)) (now (segments .entry)) (now (text .entry)) (now (renames .entry)) (now (office .entry))) d who service characteristic ⌝ }
 {
     set_slot(
         groups,
         tracks,
         segments,
         text,
+        renames,
+        office,
         d,
         who,
         service,

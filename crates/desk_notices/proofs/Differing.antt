@@ -120,7 +120,7 @@ module _ (from : Source) (p q : Player) (c : ℕ) where
 
       none : (r : Player) → valueOf from r c ≡ []
       none r =
-          value-none (from .groups) (from .tracks) (from .text) r c (no 1 refl) (no 5 refl) (no 6 refl) (no 7 refl) (no 8 refl) (no 9 refl) (no 10 refl)
+          value-none (from .groups) (from .tracks) (from .text) (from .renames) (from .office) r c (no 1 refl) (no 5 refl) (no 6 refl) (no 7 refl) (no 8 refl) (no 9 refl) (no 10 refl)
           (no 11 refl) (no 12 refl) (no 13 refl) (no 14 refl) (no 15 refl) (no 16 refl) (no 17 refl) (no 19 refl) (no 22 refl)
 
   pub changed-readable : (isIn readables c && changed from p q c) ≡ changed from p q c

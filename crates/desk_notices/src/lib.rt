@@ -61,16 +61,18 @@ pub fn name_changed(p: player_state::Player, q: player_state::Player) -> bool
     !same(&a[0..m], &b[0..n])
 }
 
-pub fn title_changed(
+pub fn title_changed<'a>(
     tracks: &[u32],
-    text: &[u8],
+    text: &'a [u8],
+    renames: &[u32],
+    office: &'a [u8],
     p: player_state::Player,
     q: player_state::Player,
 ) -> bool
-    ensures { λ r. ⌜ r ≡ not (sameOctets (titleValue (now (tracks .entry)) (now (text .entry)) p) (titleValue (now (tracks .entry)) (now (text .entry)) q)) ⌝ }
+    ensures { λ r. ⌜ r ≡ not (sameOctets (titleValue (now (tracks .entry)) (now (text .entry)) (now (renames .entry)) (now (office .entry)) p) (titleValue (now (tracks .entry)) (now (text .entry)) (now (renames .entry)) (now (office .entry)) q)) ⌝ }
 {
-    let a = player_values::title_of(tracks, text, p);
-    let b = player_values::title_of(tracks, text, q);
+    let a = player_values::title_of(tracks, text, renames, office, p);
+    let b = player_values::title_of(tracks, text, renames, office, q);
     !same(a, b)
 }
 
@@ -160,18 +162,20 @@ pub fn group_changed(p: player_state::Player, q: player_state::Player) -> bool
 }
 
 // The characteristics whose values differ: bit c is characteristic c. 16 is the same in every state.
-pub fn changed_word(
+pub fn changed_word<'a>(
     groups: &[u32],
     tracks: &[u32],
-    text: &[u8],
+    text: &'a [u8],
+    renames: &[u32],
+    office: &'a [u8],
     p: player_state::Player,
     q: player_state::Player,
 ) -> u32
     requires { ⌜ Sits (now groups) (now tracks) p ⌝ }
     requires { ⌜ Sits (now groups) (now tracks) q ⌝ }
-    ensures { λ r. ⌜ r ≡ setOf 32 (changed (source (now (groups .entry)) (now (tracks .entry)) (now (text .entry))) p q) ⌝ }
+    ensures { λ r. ⌜ r ≡ setOf 32 (changed (source (now (groups .entry)) (now (tracks .entry)) (now (text .entry)) (now (renames .entry)) (now (office .entry))) p q) ⌝ }
 {
-    let title = title_changed(tracks, text, p, q);
+    let title = title_changed(tracks, text, renames, office, p, q);
     let duration = duration_changed(tracks, p, q);
     let name = name_changed(p, q);
     let position = position_changed(p, q);
@@ -274,20 +278,22 @@ fn note_all(
 }
 
 // The service with another player, and every client told what that owes it.
-pub fn settle(
+pub fn settle<'a>(
     groups: &[u32],
     tracks: &[u32],
-    text: &[u8],
+    text: &'a [u8],
+    renames: &[u32],
+    office: &'a [u8],
     s: desk_state::Service,
     q: player_state::Player,
     cause: Cause,
 ) -> desk_state::Service
     requires { ⌜ Sits (now groups) (now tracks) (s .player) ⌝ }
     requires { ⌜ Sits (now groups) (now tracks) q ⌝ }
-    ensures { λ r. ⌜ r ≡ settled (source (now (groups .entry)) (now (tracks .entry)) (now (text .entry))) cause q s ⌝ }
+    ensures { λ r. ⌜ r ≡ settled (source (now (groups .entry)) (now (tracks .entry)) (now (text .entry)) (now (renames .entry)) (now (office .entry))) cause q s ⌝ }
 {
     let p = s.player;
-    let altered = changed_word(groups, tracks, text, p, q);
+    let altered = changed_word(groups, tracks, text, renames, office, p, q);
     let track = track_changed(p, q);
     let accounts = s.accounts;
     let told = note_all(accounts, altered, track, cause);

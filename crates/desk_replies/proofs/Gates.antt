@@ -8,9 +8,7 @@ use Rattle.ground.specs.Refusals.{Said, granted, Row, answered, saidBy}
 use Rattle.ground.specs.Lists.{filled, tableAfter}
 use Rattle.ground.proofs.Cases.{past, here}
 use Rattle.ground.proofs.Rows.{NoneApplies, shut, kept, more, beyond, all-of}
-use Rattle.catalogue_tables.specs.Tables.{Tables}
-use Rattle.catalogue_check.specs.Catalogue.{Right}
-use Rattle.catalogue_check.proofs.Laws.{is-right}
+use Rattle.catalogue_titles.specs.Lent.{Lent, fitRows, lentSaid, Fit}
 use Rattle.player_check.specs.Standing.{playerRule}
 use Rattle.desk_slots.specs.Slots.{serviceCount}
 use Rattle.desk_state.specs.declared.Desk.{Desk}
@@ -47,13 +45,18 @@ module _ (rows : List Row) (g : Gate) (gated : Gated rows g) where
 pub says : (rows : List Row) (g : Gate) (said : Said) → saidOf (g .answer) ≡ said → g .passes ≡ said .isGranted → said ≡ saidBy rows → Gated rows g
 says rows g said p q e = (p ∙ e, q ∙ ap (λ (s : Said). s .isGranted) e)
 
+-- neither 200 nor 224 applies: what is lent is fit
+pub none-fit : (k : Lent) → NoneApplies (fitRows k) → Fit k
+unfolding lentSaid
+none-fit k n = sym (all-of (fitRows k) n)
+
 -- what the first rows tell where none of them applies
-module _ (k : Tables) (small : Bool) (d : Desk) (behind : List Row) (passed : NoneApplies (fronted k small d ++ behind)) where
-  pub right : Right k
-  right = is-right k (not-false _ (passed .0))
+module _ (k : Lent) (small : Bool) (d : Desk) (behind : List Row) (passed : NoneApplies (fronted k small d ++ behind)) where
+  pub fit : Fit k
+  fit = none-fit k (passed .0, (passed .1 .0, tt))
 
   pub stands : stateRight k d ≡ true
-  stands = not-false _ (passed .1 .1 .0)
+  stands = not-false _ (passed .1 .1 .1 .0)
 
   pub player : (v : ℕ) → v < serviceCount → playerRule (k .groups) (k .tracks) (serviceAt d v .player) ≡ true
   player = player-stands (k .groups) (k .tracks) d stands

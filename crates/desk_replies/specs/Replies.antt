@@ -6,8 +6,7 @@ use mathlib.Core.List.{List, [], _∷_, _++_}
 use Prim.Native.Nat.{ℕ}
 use lib.Dec.{leb}
 use Rattle.ground.specs.Refusals.{Said, granted, refusalOf, Left, leaves, keeping, Row, row, answered, saidBy}
-use Rattle.catalogue_tables.specs.Tables.{Tables}
-use Rattle.catalogue_check.specs.Catalogue.{catalogueRow}
+use Rattle.catalogue_titles.specs.Lent.{Lent, fitRows}
 use Rattle.desk_slots.specs.Slots.{serviceCount, clientCount}
 use Rattle.desk_slots.specs.Characteristics.{everyOne, isIn}
 use Rattle.desk_client.specs.declared.Link.{Link}
@@ -30,20 +29,20 @@ saidOf (Refused r) = refusalOf r
 abbrev pub leftBy : Outcome → Left Desk
 leftBy o = leaves (saidOf (o .answer)) (o .desk)
 
--- 200, 205: "the lent output of a read or take is under 128 octets"; small is false where no output is lent
-abbrev pub lentRows : Tables → Bool → List Row
-lentRows k small = catalogueRow k ∷ row 205 small ∷ []
+-- 200, 224; 205: "the lent output of a read or take is under 128 octets"; small is false where no output is lent
+abbrev pub lentRows : Lent → Bool → List Row
+lentRows k small = fitRows k ++ (row 205 small ∷ [])
 
 -- 201
 abbrev pub stateRow : Bool → Row
 stateRow stands = row 201 (not stands)
 
 -- over the whole
-abbrev pub stateRight : Tables → Desk → Bool
+abbrev pub stateRight : Lent → Desk → Bool
 stateRight k d = deskRule (k .groups) (k .tracks) d
 
--- 200, 205, 201: what every call on the whole asks first
-abbrev pub fronted : Tables → Bool → Desk → List Row
+-- 200, 224, 205, 201: what every call on the whole asks first
+abbrev pub fronted : Lent → Bool → Desk → List Row
 fronted k small d = lentRows k small ++ (stateRow (stateRight k d) ∷ [])
 
 -- 202, "client over 3"
@@ -68,7 +67,7 @@ ofCharacteristic encrypted characteristic number allowed =
     row 0x01 (not (isIn everyOne characteristic)) ∷ row number (not allowed) ∷ row 0x0F (not encrypted) ∷ []
 
 -- what a call says and leaves, by these and by its own rows
-abbrev pub asked : Tables → Bool → Desk → List Row → Left Desk → Left Desk
+abbrev pub asked : Lent → Bool → Desk → List Row → Left Desk → Left Desk
 asked k small d rows work = answered (keeping d) (fronted k small d ++ rows) work
 
 -- the link of the client that calls; its account with the service that it calls

@@ -3,7 +3,7 @@ ghost use mathlib.Core.Path.{_≡_};
 ghost use mathlib.Core.Bool.{false, true};
 ghost use mathlib.Core.List.{[], _∷_, _++_};
 ghost use Rattle.ground.specs.Refusals.{granted, refused, refusalOf, leaves};
-ghost use Rattle.catalogue_tables.specs.Tables.{tables};
+ghost use Rattle.catalogue_titles.specs.Lent.{lending};
 ghost use Rattle.desk_replies.specs.Replies.{saidOf, leftBy, Gated, lentRows, fronted, clientRow, serviceRow, ofCaller, ofCharacteristic, linkOf};
 
 pub enum Answer {
@@ -79,11 +79,19 @@ pub fn gate_shut(number: u32) -> Gate
     gate_with(refusal)
 }
 
-// 200, 205. small: the lent output has under 128 octets; false where none is lent.
-pub fn lent_gate(groups: &[u32], tracks: &[u32], segments: &[u32], text: &[u8], small: bool) -> Gate
-    ensures { λ r. ⌜ Gated (lentRows (tables (now (groups .entry)) (now (tracks .entry)) (now (segments .entry)) (now (text .entry))) small) r ⌝ }
+// 200, 224, 205. small: the lent output has under 128 octets; false where none is lent.
+pub fn lent_gate(
+    groups: &[u32],
+    tracks: &[u32],
+    segments: &[u32],
+    text: &[u8],
+    renames: &[u32],
+    office: &[u8],
+    small: bool,
+) -> Gate
+    ensures { λ r. ⌜ Gated (lentRows (lending (now (groups .entry)) (now (tracks .entry)) (now (segments .entry)) (now (text .entry)) (now (renames .entry)) (now (office .entry))) small) r ⌝ }
 {
-    let c = catalogue_check::check(groups, tracks, segments, text);
+    let c = catalogue_titles::check(groups, tracks, segments, text, renames, office);
     match c {
         catalogue_check::Catalogue::Refused(refusal) => gate_with(refusal),
         catalogue_check::Catalogue::Fine => {
@@ -95,18 +103,20 @@ pub fn lent_gate(groups: &[u32], tracks: &[u32], segments: &[u32], text: &[u8], 
     }
 }
 
-// 200, 205, 201: the state is looked at last.
+// 200, 224, 205, 201: the state is looked at last.
 pub fn front_gate(
     groups: &[u32],
     tracks: &[u32],
     segments: &[u32],
     text: &[u8],
+    renames: &[u32],
+    office: &[u8],
     small: bool,
     d: desk_state::Desk,
 ) -> Gate
-    ensures { λ r. ⌜ Gated (fronted (tables (now (groups .entry)) (now (tracks .entry)) (now (segments .entry)) (now (text .entry))) small d) r ⌝ }
+    ensures { λ r. ⌜ Gated (fronted (lending (now (groups .entry)) (now (tracks .entry)) (now (segments .entry)) (now (text .entry)) (now (renames .entry)) (now (office .entry))) small d) r ⌝ }
 {
-    let g = lent_gate(groups, tracks, segments, text, small);
+    let g = lent_gate(groups, tracks, segments, text, renames, office, small);
     if !g.passes {
         return g;
     }
@@ -122,12 +132,14 @@ pub fn service_gate(
     tracks: &[u32],
     segments: &[u32],
     text: &[u8],
+    renames: &[u32],
+    office: &[u8],
     d: desk_state::Desk,
     service: u32,
 ) -> Gate
-    ensures { λ r. ⌜ Gated (fronted (tables (now (groups .entry)) (now (tracks .entry)) (now (segments .entry)) (now (text .entry))) false d ++ (serviceRow service ∷ [])) r ⌝ }
+    ensures { λ r. ⌜ Gated (fronted (lending (now (groups .entry)) (now (tracks .entry)) (now (segments .entry)) (now (text .entry)) (now (renames .entry)) (now (office .entry))) false d ++ (serviceRow service ∷ [])) r ⌝ }
 {
-    let g = front_gate(groups, tracks, segments, text, false, d);
+    let g = front_gate(groups, tracks, segments, text, renames, office, false, d);
     if !g.passes {
         return g;
     }
@@ -143,13 +155,15 @@ pub fn client_gate(
     tracks: &[u32],
     segments: &[u32],
     text: &[u8],
+    renames: &[u32],
+    office: &[u8],
     small: bool,
     d: desk_state::Desk,
     who: u32,
 ) -> Gate
-    ensures { λ r. ⌜ Gated (fronted (tables (now (groups .entry)) (now (tracks .entry)) (now (segments .entry)) (now (text .entry))) small d ++ (clientRow who ∷ [])) r ⌝ }
+    ensures { λ r. ⌜ Gated (fronted (lending (now (groups .entry)) (now (tracks .entry)) (now (segments .entry)) (now (text .entry)) (now (renames .entry)) (now (office .entry))) small d ++ (clientRow who ∷ [])) r ⌝ }
 {
-    let g = front_gate(groups, tracks, segments, text, small, d);
+    let g = front_gate(groups, tracks, segments, text, renames, office, small, d);
     if !g.passes {
         return g;
     }
@@ -165,14 +179,26 @@ pub fn caller_gate(
     tracks: &[u32],
     segments: &[u32],
     text: &[u8],
+    renames: &[u32],
+    office: &[u8],
     small: bool,
     d: desk_state::Desk,
     who: u32,
     service: u32,
 ) -> Gate
-    ensures { λ r. ⌜ Gated (fronted (tables (now (groups .entry)) (now (tracks .entry)) (now (segments .entry)) (now (text .entry))) small d ++ ofCaller who service (linkOf d who .connected)) r ⌝ }
+    ensures { λ r. ⌜ Gated (fronted (lending (now (groups .entry)) (now (tracks .entry)) (now (segments .entry)) (now (text .entry)) (now (renames .entry)) (now (office .entry))) small d ++ ofCaller who service (linkOf d who .connected)) r ⌝ }
 {
-    let g = client_gate(groups, tracks, segments, text, small, d, who);
+    let g = client_gate(
+        groups,
+        tracks,
+        segments,
+        text,
+        renames,
+        office,
+        small,
+        d,
+        who,
+    );
     if !g.passes {
         return g;
     }
@@ -192,6 +218,8 @@ pub fn characteristic_gate(
     tracks: &[u32],
     segments: &[u32],
     text: &[u8],
+    renames: &[u32],
+    office: &[u8],
     small: bool,
     d: desk_state::Desk,
     who: u32,
@@ -200,9 +228,20 @@ pub fn characteristic_gate(
     number: u32,
     allowed: bool,
 ) -> Gate
-    ensures { λ r. ⌜ Gated (fronted (tables (now (groups .entry)) (now (tracks .entry)) (now (segments .entry)) (now (text .entry))) small d ++ (ofCaller who service (linkOf d who .connected) ++ ofCharacteristic (linkOf d who .encrypted) characteristic number allowed)) r ⌝ }
+    ensures { λ r. ⌜ Gated (fronted (lending (now (groups .entry)) (now (tracks .entry)) (now (segments .entry)) (now (text .entry)) (now (renames .entry)) (now (office .entry))) small d ++ (ofCaller who service (linkOf d who .connected) ++ ofCharacteristic (linkOf d who .encrypted) characteristic number allowed)) r ⌝ }
 {
-    let g = caller_gate(groups, tracks, segments, text, small, d, who, service);
+    let g = caller_gate(
+        groups,
+        tracks,
+        segments,
+        text,
+        renames,
+        office,
+        small,
+        d,
+        who,
+        service,
+    );
     if !g.passes {
         return g;
     }

@@ -8,7 +8,7 @@ use lib.ListN.{take, getD}
 use lib.Seq.{take-all}
 use Rattle.ground.proofs.Bounded.{all-at, all-intro}
 use Rattle.ground.proofs.Cases.{past, here}
-use Rattle.catalogue_tables.specs.Tables.{Tables}
+use Rattle.catalogue_titles.specs.Lent.{Lent}
 use Rattle.desk_slots.specs.Slots.{slotCount, serviceCount, clientCount, characteristicOf, serviceOf, slotAt, owing}
 use Rattle.desk_slots.proofs.SlotLaws.{owing-pos}
 use Rattle.desk_slots.proofs.NextLaws.{next-hit}
@@ -39,7 +39,7 @@ module _ (groups tracks : List ℕ) where
   players-stand d f =
       all-intro _ serviceCount (λ v h. ap (playerRule groups tracks) (listed (λ (v : ℕ). serviceAt d v .player) serviceCount v noPlayer h) ∙ f v h)
 
-module _ (k : Tables) (players : List Player) (c : Client) where
+module _ (k : Lent) (players : List Player) (c : Client) where
   -- a result has two octets, which every ATT_MTU lets through
   pub result-handed : isControl (slotAt (nextPlace c)) ≡ true → 23 ≤ c .link .mtu
       → resultOctets (getD (accountWith c (serviceOf (nextPlace c)) .results) 0 blankEntry) ≡ handedOctets k players c

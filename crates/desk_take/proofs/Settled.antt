@@ -4,7 +4,7 @@ use mathlib.Core.List.{List}
 use Prim.Native.Nat.{ℕ}
 use contract.Lifetimes.{Lfts}
 use denote.Ref.{RefT, at-last}
-use Rattle.catalogue_tables.specs.Tables.{Tables, tables}
+use Rattle.catalogue_titles.specs.Lent.{Lent, lending}
 use Rattle.player_state.specs.declared.Player.{Player}
 use Rattle.ground.specs.Lists.{tableAfter}
 use Rattle.ground.specs.Refusals.{Left}
@@ -20,28 +20,28 @@ use Rattle.desk_take.specs.Take.{takeOctets}
 use Rattle.desk_take.proofs.take.Reads as take
 use Rattle.desk_take.proofs.take_own.Reads as take-own
 
-module _ (κs : Lfts 5) (groups tracks segments text out : RefT (List ℕ)) (out₁ out₂ : List ℕ) where
+module _ (κs : Lfts 6) (groups tracks segments text renames office out : RefT (List ℕ)) (out₁ out₂ : List ℕ) where
   pub take-settled : (d : Desk) (o₁ o₂ : Outcome)
-      → take.Post κs (groups, (tracks, (segments, (text, (d, (out, tt)))))) o₁ (groups, (tracks, (segments, (text, (d, (at-last out out₁, tt))))))
-      → take.Post κs (groups, (tracks, (segments, (text, (d, (out, tt)))))) o₂ (groups, (tracks, (segments, (text, (d, (at-last out out₂, tt))))))
+      → take.Post κs (groups, (tracks, (segments, (text, (renames, (office, (d, (out, tt)))))))) o₁ (groups, (tracks, (segments, (text, (renames, (office, (d, (at-last out out₁, tt))))))))
+      → take.Post κs (groups, (tracks, (segments, (text, (renames, (office, (d, (out, tt)))))))) o₂ (groups, (tracks, (segments, (text, (renames, (office, (d, (at-last out out₂, tt))))))))
       → (o₁ ≡ o₂) × (out₁ ≡ out₂)
   take-settled d o₁ o₂ p q =
       let e = one-outcome o₁ o₂ (p .0) (q .0) in
-      let octets = takeOctets (tables (groups .now) (tracks .now) (segments .now) (text .now)) d in
+      let octets = takeOctets (lending (groups .now) (tracks .now) (segments .now) (text .now) (renames .now) (office .now)) d in
       (e, p .1 ∙ ap (λ (o : Outcome). tableAfter (saidOf (o .answer)) octets (out .now)) e ∙ sym (q .1))
 
 -- a take of one's own record, lent or by value: the answer, the record and the output
-pub own-settled : (k : Tables) (players : List Player) (c : Client) (out : List ℕ) (a₁ a₂ : Answer) (c₁ c₂ : Client) (out₁ out₂ : List ℕ)
+pub own-settled : (k : Lent) (players : List Player) (c : Client) (out : List ℕ) (a₁ a₂ : Answer) (c₁ c₂ : Client) (out₁ out₂ : List ℕ)
     → OwnTake k players c out a₁ c₁ out₁ → OwnTake k players c out a₂ c₂ out₂ → (a₁ ≡ a₂) × (c₁ ≡ c₂) × (out₁ ≡ out₂)
 own-settled k players c out a₁ a₂ c₁ c₂ out₁ out₂ h g =
     let e = h .0 ∙ sym (g .0) in
     let a = answer-settles a₁ a₂ (ap (λ (l : Left Client). l .said) e) in
     (a, ap (λ (l : Left Client). l .state) e, h .1 ∙ ap (λ (x : Answer). tableAfter (saidOf x) (ownOctets k players c) out) a ∙ sym (g .1))
 
-module _ (κs : Lfts 5) (groups tracks segments text out : RefT (List ℕ)) (out₁ out₂ : List ℕ) (players : List Player) (c : Client) (h₁ h₂ : Own) where
-  pub take-own-settled : take-own.Post κs (c, (groups, (tracks, (segments, (text, (players, (out, tt))))))) h₁ (c, (groups, (tracks, (segments, (text, (players, (at-last out out₁, tt)))))))
-      → take-own.Post κs (c, (groups, (tracks, (segments, (text, (players, (out, tt))))))) h₂ (c, (groups, (tracks, (segments, (text, (players, (at-last out out₂, tt)))))))
+module _ (κs : Lfts 6) (groups tracks segments text renames office out : RefT (List ℕ)) (out₁ out₂ : List ℕ) (players : List Player) (c : Client) (h₁ h₂ : Own) where
+  pub take-own-settled : take-own.Post κs (c, (groups, (tracks, (segments, (text, (renames, (office, (players, (out, tt))))))))) h₁ (c, (groups, (tracks, (segments, (text, (renames, (office, (players, (at-last out out₁, tt)))))))))
+      → take-own.Post κs (c, (groups, (tracks, (segments, (text, (renames, (office, (players, (out, tt))))))))) h₂ (c, (groups, (tracks, (segments, (text, (renames, (office, (players, (at-last out out₂, tt)))))))))
       → (h₁ ≡ h₂) × (out₁ ≡ out₂)
   take-own-settled f g =
-      let e = own-settled (tables (groups .now) (tracks .now) (segments .now) (text .now)) players c (out .now) (h₁ .answer) (h₂ .answer) (h₁ .client) (h₂ .client) out₁ out₂ f g in
+      let e = own-settled (lending (groups .now) (tracks .now) (segments .now) (text .now) (renames .now) (office .now)) players c (out .now) (h₁ .answer) (h₂ .answer) (h₁ .client) (h₂ .client) out₁ out₂ f g in
       (λ k. record { answer = e .0 k; client = e .1 k }, e .2)

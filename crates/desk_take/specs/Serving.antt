@@ -10,7 +10,7 @@ use Rattle.ground.specs.Cases.{pick, has}
 use Rattle.ground.specs.Limits.{leastOutput}
 use Rattle.ground.specs.Lists.{tableAfter, allBelow, span}
 use Rattle.ground.specs.Refusals.{granted, Left, leaves, keeping, Row, answered}
-use Rattle.catalogue_tables.specs.Tables.{Tables}
+use Rattle.catalogue_titles.specs.Lent.{Lent}
 use Rattle.desk_slots.specs.Slots.{serviceCount, placeCount, characteristicOf, serviceOf, slotAt, placesOf}
 use Rattle.desk_slots.specs.Round.{next}
 use Rattle.player_state.specs.declared.Player.{Player}
@@ -38,7 +38,7 @@ abbrev pub resultOctets : Entry → List ℕ
 resultOctets e = e .opcode ∷ e .code ∷ []
 
 -- "the present value" of the service's player; of 18 the oldest result
-abbrev pub presentOctets : Tables → Player → Account → ℕ → List ℕ
+abbrev pub presentOctets : Lent → Player → Account → ℕ → List ℕ
 presentOctets k p a s =
     pick (isControl s) (resultOctets (getD (a .results) 0 blankEntry)) (valueOf (sourceOf k) p (characteristicOf s))
 
@@ -47,13 +47,13 @@ abbrev pub playerAt : List Player → ℕ → Player
 playerAt players v = getD players v noPlayer
 
 -- "its first ATT_MTU − 3"
-unfoldable pub handedOctets : Tables → List Player → Client → List ℕ
+unfoldable pub handedOctets : Lent → List Player → Client → List ℕ
 handedOctets k players c =
     take (c .link .mtu - 3)
     (presentOctets k (playerAt players (serviceOf (nextPlace c))) (accountWith c (serviceOf (nextPlace c))) (slotAt (nextPlace c)))
 
 -- a client that is served its next place: what is said of it, and its record afterwards
-abbrev pub handedValues : Tables → List Player → Client → List ℕ
+abbrev pub handedValues : Lent → List Player → Client → List ℕ
 handedValues k players c =
     serviceOf (nextPlace c) ∷ characteristicOf (slotAt (nextPlace c)) ∷ length (handedOctets k players c) ∷ []
 
@@ -64,21 +64,21 @@ afterServing c = passedOn (nextPlace c) c
 unfoldable pub playersRule : List ℕ → List ℕ → List Player → Bool
 playersRule groups tracks players = allBelow serviceCount (λ v. playerRule groups tracks (playerAt players v))
 
-abbrev pub recordRight : Tables → List Player → Client → Bool
+abbrev pub recordRight : Lent → List Player → Client → Bool
 recordRight k players c = playersRule (k .groups) (k .tracks) players && clientRule c
 
-abbrev pub ownRows : Tables → List Player → Client → ℕ → List Row
+abbrev pub ownRows : Lent → List Player → Client → ℕ → List Row
 ownRows k players c room = lentRows k (ltb room leastOutput) ++ (stateRow (recordRight k players c) ∷ [])
 
-unfoldable pub ownCall : Tables → List Player → Client → ℕ → Left Client
+unfoldable pub ownCall : Lent → List Player → Client → ℕ → Left Client
 ownCall k players c room =
     answered (keeping c) (ownRows k players c room)
     (pick (eqb (placesOwed c) 0) (leaves (granted []) c) (leaves (granted (handedValues k players c)) (afterServing c)))
 
-unfoldable pub ownOctets : Tables → List Player → Client → List ℕ
+unfoldable pub ownOctets : Lent → List Player → Client → List ℕ
 ownOctets k players c = pick (eqb (placesOwed c) 0) [] (handedOctets k players c)
 
 -- its answer, the record and the output afterwards
-abbrev pub OwnTake : Tables → List Player → Client → List ℕ → Answer → Client → List ℕ → Type 0
+abbrev pub OwnTake : Lent → List Player → Client → List ℕ → Answer → Client → List ℕ → Type 0
 OwnTake k players c out answer c′ out′ =
     (leaves (saidOf answer) c′ ≡ ownCall k players c (length out)) × (out′ ≡ tableAfter (saidOf answer) (ownOctets k players c) out)

@@ -9,7 +9,7 @@ use Rattle.ground.specs.Cases.{pick}
 use Rattle.ground.specs.Limits.{leastOutput}
 use Rattle.ground.specs.Lists.{span}
 use Rattle.ground.specs.Refusals.{granted, Left, leaves}
-use Rattle.catalogue_tables.specs.Tables.{Tables}
+use Rattle.catalogue_titles.specs.Lent.{Lent}
 use Rattle.desk_slots.specs.Slots.{serviceCount, clientCount, owing}
 use Rattle.desk_slots.specs.Round.{next}
 use Rattle.player_state.specs.declared.Player.{Player}
@@ -40,14 +40,14 @@ unfoldable pub withServed : ℕ → Client → Desk → Desk
 withServed who c d = record { services = withClient who c d .services; links = withClient who c d .links; turn = who }
 
 -- client who is served its next place; nobody where there is no such client
-abbrev pub takenBy : Tables → Desk → ℕ → Left Desk
+abbrev pub takenBy : Lent → Desk → ℕ → Left Desk
 takenBy k d who =
     pick (leb clientCount who) (leaves (granted []) d)
     (leaves (granted (who ∷ handedValues k (playersOf d) (clientAt d who))) (withServed who (afterServing (clientAt d who)) d))
 
 -- 200, 205, 201; "Nothing owed: the answer says so and nothing changes."
-unfoldable pub takeCall : Tables → Desk → ℕ → Left Desk
+unfoldable pub takeCall : Lent → Desk → ℕ → Left Desk
 takeCall k d room = asked k (ltb room leastOutput) d [] (takenBy k d (nextClient d))
 
-unfoldable pub takeOctets : Tables → Desk → List ℕ
+unfoldable pub takeOctets : Lent → Desk → List ℕ
 takeOctets k d = pick (leb clientCount (nextClient d)) [] (handedOctets k (playersOf d) (clientAt d (nextClient d)))

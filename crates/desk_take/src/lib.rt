@@ -5,8 +5,7 @@ ghost use Prim.Native.Nat.{_<_, _≤_, _^_};
 ghost use lib.ListN.{length};
 ghost use mathlib.Core.List.{_∷_, []};
 ghost use Rattle.ground.specs.Lists.{filled, tableAfter};
-ghost use Rattle.catalogue_tables.specs.Tables.{tables};
-ghost use Rattle.catalogue_check.specs.Catalogue.{Right};
+ghost use Rattle.catalogue_titles.specs.Lent.{Fit, lending};
 ghost use Rattle.desk_slots.specs.Slots.{clientCount, placeCount};
 ghost use Rattle.desk_client.specs.Client.{clientRule};
 ghost use Rattle.desk_replies.specs.Replies.{saidOf, leftBy};
@@ -39,20 +38,22 @@ fn places_owed(c: desk_client::Client) -> u32
 }
 
 // A client is served its next place: the present value over the front of out, or of 18 the oldest result.
-fn hand_out(
+fn hand_out<'a>(
     groups: &[u32],
     tracks: &[u32],
     segments: &[u32],
-    text: &[u8],
+    text: &'a [u8],
+    renames: &[u32],
+    office: &'a [u8],
     players: [player_state::Player; 2],
     c: desk_client::Client,
     out: &mut [u8],
 ) -> Serving
-    requires { ⌜ Right (tables (now groups) (now tracks) (now segments) (now text)) ⌝ }
+    requires { ⌜ Fit (lending (now groups) (now tracks) (now segments) (now text) (now renames) (now office)) ⌝ }
     requires { ⌜ playersRule (now groups) (now tracks) players ≡ true ⌝ }
     requires { ⌜ (clientRule c ≡ true) × (0 < placesOwed c) × (128 ≤ length (now out)) ⌝ }
-    ensures { λ r. ⌜ (r .service ∷ r .characteristic ∷ r .len ∷ [] ≡ handedValues (tables (now (groups .entry)) (now (tracks .entry)) (now (segments .entry)) (now (text .entry))) players c) × (r .client ≡ afterServing c) ⌝ }
-    ensures { λ _. ⌜ now (out .exit) ≡ filled (handedOctets (tables (now (groups .entry)) (now (tracks .entry)) (now (segments .entry)) (now (text .entry))) players c) (now (out .entry)) ⌝ }
+    ensures { λ r. ⌜ (r .service ∷ r .characteristic ∷ r .len ∷ [] ≡ handedValues (lending (now (groups .entry)) (now (tracks .entry)) (now (segments .entry)) (now (text .entry)) (now (renames .entry)) (now (office .entry))) players c) × (r .client ≡ afterServing c) ⌝ }
+    ensures { λ _. ⌜ now (out .exit) ≡ filled (handedOctets (lending (now (groups .entry)) (now (tracks .entry)) (now (segments .entry)) (now (text .entry)) (now (renames .entry)) (now (office .entry))) players c) (now (out .entry)) ⌝ }
 {
     let owed = places_owed(c);
     let place = desk_slots::next_place(owed, c.link.mark);
@@ -76,7 +77,7 @@ fn hand_out(
         };
     }
     let p = players[at];
-    let h = player_values::hold(groups, tracks, text, p, characteristic);
+    let h = player_values::hold(groups, tracks, text, renames, office, p, characteristic);
     let most = ground::wide_word(c.link.mtu - 3);
     let n = player_values::hand(out, h, 0, most);
     Serving {
@@ -102,22 +103,26 @@ fn players_right(groups: &[u32], tracks: &[u32], players: [player_state::Player;
 }
 
 // A client takes what its own record owes it, by either service.
-pub fn take_own(
+pub fn take_own<'a>(
     c: desk_client::Client,
     groups: &[u32],
     tracks: &[u32],
     segments: &[u32],
-    text: &[u8],
+    text: &'a [u8],
+    renames: &[u32],
+    office: &'a [u8],
     players: [player_state::Player; 2],
     out: &mut [u8],
 ) -> Own
-    ensures { λ r. ⌜ OwnTake (tables (now (groups .entry)) (now (tracks .entry)) (now (segments .entry)) (now (text .entry))) players c (now (out .entry)) (r .answer) (r .client) (now (out .exit)) ⌝ }
+    ensures { λ r. ⌜ OwnTake (lending (now (groups .entry)) (now (tracks .entry)) (now (segments .entry)) (now (text .entry)) (now (renames .entry)) (now (office .entry))) players c (now (out .entry)) (r .answer) (r .client) (now (out .exit)) ⌝ }
 {
     let g = desk_replies::lent_gate(
         groups,
         tracks,
         segments,
         text,
+        renames,
+        office,
         out.len() < ground::LEAST_OUTPUT,
     );
     if !g.passes {
@@ -143,7 +148,17 @@ pub fn take_own(
             client: c,
         };
     }
-    let h = hand_out(groups, tracks, segments, text, players, c, out);
+    let h = hand_out(
+        groups,
+        tracks,
+        segments,
+        text,
+        renames,
+        office,
+        players,
+        c,
+        out,
+    );
     let next = h.client;
     Own {
         answer: desk_replies::Answer::Handed(h.service, h.characteristic, h.len),
@@ -152,18 +167,30 @@ pub fn take_own(
 }
 
 // The same on a record that is lent, and updated where it stands.
-pub fn take_in(
+pub fn take_in<'a>(
     c: &mut desk_client::Client,
     groups: &[u32],
     tracks: &[u32],
     segments: &[u32],
-    text: &[u8],
+    text: &'a [u8],
+    renames: &[u32],
+    office: &'a [u8],
     players: [player_state::Player; 2],
     out: &mut [u8],
 ) -> desk_replies::Answer
-    ensures { λ r. ⌜ OwnTake (tables (now (groups .entry)) (now (tracks .entry)) (now (segments .entry)) (now (text .entry))) players (now (c .entry)) (now (out .entry)) r (now (c .exit)) (now (out .exit)) ⌝ }
+    ensures { λ r. ⌜ OwnTake (lending (now (groups .entry)) (now (tracks .entry)) (now (segments .entry)) (now (text .entry)) (now (renames .entry)) (now (office .entry))) players (now (c .entry)) (now (out .entry)) r (now (c .exit)) (now (out .exit)) ⌝ }
 {
-    let h = take_own(*c, groups, tracks, segments, text, players, out);
+    let h = take_own(
+        *c,
+        groups,
+        tracks,
+        segments,
+        text,
+        renames,
+        office,
+        players,
+        out,
+    );
     *c = h.client;
     h.answer
 }
@@ -215,22 +242,26 @@ fn with_served(d: desk_state::Desk, who: u32, c: desk_client::Client) -> desk_st
 }
 
 // The next value or result that is owed to anybody, over the front of out.
-pub fn take(
+pub fn take<'a>(
     groups: &[u32],
     tracks: &[u32],
     segments: &[u32],
-    text: &[u8],
+    text: &'a [u8],
+    renames: &[u32],
+    office: &'a [u8],
     d: desk_state::Desk,
     out: &mut [u8],
 ) -> desk_replies::Outcome
-    ensures { λ r. ⌜ leftBy r ≡ takeCall (tables (now (groups .entry)) (now (tracks .entry)) (now (segments .entry)) (now (text .entry))) d (length (now (out .entry))) ⌝ }
-    ensures { λ r. ⌜ now (out .exit) ≡ tableAfter (saidOf (r .answer)) (takeOctets (tables (now (groups .entry)) (now (tracks .entry)) (now (segments .entry)) (now (text .entry))) d) (now (out .entry)) ⌝ }
+    ensures { λ r. ⌜ leftBy r ≡ takeCall (lending (now (groups .entry)) (now (tracks .entry)) (now (segments .entry)) (now (text .entry)) (now (renames .entry)) (now (office .entry))) d (length (now (out .entry))) ⌝ }
+    ensures { λ r. ⌜ now (out .exit) ≡ tableAfter (saidOf (r .answer)) (takeOctets (lending (now (groups .entry)) (now (tracks .entry)) (now (segments .entry)) (now (text .entry)) (now (renames .entry)) (now (office .entry))) d) (now (out .entry)) ⌝ }
 {
     let g = desk_replies::front_gate(
         groups,
         tracks,
         segments,
         text,
+        renames,
+        office,
         out.len() < ground::LEAST_OUTPUT,
         d,
     );
@@ -245,7 +276,17 @@ pub fn take(
     }
     let players = players_of(d);
     let c = desk_state::client_at(d, who);
-    let h = hand_out(groups, tracks, segments, text, players, c, out);
+    let h = hand_out(
+        groups,
+        tracks,
+        segments,
+        text,
+        renames,
+        office,
+        players,
+        c,
+        out,
+    );
     let next = h.client;
     let e = with_served(d, who, next);
     desk_replies::left(

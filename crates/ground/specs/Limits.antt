@@ -22,6 +22,10 @@ groupWords = 3
 abbrev pub trackWords : ℕ
 trackWords = 6
 
+-- words of an entry that renames a track: "an offset and length per track" (document 02, W-210)
+abbrev pub renameWords : ℕ
+renameWords = 2
+
 -- "Duration is 0 to 8,640,000 hundredths of a second."
 abbrev pub mostDuration : ℕ
 mostDuration = 8640000

@@ -75,11 +75,11 @@ leaves said s = record { said = said; state = s }
 abbrev pub keeping : {S : Type 0} → S → Said → Left S
 keeping s said = leaves said s
 
--- the numbers of document 01 in the table's order, with document 02's reasons of a bad block (W-205, W-206) behind 211, and its number of an absent service
--- (W-208) behind 202; and behind them those of its card write, its objects (W-209) and its cue sheets
+-- the numbers of document 01 in the table's order, with document 02's number of wrong renames (W-210) behind 200, its number of an absent service (W-208)
+-- behind 202, and its reasons of a bad block (W-205, W-206) behind 211; and behind them those of its card write, its objects (W-209) and its cue sheets
 abbrev pub table : List ℕ
 table =
-    200 ∷ 205 ∷ 201 ∷ 202 ∷ 219 ∷ 203 ∷ 204 ∷ 206 ∷ 0x01 ∷ 209 ∷ 0x02 ∷ 0x03 ∷ 0x0F ∷ 0x80 ∷ 0x07 ∷ 0x0D ∷ 0x13 ∷ 0x11 ∷ 207 ∷ 208
+    200 ∷ 224 ∷ 205 ∷ 201 ∷ 202 ∷ 219 ∷ 203 ∷ 204 ∷ 206 ∷ 0x01 ∷ 209 ∷ 0x02 ∷ 0x03 ∷ 0x0F ∷ 0x80 ∷ 0x07 ∷ 0x0D ∷ 0x13 ∷ 0x11 ∷ 207 ∷ 208
     ∷ 210 ∷ 211 ∷ 215 ∷ 216 ∷ 217 ∷ 214 ∷ 218 ∷ 212
     ∷ 213
     ∷ 222 ∷ 223

@@ -22,8 +22,11 @@ pub const MOST_TITLE: usize = 128;
 
 pub const LEAST_OUTPUT: usize = 128;
 
-// The numbers of document 01's table, in its order, with document 02's reasons of a bad block; and of its card write, objects and cue sheets.
+// The numbers of document 01's table, in its order, with document 02's of wrong renames, of an absent service and of a bad block; and of its card write,
+// objects and cue sheets.
 pub const BAD_CATALOGUE: u32 = 200;
+
+pub const BAD_RENAMES: u32 = 224;
 
 pub const SMALL_OUTPUT: u32 = 205;
 

@@ -9,7 +9,7 @@ use Rattle.ground.specs.Cases.{pick}
 use Rattle.ground.specs.Refusals.{Said, Row, accepted, saidBy, Left}
 use Rattle.ground.proofs.Cases.{clash}
 use Rattle.ground.proofs.Rows.{accepted-said, none-of, said-of}
-use Rattle.catalogue_tables.specs.Tables.{Tables}
+use Rattle.catalogue_titles.specs.Lent.{Lent}
 use Rattle.desk_state.specs.declared.Desk.{Desk}
 use Rattle.desk_replies.specs.Replies.{stateRight, fronted, asked}
 use Rattle.mcs_state.specs.Codec.{deskOf, deskOctets}
@@ -33,19 +33,19 @@ pub small-left : {l m : Left Desk} → l ≡ m → AllWords (m .said .values) �
 small-left e h = subst (λ (x : Left Desk). AllWords (x .said .values)) (sym e) h
 
 -- a call that is accepted found a state that stands
-stood : (k : Tables) (small : Bool) (d : Desk) (rows : List Row) (work : Left Desk) → asked k small d rows work .said .isGranted ≡ true → stateRight k d ≡ true
+stood : (k : Lent) (small : Bool) (d : Desk) (rows : List Row) (work : Left Desk) → asked k small d rows work .said .isGranted ≡ true → stateRight k d ≡ true
 stood k small d rows work e = go (accepted all) refl (sym (ap (λ (s : Said). s .isGranted) (said-of d all work)) ∙ e)
   where
     all : List Row
     all = fronted k small d ++ rows
 
     go : (t : Bool) → accepted all ≡ t → pick t (work .said) (saidBy all) .isGranted ≡ true → stateRight k d ≡ true
-    go true q h = not-false _ (none-of all q .1 .1 .0)
+    go true q h = not-false _ (none-of all q .1 .1 .1 .0)
     go false q h = clash (sym (accepted-said all ∙ q) ∙ h)
 
 -- Every call on a state has this form (`asked`). Where it leaves the state that the octets were, it leaves every octet as it was, those that mean nothing
 -- too; a refusal does so anyway.
-pub unchanged : (k : Tables) (small : Bool) (rows : List Row) (work : Left Desk) (old : List ℕ) → 641 ≤ length old → Octets old
+pub unchanged : (k : Lent) (small : Bool) (rows : List Row) (work : Left Desk) (old : List ℕ) → 641 ≤ length old → Octets old
     → asked k small (deskOf old) rows work .state ≡ deskOf old → stateAfter (asked k small (deskOf old) rows work) old ≡ old
 unchanged k small rows work old long octets same = go (l .said .isGranted) refl
   where

@@ -25,16 +25,17 @@ use Rattle.mcs.proofs.mcs_unsubscribe.Reads as unsubscribe
 use Rattle.mcs.proofs.mcs_read.Reads as read
 use Rattle.mcs.proofs.mcs_write.Reads as write
 use Rattle.mcs.proofs.mcs_take.Reads as take
+use Rattle.mcs.proofs.mcs_title.Reads as title
 
 -- no two numbers, no two states, and no two words for where a text is wrong
 abbrev Settles : (ℕ → List ℕ → List ℕ → List ℕ → Type 0) → Type 0
 Settles Met =
     (n₁ n₂ : ℕ) (new₁ new₂ t₁ t₂ o₁ o₂ : List ℕ) → Met n₁ new₁ t₁ o₁ → Met n₂ new₂ t₂ o₂ → ((n₁ ≡ n₂) × (new₁ ≡ new₂)) × (t₁ ≡ t₂) × (o₁ ≡ o₂)
 
-module _ (groups tracks segments text state track octet : RefT (List ℕ)) where
-  -- the catalogue before the other arguments, and the words for where a text is wrong behind them
-  abbrev lent : {A : Type 0} → A → RefT (List ℕ) × (RefT (List ℕ) × (RefT (List ℕ) × (RefT (List ℕ) × A)))
-  lent rest = (groups, (tracks, (segments, (text, rest))))
+module _ (groups tracks segments text renames office state track octet : RefT (List ℕ)) where
+  -- the catalogue and the titles before the other arguments, and the words for where a text is wrong behind them
+  abbrev lent : {A : Type 0} → A → RefT (List ℕ) × (RefT (List ℕ) × (RefT (List ℕ) × (RefT (List ℕ) × (RefT (List ℕ) × (RefT (List ℕ) × A)))))
+  lent rest = (groups, (tracks, (segments, (text, (renames, (office, rest))))))
 
   abbrev words : RefT (List ℕ) × (RefT (List ℕ) × Unit {0})
   words = (track, (octet, tt))
@@ -42,7 +43,8 @@ module _ (groups tracks segments text state track octet : RefT (List ℕ)) where
   abbrev told : List ℕ → List ℕ → RefT (List ℕ) × (RefT (List ℕ) × Unit {0})
   told t o = (at-last track t, (at-last octet o, tt))
 
-  module _ (κs : Lfts 7) where
+  -- one lifetime for both texts, where a title may be handed out
+  module _ (κs : Lfts 8) where
     pub activate-settled : (service group : ℕ) → Settles (λ n new t o. activate.Post κs (lent (state, (service, (group, words)))) n (lent (at-last state new, (service, (group, told t o)))))
     activate-settled service group n₁ n₂ new₁ new₂ t₁ t₂ o₁ o₂ = ends-settled
 
@@ -52,6 +54,7 @@ module _ (groups tracks segments text state track octet : RefT (List ℕ)) where
     pub advance-settled : (service step : ℕ) → Settles (λ n new t o. advance.Post κs (lent (state, (service, (step, words)))) n (lent (at-last state new, (service, (step, told t o)))))
     advance-settled service step n₁ n₂ new₁ new₂ t₁ t₂ o₁ o₂ = ends-settled
 
+  module _ (κs : Lfts 9) where
     pub connect-settled : (client mtu encrypted : ℕ)
         → Settles (λ n new t o. connect.Post κs (lent (state, (client, (mtu, (encrypted, words))))) n (lent (at-last state new, (client, (mtu, (encrypted, told t o))))))
     connect-settled client mtu encrypted n₁ n₂ new₁ new₂ t₁ t₂ o₁ o₂ = ends-settled
@@ -67,12 +70,12 @@ module _ (groups tracks segments text state track octet : RefT (List ℕ)) where
         → Settles (λ n new t o. unsubscribe.Post κs (lent (state, (client, (service, (x, words))))) n (lent (at-last state new, (client, (service, (x, told t o))))))
     unsubscribe-settled client service x n₁ n₂ new₁ new₂ t₁ t₂ o₁ o₂ = ends-settled
 
-  module _ (κs : Lfts 9) where
+  module _ (κs : Lfts 11) where
     pub start-settled : (name0 name1 : RefT (List ℕ)) (mask0 ccid0 mask1 ccid1 : ℕ)
         → Settles (λ n new t o. start.Post κs (lent (name0, (mask0, (ccid0, (name1, (mask1, (ccid1, (state, words)))))))) n (lent (name0, (mask0, (ccid0, (name1, (mask1, (ccid1, (at-last state new, told t o)))))))))
     start-settled name0 name1 mask0 ccid0 mask1 ccid1 n₁ n₂ new₁ new₂ t₁ t₂ o₁ o₂ = ends-settled
 
-  module _ (κs : Lfts 8) where
+  module _ (κs : Lfts 9) where
     pub set-name-settled : (service : ℕ) (name : RefT (List ℕ))
         → Settles (λ n new t o. set-name.Post κs (lent (state, (service, (name, words)))) n (lent (at-last state new, (service, (name, told t o)))))
     set-name-settled service name n₁ n₂ new₁ new₂ t₁ t₂ o₁ o₂ = ends-settled
@@ -82,7 +85,7 @@ module _ (groups tracks segments text state track octet : RefT (List ℕ)) where
     write-settled client service x value n₁ n₂ new₁ new₂ t₁ t₂ o₁ o₂ = ends-settled
 
   -- the lent output and the words for what is said too
-  module _ (κs : Lfts 9) (out said : RefT (List ℕ)) (out₁ out₂ said₁ said₂ : List ℕ) where
+  module _ (κs : Lfts 10) (out said : RefT (List ℕ)) (out₁ out₂ said₁ said₂ : List ℕ) where
     pub read-settled : (client service x offset : ℕ) (n₁ n₂ : ℕ) (new₁ new₂ t₁ t₂ o₁ o₂ : List ℕ)
         → read.Post κs (lent (state, (client, (service, (x, (offset, (out, (said, words)))))))) n₁ (lent (at-last state new₁, (client, (service, (x, (offset, (at-last out out₁, (at-last said said₁, told t₁ o₁))))))))
         → read.Post κs (lent (state, (client, (service, (x, (offset, (out, (said, words)))))))) n₂ (lent (at-last state new₂, (client, (service, (x, (offset, (at-last out out₂, (at-last said said₂, told t₂ o₂))))))))
@@ -94,6 +97,14 @@ module _ (groups tracks segments text state track octet : RefT (List ℕ)) where
         → take.Post κs (lent (state, (out, (said, words)))) n₂ (lent (at-last state new₂, (at-last out out₂, (at-last said said₂, told t₂ o₂))))
         → (((n₁ ≡ n₂) × (new₁ ≡ new₂)) × (t₁ ≡ t₂) × (o₁ ≡ o₂)) × (out₁ ≡ out₂) × (said₁ ≡ said₂)
     take-settled n₁ n₂ new₁ new₂ t₁ t₂ o₁ o₂ p q = (ends-settled (p .0) (q .0), p .1 .0 ∙ sym (q .1 .0), p .1 .1 ∙ sym (q .1 .1))
+
+  -- a title's part, and the words for where a text is wrong; the state is not lent for writing
+  module _ (κs : Lfts 10) (part : RefT (List ℕ)) where
+    pub title-settled : (service : ℕ) (n₁ n₂ : ℕ) (p₁ p₂ t₁ t₂ o₁ o₂ : List ℕ)
+        → title.Post κs (lent (state, (service, (part, words)))) n₁ (lent (state, (service, (at-last part p₁, told t₁ o₁))))
+        → title.Post κs (lent (state, (service, (part, words)))) n₂ (lent (state, (service, (at-last part p₂, told t₂ o₂))))
+        → (n₁ ≡ n₂) × (p₁ ≡ p₂) × (t₁ ≡ t₂) × (o₁ ≡ o₂)
+    title-settled service n₁ n₂ p₁ p₂ t₁ t₂ o₁ o₂ p q = (p .0 ∙ sym (q .0), p .1 .0 ∙ sym (q .1 .0), p .1 .1 .0 ∙ sym (q .1 .1 .0), p .1 .1 .1 ∙ sym (q .1 .1 .1))
 
 -- a card load's four tables, its counts and its block
 module _ (κs : Lfts 7) (card groups tracks segments text counts block : RefT (List ℕ)) where

@@ -13,6 +13,9 @@ use Rattle.ground.specs.Refusals.{Said, granted, refusedWith, Row, row, answere
 use Rattle.ground.specs.Limits.{mostGroups, mostTracks, mostSegments, mostText, groupWords, trackWords, leastOutput}
 use Rattle.ground.proofs.Cases.{and-left, and-right}
 use Rattle.catalogue_tables.specs.Tables.{Tables, trackCount}
+use Rattle.catalogue_titles.specs.declared.Part.{Part}
+use Rattle.catalogue_titles.specs.Titles.{front}
+use Rattle.catalogue_titles.specs.Lent.{Lent, catalogueOf}
 use Rattle.card_block.specs.Block.{kindOf}
 use Rattle.card_load.specs.Card.{lengthRule, blocksOf, blocksRows, recordCount}
 use Rattle.card_load.specs.Load.{fits, roomRule, roomRow, counted, loadSaid}
@@ -44,6 +47,7 @@ use Rattle.desk_replies.specs.Replies.{fronted, asked, linkOf}
 use Rattle.desk_replies.proofs.Gates.{stands}
 use Rattle.desk_exchange.specs.Write.{writerRows, writeCall}
 use Rattle.desk_exchange.specs.Read.{valueNow, readerRows, readOctets, readCall}
+use Rattle.desk_title.specs.Title.{titleRows, titleCall}
 use Rattle.desk_take.specs.Serving.{placesOwed, nextPlace, handedOctets, handedValues, afterServing}
 use Rattle.desk_take.specs.Take.{nextClient, playersOf, withServed, takeCall}
 use Rattle.mcs.specs.declared.Told.{Told}
@@ -208,11 +212,11 @@ segments-words k t room =
     (λ right there. omega (arith, segments-few k right t (ltb-true _ _ (and-left (ltb t (trackCount (k .tracks))) _ there))))
 
 -- start says nothing besides
-pub start-words : (k : Tables) (generic named : Beginning) → AllWords (startCall k generic named .said .values)
+pub start-words : (k : Lent) (generic named : Beginning) → AllWords (startCall k generic named .said .values)
 unfolding startCall SmallRows
 start-words k generic named =
     behind-rows (λ (l : Left Desk). l .said) (keeping (startedDesk (freshly (nameless generic)) (freshly (nameless named)))) (λ said. refl) (startRows k generic named)
-    (title-words k, (tt, (name-words (generic .name), (name-words (named .name), tt)))) _ (λ n. tt)
+    (title-words (catalogueOf k), (tt, (tt, (name-words (generic .name), (name-words (named .name), tt))))) _ (λ n. tt)
 
 -- the ATT_MTU of a link that stands is small
 mtu-small : (l : Link) → linkRule l ≡ true → l .mtu < 4294967296
@@ -225,12 +229,12 @@ mtu-small l e = at (l .connected) refl
         let r = subst (λ (t : Bool). pick t (mtuRight (l .mtu) && ltb (l .mark) placeCount) (not (l .encrypted) && eqb (l .mtu) leastMtu && eqb (l .mark) (placeCount - 1)) ≡ true) q e in
         omega (arith, eqb-true (l .mtu) leastMtu (and-right (not (l .encrypted)) (eqb (l .mtu) leastMtu) (and-left (not (l .encrypted) && eqb (l .mtu) leastMtu) (eqb (l .mark) (placeCount - 1)) r)))
 
-module _ (k : Tables) (d : Desk) where
+module _ (k : Lent) (d : Desk) where
   -- nor do the calls that answer no more than that they are accepted
   asked-words : (rows : List Row) → SmallRows rows → (work : Left Desk) → work .said .values ≡ [] → AllWords (asked k false d rows work .said .values)
   unfolding SmallRows
   asked-words rows n work e =
-      behind-rows (λ (l : Left Desk). l .said) (keeping d) (λ said. refl) (fronted k false d ++ rows) (title-words k, (tt, (tt, n))) work (λ m. subst AllWords (sym e) tt)
+      behind-rows (λ (l : Left Desk). l .said) (keeping d) (λ said. refl) (fronted k false d ++ rows) (title-words (catalogueOf k), (tt, (tt, (tt, n)))) work (λ m. subst AllWords (sym e) tt)
 
   pub set-name-words : (service : ℕ) (name : List ℕ) → AllWords (nameCall k d service name .said .values)
   unfolding nameCall SmallRows
@@ -243,6 +247,11 @@ module _ (k : Tables) (d : Desk) where
   pub deactivate-words : (service : ℕ) → AllWords (deactivateCall k d service .said .values)
   unfolding deactivateCall SmallRows
   deactivate-words service = asked-words (serviceRows service) (tt, tt) _ refl
+
+  pub titled-words : (service : ℕ) → AllWords (titleCall k d service .said .values)
+  unfolding titleCall SmallRows
+  titled-words service =
+      behind-rows (λ (l : Left Part). l .said) (keeping front) (λ said. refl) (titleRows k d service) (title-words (catalogueOf k), (tt, (tt, (tt, (tt, tt))))) _ (λ n. tt)
 
   pub advance-words : (service step : ℕ) → AllWords (advanceCall k d service step .said .values)
   unfolding advanceCall SmallRows
@@ -275,8 +284,8 @@ module _ (k : Tables) (d : Desk) where
   read-words who service characteristic offset room =
       let rows = readerRows d who service characteristic offset (length (valueNow k d service characteristic)) in
       let small = ltb room leastOutput in
-      behind-rows (λ (l : Left Desk). l .said) (keeping d) (λ said. refl) (fronted k small d ++ rows) (title-words k, (tt, (tt, (tt, (tt, (tt, (tt, (tt, (tt, (tt, (tt, tt))))))))))) _ (λ n.
-      let right = link-stands (k .groups) (k .tracks) d (stands k small d rows n) who (leb-false clientCount who (n .1 .1 .1 .0)) in
+      behind-rows (λ (l : Left Desk). l .said) (keeping d) (λ said. refl) (fronted k small d ++ rows) (title-words (catalogueOf k), (tt, (tt, (tt, (tt, (tt, (tt, (tt, (tt, (tt, (tt, (tt, tt)))))))))))) _ (λ n.
+      let right = link-stands (k .groups) (k .tracks) d (stands k small d rows n) who (leb-false clientCount who (n .1 .1 .1 .1 .0)) in
       (part-small (linkOf d who .mtu - 1) (drop offset (valueNow k d service characteristic)) (omega (arith, mtu-small (linkOf d who) right)), tt))
 
   few : (s : ℕ) → characteristicOf s < 4294967296
@@ -291,7 +300,7 @@ module _ (k : Tables) (d : Desk) where
   unfolding takeCall SmallRows clientAt handedOctets
   take-words room =
       let small = ltb room leastOutput in
-      behind-rows (λ (l : Left Desk). l .said) (keeping d) (λ said. refl) (fronted k small d ++ []) (title-words k, (tt, (tt, tt))) _ (λ n.
+      behind-rows (λ (l : Left Desk). l .said) (keeping d) (λ said. refl) (fronted k small d ++ []) (title-words (catalogueOf k), (tt, (tt, (tt, tt)))) _ (λ n.
       served (leb clientCount (nextClient d)) refl (link-stands (k .groups) (k .tracks) d (stands k small d [] n) (nextClient d)))
     where
       own : Client

@@ -8,6 +8,8 @@ use lib.Dec.{ltb}
 use lib.ListN.{length, take, drop, getD}
 use Rattle.ground.specs.Cases.{pick}
 use Rattle.ground.specs.Refusals.{Said, Left}
+use Rattle.catalogue_titles.specs.declared.Part.{Part}
+use Rattle.catalogue_titles.specs.Titles.{partValues}
 use Rattle.desk_state.specs.declared.Desk.{Desk}
 use Rattle.mcs_state.specs.Codec.{deskOf, deskOctets}
 use Rattle.mcs.specs.declared.Told.{Told}
@@ -64,6 +66,10 @@ trackAfter said old = toldAfter (carriesTwo said) (saidWords said) old
 
 abbrev pub offsetAfter : Said → List ℕ → List ℕ
 offsetAfter said old = toldAfter (carries said) (pick (carriesTwo said) (getD (said .values) 1 0) (getD (said .values) 0 0) ∷ []) old
+
+-- the words for a title's part; as they were where it is refused
+abbrev pub partAfter : Left Part → List ℕ → List ℕ
+partAfter l old = toldAfter (l .said .isGranted) (partValues (l .state)) old
 
 -- the octets of the next state, or as they were
 abbrev pub stateAfter : Left Desk → List ℕ → List ℕ

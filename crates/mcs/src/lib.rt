@@ -7,6 +7,8 @@ ghost use Prim.Native.Nat.{_≤_};
 ghost use lib.ListN.{length as len, getD};
 ghost use Rattle.ground.specs.Cases.{pick};
 ghost use Rattle.catalogue_tables.specs.Tables.{tables};
+ghost use Rattle.catalogue_titles.specs.Titles.{partValues};
+ghost use Rattle.catalogue_titles.specs.Lent.{lending};
 ghost use Rattle.desk_replies.specs.Replies.{saidOf, leftBy};
 ghost use Rattle.ground.specs.Lists.{tableAfter};
 ghost use Rattle.ground.specs.Words.{words};
@@ -25,12 +27,18 @@ ghost use Rattle.desk_links.specs.Links.{connectCall, disconnectCall, subscribe
 ghost use Rattle.desk_exchange.specs.Read.{readCall, readOctets};
 ghost use Rattle.desk_exchange.specs.Write.{writeCall};
 ghost use Rattle.desk_take.specs.Take.{takeCall, takeOctets};
-ghost use Rattle.mcs.specs.Calls.{Ends, AllWords, toldOf, toldAfter, wordsAfter, carriedAfter, trackAfter, offsetAfter};
+ghost use Rattle.desk_title.specs.Title.{titleCall};
+ghost use Rattle.mcs.specs.Calls.{Ends, AllWords, toldOf, toldAfter, wordsAfter, carriedAfter, trackAfter, offsetAfter, partAfter};
 use card_load::Loaded;
 use card_write::Written;
 use catalogue_cue::Cued;
 use desk_replies::Answer;
 use desk_replies::Outcome;
+
+// The numbers of the texts that a title may be a part of.
+const CARD_TEXT: u32 = 0;
+
+const OFFICE_TEXT: u32 = 1;
 
 // What C is told of an answer: whether the call is accepted, or else whether its refusal carries something, and whether that is a title's track and an offset;
 // document 01's number, 0 where the call is accepted; and the values as words, 0 where there is none.
@@ -202,6 +210,26 @@ fn tell_place(t: Told, track: &mut [u32], octet: &mut [u32])
             octet[0] = values[0];
         }
     }
+}
+
+// The number of the text that a title is a part of.
+fn text_number(renamed: bool) -> u32
+    ensures { λ r. ⌜ r ≡ pick renamed 1 0 ⌝ }
+{
+    if renamed {
+        return OFFICE_TEXT;
+    }
+    CARD_TEXT
+}
+
+// Of which text a title is a part, its offset and its length, over the words that the caller has for it, where `on` says so.
+fn tell_part(on: bool, title: catalogue_titles::Part, part: &mut [u32])
+    requires { ⌜ len (now part) ≡ 3 ⌝ }
+    ensures { λ _. ⌜ now (part .exit) ≡ toldAfter on (partValues title) (now (part .entry)) ⌝ }
+{
+    let which = text_number(title.renamed);
+    let values = [which, title.offset, title.len, 0];
+    tell(on, values, part);
 }
 
 // What every call on the state does at its end.
@@ -401,6 +429,8 @@ pub extern "C" fn mcs_start(
     tracks: &[u32],
     segments: &[u32],
     text: &[u8],
+    renames: &[u32],
+    office: &[u8],
     name0: &[u8],
     mask0: u32,
     ccid0: u8,
@@ -411,13 +441,15 @@ pub extern "C" fn mcs_start(
     track: &mut [u32; 1],
     octet: &mut [u32; 1],
 ) -> u32
-    ensures { λ r. ⌜ Ends (startCall (tables (now (groups .entry)) (now (tracks .entry)) (now (segments .entry)) (now (text .entry))) (record { name = now (name0 .entry); mask = mask0; ccid = ccid0 }) (record { name = now (name1 .entry); mask = mask1; ccid = ccid1 })) (now (state .entry)) (now (track .entry)) (now (octet .entry)) r (now (state .exit)) (now (track .exit)) (now (octet .exit)) ⌝ }
+    ensures { λ r. ⌜ Ends (startCall (lending (now (groups .entry)) (now (tracks .entry)) (now (segments .entry)) (now (text .entry)) (now (renames .entry)) (now (office .entry))) (record { name = now (name0 .entry); mask = mask0; ccid = ccid0 }) (record { name = now (name1 .entry); mask = mask1; ccid = ccid1 })) (now (state .entry)) (now (track .entry)) (now (octet .entry)) r (now (state .exit)) (now (track .exit)) (now (octet .exit)) ⌝ }
 {
     let o = desk_console::start(
         groups,
         tracks,
         segments,
         text,
+        renames,
+        office,
         name0,
         mask0,
         ccid0,
@@ -430,81 +462,119 @@ pub extern "C" fn mcs_start(
 
 // Set name.
 #[no_mangle]
-pub extern "C" fn mcs_set_name(
+pub extern "C" fn mcs_set_name<'a>(
     groups: &[u32],
     tracks: &[u32],
     segments: &[u32],
-    text: &[u8],
+    text: &'a [u8],
+    renames: &[u32],
+    office: &'a [u8],
     state: &mut [u8; 641],
     service: u32,
     name: &[u8],
     track: &mut [u32; 1],
     octet: &mut [u32; 1],
 ) -> u32
-    ensures { λ r. ⌜ Ends (nameCall (tables (now (groups .entry)) (now (tracks .entry)) (now (segments .entry)) (now (text .entry))) (deskOf (now (state .entry))) service (now (name .entry))) (now (state .entry)) (now (track .entry)) (now (octet .entry)) r (now (state .exit)) (now (track .exit)) (now (octet .exit)) ⌝ }
+    ensures { λ r. ⌜ Ends (nameCall (lending (now (groups .entry)) (now (tracks .entry)) (now (segments .entry)) (now (text .entry)) (now (renames .entry)) (now (office .entry))) (deskOf (now (state .entry))) service (now (name .entry))) (now (state .entry)) (now (track .entry)) (now (octet .entry)) r (now (state .exit)) (now (track .exit)) (now (octet .exit)) ⌝ }
 {
     let d = mcs_state::decode(state);
-    let o = desk_console::set_name(groups, tracks, segments, text, d, service, name);
+    let o = desk_console::set_name(
+        groups,
+        tracks,
+        segments,
+        text,
+        renames,
+        office,
+        d,
+        service,
+        name,
+    );
     finish(o, state, track, octet)
 }
 
 // Activate a group.
 #[no_mangle]
-pub extern "C" fn mcs_activate(
+pub extern "C" fn mcs_activate<'a>(
     groups: &[u32],
     tracks: &[u32],
     segments: &[u32],
-    text: &[u8],
+    text: &'a [u8],
+    renames: &[u32],
+    office: &'a [u8],
     state: &mut [u8; 641],
     service: u32,
     group: u32,
     track: &mut [u32; 1],
     octet: &mut [u32; 1],
 ) -> u32
-    ensures { λ r. ⌜ Ends (activateCall (tables (now (groups .entry)) (now (tracks .entry)) (now (segments .entry)) (now (text .entry))) (deskOf (now (state .entry))) service group) (now (state .entry)) (now (track .entry)) (now (octet .entry)) r (now (state .exit)) (now (track .exit)) (now (octet .exit)) ⌝ }
+    ensures { λ r. ⌜ Ends (activateCall (lending (now (groups .entry)) (now (tracks .entry)) (now (segments .entry)) (now (text .entry)) (now (renames .entry)) (now (office .entry))) (deskOf (now (state .entry))) service group) (now (state .entry)) (now (track .entry)) (now (octet .entry)) r (now (state .exit)) (now (track .exit)) (now (octet .exit)) ⌝ }
 {
     let d = mcs_state::decode(state);
     let g = catalogue_tables::GroupNo(group);
-    let o = desk_console::activate(groups, tracks, segments, text, d, service, g);
+    let o = desk_console::activate(
+        groups,
+        tracks,
+        segments,
+        text,
+        renames,
+        office,
+        d,
+        service,
+        g,
+    );
     finish(o, state, track, octet)
 }
 
 // Deactivate.
 #[no_mangle]
-pub extern "C" fn mcs_deactivate(
+pub extern "C" fn mcs_deactivate<'a>(
     groups: &[u32],
     tracks: &[u32],
     segments: &[u32],
-    text: &[u8],
+    text: &'a [u8],
+    renames: &[u32],
+    office: &'a [u8],
     state: &mut [u8; 641],
     service: u32,
     track: &mut [u32; 1],
     octet: &mut [u32; 1],
 ) -> u32
-    ensures { λ r. ⌜ Ends (deactivateCall (tables (now (groups .entry)) (now (tracks .entry)) (now (segments .entry)) (now (text .entry))) (deskOf (now (state .entry))) service) (now (state .entry)) (now (track .entry)) (now (octet .entry)) r (now (state .exit)) (now (track .exit)) (now (octet .exit)) ⌝ }
+    ensures { λ r. ⌜ Ends (deactivateCall (lending (now (groups .entry)) (now (tracks .entry)) (now (segments .entry)) (now (text .entry)) (now (renames .entry)) (now (office .entry))) (deskOf (now (state .entry))) service) (now (state .entry)) (now (track .entry)) (now (octet .entry)) r (now (state .exit)) (now (track .exit)) (now (octet .exit)) ⌝ }
 {
     let d = mcs_state::decode(state);
-    let o = desk_console::deactivate(groups, tracks, segments, text, d, service);
+    let o = desk_console::deactivate(groups, tracks, segments, text, renames, office, d, service);
     finish(o, state, track, octet)
 }
 
 // Advance.
 #[no_mangle]
-pub extern "C" fn mcs_advance(
+pub extern "C" fn mcs_advance<'a>(
     groups: &[u32],
     tracks: &[u32],
     segments: &[u32],
-    text: &[u8],
+    text: &'a [u8],
+    renames: &[u32],
+    office: &'a [u8],
     state: &mut [u8; 641],
     service: u32,
     step: u32,
     track: &mut [u32; 1],
     octet: &mut [u32; 1],
 ) -> u32
-    ensures { λ r. ⌜ Ends (advanceCall (tables (now (groups .entry)) (now (tracks .entry)) (now (segments .entry)) (now (text .entry))) (deskOf (now (state .entry))) service step) (now (state .entry)) (now (track .entry)) (now (octet .entry)) r (now (state .exit)) (now (track .exit)) (now (octet .exit)) ⌝ }
+    ensures { λ r. ⌜ Ends (advanceCall (lending (now (groups .entry)) (now (tracks .entry)) (now (segments .entry)) (now (text .entry)) (now (renames .entry)) (now (office .entry))) (deskOf (now (state .entry))) service step) (now (state .entry)) (now (track .entry)) (now (octet .entry)) r (now (state .exit)) (now (track .exit)) (now (octet .exit)) ⌝ }
 {
     let d = mcs_state::decode(state);
-    let o = desk_console::advance(groups, tracks, segments, text, d, service, step);
+    let o = desk_console::advance(
+        groups,
+        tracks,
+        segments,
+        text,
+        renames,
+        office,
+        d,
+        service,
+        step,
+    );
     finish(o, state, track, octet)
 }
 
@@ -515,6 +585,8 @@ pub extern "C" fn mcs_connect(
     tracks: &[u32],
     segments: &[u32],
     text: &[u8],
+    renames: &[u32],
+    office: &[u8],
     state: &mut [u8; 641],
     client: u32,
     mtu: u32,
@@ -522,7 +594,7 @@ pub extern "C" fn mcs_connect(
     track: &mut [u32; 1],
     octet: &mut [u32; 1],
 ) -> u32
-    ensures { λ r. ⌜ Ends (connectCall (tables (now (groups .entry)) (now (tracks .entry)) (now (segments .entry)) (now (text .entry))) (deskOf (now (state .entry))) client mtu (flag encrypted)) (now (state .entry)) (now (track .entry)) (now (octet .entry)) r (now (state .exit)) (now (track .exit)) (now (octet .exit)) ⌝ }
+    ensures { λ r. ⌜ Ends (connectCall (lending (now (groups .entry)) (now (tracks .entry)) (now (segments .entry)) (now (text .entry)) (now (renames .entry)) (now (office .entry))) (deskOf (now (state .entry))) client mtu (flag encrypted)) (now (state .entry)) (now (track .entry)) (now (octet .entry)) r (now (state .exit)) (now (track .exit)) (now (octet .exit)) ⌝ }
 {
     let d = mcs_state::decode(state);
     let o = desk_links::connect(
@@ -530,6 +602,8 @@ pub extern "C" fn mcs_connect(
         tracks,
         segments,
         text,
+        renames,
+        office,
         d,
         client,
         mtu,
@@ -545,15 +619,17 @@ pub extern "C" fn mcs_disconnect(
     tracks: &[u32],
     segments: &[u32],
     text: &[u8],
+    renames: &[u32],
+    office: &[u8],
     state: &mut [u8; 641],
     client: u32,
     track: &mut [u32; 1],
     octet: &mut [u32; 1],
 ) -> u32
-    ensures { λ r. ⌜ Ends (disconnectCall (tables (now (groups .entry)) (now (tracks .entry)) (now (segments .entry)) (now (text .entry))) (deskOf (now (state .entry))) client) (now (state .entry)) (now (track .entry)) (now (octet .entry)) r (now (state .exit)) (now (track .exit)) (now (octet .exit)) ⌝ }
+    ensures { λ r. ⌜ Ends (disconnectCall (lending (now (groups .entry)) (now (tracks .entry)) (now (segments .entry)) (now (text .entry)) (now (renames .entry)) (now (office .entry))) (deskOf (now (state .entry))) client) (now (state .entry)) (now (track .entry)) (now (octet .entry)) r (now (state .exit)) (now (track .exit)) (now (octet .exit)) ⌝ }
 {
     let d = mcs_state::decode(state);
-    let o = desk_links::disconnect(groups, tracks, segments, text, d, client);
+    let o = desk_links::disconnect(groups, tracks, segments, text, renames, office, d, client);
     finish(o, state, track, octet)
 }
 
@@ -564,6 +640,8 @@ pub extern "C" fn mcs_subscribe(
     tracks: &[u32],
     segments: &[u32],
     text: &[u8],
+    renames: &[u32],
+    office: &[u8],
     state: &mut [u8; 641],
     client: u32,
     service: u32,
@@ -571,7 +649,7 @@ pub extern "C" fn mcs_subscribe(
     track: &mut [u32; 1],
     octet: &mut [u32; 1],
 ) -> u32
-    ensures { λ r. ⌜ Ends (subscribeCall (tables (now (groups .entry)) (now (tracks .entry)) (now (segments .entry)) (now (text .entry))) (deskOf (now (state .entry))) client service characteristic) (now (state .entry)) (now (track .entry)) (now (octet .entry)) r (now (state .exit)) (now (track .exit)) (now (octet .exit)) ⌝ }
+    ensures { λ r. ⌜ Ends (subscribeCall (lending (now (groups .entry)) (now (tracks .entry)) (now (segments .entry)) (now (text .entry)) (now (renames .entry)) (now (office .entry))) (deskOf (now (state .entry))) client service characteristic) (now (state .entry)) (now (track .entry)) (now (octet .entry)) r (now (state .exit)) (now (track .exit)) (now (octet .exit)) ⌝ }
 {
     let d = mcs_state::decode(state);
     let o = desk_links::subscribe(
@@ -579,6 +657,8 @@ pub extern "C" fn mcs_subscribe(
         tracks,
         segments,
         text,
+        renames,
+        office,
         d,
         client,
         service,
@@ -594,6 +674,8 @@ pub extern "C" fn mcs_unsubscribe(
     tracks: &[u32],
     segments: &[u32],
     text: &[u8],
+    renames: &[u32],
+    office: &[u8],
     state: &mut [u8; 641],
     client: u32,
     service: u32,
@@ -601,7 +683,7 @@ pub extern "C" fn mcs_unsubscribe(
     track: &mut [u32; 1],
     octet: &mut [u32; 1],
 ) -> u32
-    ensures { λ r. ⌜ Ends (unsubscribeCall (tables (now (groups .entry)) (now (tracks .entry)) (now (segments .entry)) (now (text .entry))) (deskOf (now (state .entry))) client service characteristic) (now (state .entry)) (now (track .entry)) (now (octet .entry)) r (now (state .exit)) (now (track .exit)) (now (octet .exit)) ⌝ }
+    ensures { λ r. ⌜ Ends (unsubscribeCall (lending (now (groups .entry)) (now (tracks .entry)) (now (segments .entry)) (now (text .entry)) (now (renames .entry)) (now (office .entry))) (deskOf (now (state .entry))) client service characteristic) (now (state .entry)) (now (track .entry)) (now (octet .entry)) r (now (state .exit)) (now (track .exit)) (now (octet .exit)) ⌝ }
 {
     let d = mcs_state::decode(state);
     let o = desk_links::unsubscribe(
@@ -609,6 +691,8 @@ pub extern "C" fn mcs_unsubscribe(
         tracks,
         segments,
         text,
+        renames,
+        office,
         d,
         client,
         service,
@@ -619,11 +703,13 @@ pub extern "C" fn mcs_unsubscribe(
 
 // Read at an offset.
 #[no_mangle]
-pub extern "C" fn mcs_read(
+pub extern "C" fn mcs_read<'a>(
     groups: &[u32],
     tracks: &[u32],
     segments: &[u32],
-    text: &[u8],
+    text: &'a [u8],
+    renames: &[u32],
+    office: &'a [u8],
     state: &mut [u8; 641],
     client: u32,
     service: u32,
@@ -634,9 +720,9 @@ pub extern "C" fn mcs_read(
     track: &mut [u32; 1],
     octet: &mut [u32; 1],
 ) -> u32
-    ensures { λ r. ⌜ Ends (readCall (tables (now (groups .entry)) (now (tracks .entry)) (now (segments .entry)) (now (text .entry))) (deskOf (now (state .entry))) client service characteristic offset (len (now (out .entry)))) (now (state .entry)) (now (track .entry)) (now (octet .entry)) r (now (state .exit)) (now (track .exit)) (now (octet .exit)) ⌝ }
-    ensures { λ r. ⌜ now (out .exit) ≡ tableAfter (readCall (tables (now (groups .entry)) (now (tracks .entry)) (now (segments .entry)) (now (text .entry))) (deskOf (now (state .entry))) client service characteristic offset (len (now (out .entry))) .said) (readOctets (tables (now (groups .entry)) (now (tracks .entry)) (now (segments .entry)) (now (text .entry))) (deskOf (now (state .entry))) client service characteristic offset) (now (out .entry)) ⌝ }
-    ensures { λ r. ⌜ now (length .exit) ≡ wordsAfter (readCall (tables (now (groups .entry)) (now (tracks .entry)) (now (segments .entry)) (now (text .entry))) (deskOf (now (state .entry))) client service characteristic offset (len (now (out .entry))) .said) (now (length .entry)) ⌝ }
+    ensures { λ r. ⌜ Ends (readCall (lending (now (groups .entry)) (now (tracks .entry)) (now (segments .entry)) (now (text .entry)) (now (renames .entry)) (now (office .entry))) (deskOf (now (state .entry))) client service characteristic offset (len (now (out .entry)))) (now (state .entry)) (now (track .entry)) (now (octet .entry)) r (now (state .exit)) (now (track .exit)) (now (octet .exit)) ⌝ }
+    ensures { λ r. ⌜ now (out .exit) ≡ tableAfter (readCall (lending (now (groups .entry)) (now (tracks .entry)) (now (segments .entry)) (now (text .entry)) (now (renames .entry)) (now (office .entry))) (deskOf (now (state .entry))) client service characteristic offset (len (now (out .entry))) .said) (readOctets (lending (now (groups .entry)) (now (tracks .entry)) (now (segments .entry)) (now (text .entry)) (now (renames .entry)) (now (office .entry))) (deskOf (now (state .entry))) client service characteristic offset) (now (out .entry)) ⌝ }
+    ensures { λ r. ⌜ now (length .exit) ≡ wordsAfter (readCall (lending (now (groups .entry)) (now (tracks .entry)) (now (segments .entry)) (now (text .entry)) (now (renames .entry)) (now (office .entry))) (deskOf (now (state .entry))) client service characteristic offset (len (now (out .entry))) .said) (now (length .entry)) ⌝ }
 {
     let d = mcs_state::decode(state);
     let o = desk_exchange::read(
@@ -644,6 +730,8 @@ pub extern "C" fn mcs_read(
         tracks,
         segments,
         text,
+        renames,
+        office,
         d,
         client,
         service,
@@ -660,23 +748,25 @@ pub extern "C" fn mcs_read(
 
 // Take.
 #[no_mangle]
-pub extern "C" fn mcs_take(
+pub extern "C" fn mcs_take<'a>(
     groups: &[u32],
     tracks: &[u32],
     segments: &[u32],
-    text: &[u8],
+    text: &'a [u8],
+    renames: &[u32],
+    office: &'a [u8],
     state: &mut [u8; 641],
     out: &mut [u8],
     served: &mut [u32; 4],
     track: &mut [u32; 1],
     octet: &mut [u32; 1],
 ) -> u32
-    ensures { λ r. ⌜ Ends (takeCall (tables (now (groups .entry)) (now (tracks .entry)) (now (segments .entry)) (now (text .entry))) (deskOf (now (state .entry))) (len (now (out .entry)))) (now (state .entry)) (now (track .entry)) (now (octet .entry)) r (now (state .exit)) (now (track .exit)) (now (octet .exit)) ⌝ }
-    ensures { λ r. ⌜ now (out .exit) ≡ tableAfter (takeCall (tables (now (groups .entry)) (now (tracks .entry)) (now (segments .entry)) (now (text .entry))) (deskOf (now (state .entry))) (len (now (out .entry))) .said) (takeOctets (tables (now (groups .entry)) (now (tracks .entry)) (now (segments .entry)) (now (text .entry))) (deskOf (now (state .entry)))) (now (out .entry)) ⌝ }
-    ensures { λ r. ⌜ now (served .exit) ≡ wordsAfter (takeCall (tables (now (groups .entry)) (now (tracks .entry)) (now (segments .entry)) (now (text .entry))) (deskOf (now (state .entry))) (len (now (out .entry))) .said) (now (served .entry)) ⌝ }
+    ensures { λ r. ⌜ Ends (takeCall (lending (now (groups .entry)) (now (tracks .entry)) (now (segments .entry)) (now (text .entry)) (now (renames .entry)) (now (office .entry))) (deskOf (now (state .entry))) (len (now (out .entry)))) (now (state .entry)) (now (track .entry)) (now (octet .entry)) r (now (state .exit)) (now (track .exit)) (now (octet .exit)) ⌝ }
+    ensures { λ r. ⌜ now (out .exit) ≡ tableAfter (takeCall (lending (now (groups .entry)) (now (tracks .entry)) (now (segments .entry)) (now (text .entry)) (now (renames .entry)) (now (office .entry))) (deskOf (now (state .entry))) (len (now (out .entry))) .said) (takeOctets (lending (now (groups .entry)) (now (tracks .entry)) (now (segments .entry)) (now (text .entry)) (now (renames .entry)) (now (office .entry))) (deskOf (now (state .entry)))) (now (out .entry)) ⌝ }
+    ensures { λ r. ⌜ now (served .exit) ≡ wordsAfter (takeCall (lending (now (groups .entry)) (now (tracks .entry)) (now (segments .entry)) (now (text .entry)) (now (renames .entry)) (now (office .entry))) (deskOf (now (state .entry))) (len (now (out .entry))) .said) (now (served .entry)) ⌝ }
 {
     let d = mcs_state::decode(state);
-    let o = desk_take::take(groups, tracks, segments, text, d, out);
+    let o = desk_take::take(groups, tracks, segments, text, renames, office, d, out);
     let answer = o.answer;
     let t = told_of(answer);
     let values = t.values;
@@ -686,11 +776,13 @@ pub extern "C" fn mcs_take(
 
 // Write.
 #[no_mangle]
-pub extern "C" fn mcs_write(
+pub extern "C" fn mcs_write<'a>(
     groups: &[u32],
     tracks: &[u32],
     segments: &[u32],
-    text: &[u8],
+    text: &'a [u8],
+    renames: &[u32],
+    office: &'a [u8],
     state: &mut [u8; 641],
     client: u32,
     service: u32,
@@ -699,7 +791,7 @@ pub extern "C" fn mcs_write(
     track: &mut [u32; 1],
     octet: &mut [u32; 1],
 ) -> u32
-    ensures { λ r. ⌜ Ends (writeCall (tables (now (groups .entry)) (now (tracks .entry)) (now (segments .entry)) (now (text .entry))) (deskOf (now (state .entry))) client service characteristic (now (value .entry))) (now (state .entry)) (now (track .entry)) (now (octet .entry)) r (now (state .exit)) (now (track .exit)) (now (octet .exit)) ⌝ }
+    ensures { λ r. ⌜ Ends (writeCall (lending (now (groups .entry)) (now (tracks .entry)) (now (segments .entry)) (now (text .entry)) (now (renames .entry)) (now (office .entry))) (deskOf (now (state .entry))) client service characteristic (now (value .entry))) (now (state .entry)) (now (track .entry)) (now (octet .entry)) r (now (state .exit)) (now (track .exit)) (now (octet .exit)) ⌝ }
 {
     let d = mcs_state::decode(state);
     let o = desk_exchange::write(
@@ -707,6 +799,8 @@ pub extern "C" fn mcs_write(
         tracks,
         segments,
         text,
+        renames,
+        office,
         d,
         client,
         service,
@@ -714,4 +808,34 @@ pub extern "C" fn mcs_write(
         value,
     );
     finish(o, state, track, octet)
+}
+
+// Title: of which text, from where on and how long. The state is lent to be read alone.
+#[no_mangle]
+pub extern "C" fn mcs_title(
+    groups: &[u32],
+    tracks: &[u32],
+    segments: &[u32],
+    text: &[u8],
+    renames: &[u32],
+    office: &[u8],
+    state: &[u8; 641],
+    service: u32,
+    part: &mut [u32; 3],
+    track: &mut [u32; 1],
+    octet: &mut [u32; 1],
+) -> u32
+    ensures { λ r. ⌜ r ≡ titleCall (lending (now (groups .entry)) (now (tracks .entry)) (now (segments .entry)) (now (text .entry)) (now (renames .entry)) (now (office .entry))) (deskOf (now (state .entry))) service .said .number ⌝ }
+    ensures { λ r. ⌜ now (part .exit) ≡ partAfter (titleCall (lending (now (groups .entry)) (now (tracks .entry)) (now (segments .entry)) (now (text .entry)) (now (renames .entry)) (now (office .entry))) (deskOf (now (state .entry))) service) (now (part .entry)) ⌝ }
+    ensures { λ r. ⌜ now (track .exit) ≡ trackAfter (titleCall (lending (now (groups .entry)) (now (tracks .entry)) (now (segments .entry)) (now (text .entry)) (now (renames .entry)) (now (office .entry))) (deskOf (now (state .entry))) service .said) (now (track .entry)) ⌝ }
+    ensures { λ r. ⌜ now (octet .exit) ≡ offsetAfter (titleCall (lending (now (groups .entry)) (now (tracks .entry)) (now (segments .entry)) (now (text .entry)) (now (renames .entry)) (now (office .entry))) (deskOf (now (state .entry))) service .said) (now (octet .entry)) ⌝ }
+{
+    let d = mcs_state::decode(state);
+    let w = desk_title::which(groups, tracks, segments, text, renames, office, d, service);
+    let answer = w.answer;
+    let t = told_of(answer);
+    let title = w.part;
+    tell_part(t.granted, title, part);
+    tell_place(t, track, octet);
+    t.number
 }

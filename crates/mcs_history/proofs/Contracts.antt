@@ -6,7 +6,7 @@ use Prim.Native.Nat.{ℕ}
 use contract.Lifetimes.{Lfts}
 use denote.Ref.{RefT, at-last}
 use lib.ListN.{length}
-use Rattle.catalogue_tables.specs.Tables.{Tables, tables}
+use Rattle.catalogue_titles.specs.Lent.{Lent, lending}
 use Rattle.desk_history.specs.Calls.{Call, setName, activate, deactivate, advance, connect, disconnect, subscribe, unsubscribe, read, write, take}
 use Rattle.mcs_state.specs.Codec.{flag, deskOf}
 use Rattle.mcs.proofs.mcs_start.Reads as start-call
@@ -23,10 +23,10 @@ use Rattle.mcs.proofs.mcs_write.Reads as write-call
 use Rattle.mcs.proofs.mcs_take.Reads as take-call
 use Rattle.mcs_history.specs.Library.{Shown, Taken, heard, Made, other, taken, Run, started}
 
-module _ (groups tracks segments text state track octet : RefT (List ℕ)) (n : ℕ) (new t o : List ℕ) where
+module _ (groups tracks segments text renames office state track octet : RefT (List ℕ)) (n : ℕ) (new t o : List ℕ) where
   -- what every call is lent first, and last
-  abbrev lent : {A : Type 0} → A → RefT (List ℕ) × (RefT (List ℕ) × (RefT (List ℕ) × (RefT (List ℕ) × A)))
-  lent rest = (groups, (tracks, (segments, (text, rest))))
+  abbrev lent : {A : Type 0} → A → RefT (List ℕ) × (RefT (List ℕ) × (RefT (List ℕ) × (RefT (List ℕ) × (RefT (List ℕ) × (RefT (List ℕ) × A)))))
+  lent rest = (groups, (tracks, (segments, (text, (renames, (office, rest))))))
 
   abbrev words : RefT (List ℕ) × (RefT (List ℕ) × Unit {0})
   words = (track, (octet, tt))
@@ -34,13 +34,13 @@ module _ (groups tracks segments text state track octet : RefT (List ℕ)) (n : 
   abbrev told : RefT (List ℕ) × (RefT (List ℕ) × Unit {0})
   told = (at-last track t, (at-last octet o, tt))
 
-  abbrev k : Tables
-  k = tables (groups .now) (tracks .now) (segments .now) (text .now)
+  abbrev k : Lent
+  k = lending (groups .now) (tracks .now) (segments .now) (text .now) (renames .now) (office .now)
 
   abbrev MadeBy : Call → Type 0
   MadeBy call = Made k call (state .now) new none
 
-  module _ (κs : Lfts 7) where
+  module _ (κs : Lfts 8) where
     pub activate-made : (v group : ℕ) → activate-call.Post κs (lent (state, (v, (group, words)))) n (lent (at-last state new, (v, (group, told)))) → MadeBy (activate v group)
     activate-made v group p = other (activate v group) refl (p .leaves)
 
@@ -50,6 +50,7 @@ module _ (groups tracks segments text state track octet : RefT (List ℕ)) (n : 
     pub advance-made : (v step : ℕ) → advance-call.Post κs (lent (state, (v, (step, words)))) n (lent (at-last state new, (v, (step, told)))) → MadeBy (advance v step)
     advance-made v step p = other (advance v step) refl (p .leaves)
 
+  module _ (κs : Lfts 9) where
     pub connect-made : (client mtu encrypted : ℕ) → connect-call.Post κs (lent (state, (client, (mtu, (encrypted, words))))) n (lent (at-last state new, (client, (mtu, (encrypted, told)))))
         → MadeBy (connect client mtu (flag encrypted))
     connect-made client mtu encrypted p = other (connect client mtu (flag encrypted)) refl (p .leaves)
@@ -65,14 +66,14 @@ module _ (groups tracks segments text state track octet : RefT (List ℕ)) (n : 
         → MadeBy (unsubscribe client v x)
     unsubscribe-made client v x p = other (unsubscribe client v x) refl (p .leaves)
 
-  module _ (κs : Lfts 9) where
+  module _ (κs : Lfts 11) where
     -- a start that answers 0 begins a history
     pub start-begins : (name0 name1 : RefT (List ℕ)) (mask0 ccid0 mask1 ccid1 : ℕ)
         → start-call.Post κs (lent (name0, (mask0, (ccid0, (name1, (mask1, (ccid1, (state, words)))))))) 0 (lent (name0, (mask0, (ccid0, (name1, (mask1, (ccid1, (at-last state new, told))))))))
         → Run k (record { name = name0 .now; mask = mask0; ccid = ccid0 }) (record { name = name1 .now; mask = mask1; ccid = ccid1 }) [] new
     start-begins name0 name1 mask0 ccid0 mask1 ccid1 p = started (p .leaves)
 
-  module _ (κs : Lfts 8) where
+  module _ (κs : Lfts 9) where
     pub set-name-made : (v : ℕ) (name : RefT (List ℕ)) → set-name-call.Post κs (lent (state, (v, (name, words)))) n (lent (at-last state new, (v, (name, told)))) → MadeBy (setName v (name .now))
     set-name-made v name p = other (setName v (name .now)) refl (p .leaves)
 
@@ -81,7 +82,7 @@ module _ (groups tracks segments text state track octet : RefT (List ℕ)) (n : 
         → MadeBy (write client v x (value .now))
     write-made client v x value p = other (write client v x (value .now)) refl (p .leaves)
 
-  module _ (κs : Lfts 9) (out said : RefT (List ℕ)) (out′ said′ : List ℕ) where
+  module _ (κs : Lfts 10) (out said : RefT (List ℕ)) (out′ said′ : List ℕ) where
     pub read-made : (client v x offset : ℕ)
         → read-call.Post κs (lent (state, (client, (v, (x, (offset, (out, (said, words)))))))) n (lent (at-last state new, (client, (v, (x, (offset, (at-last out out′, (at-last said said′, told))))))))
         → MadeBy (read client v x offset (length (out .now)))

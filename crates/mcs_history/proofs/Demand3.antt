@@ -9,8 +9,7 @@ use Prim.Native.Nat.{ℕ, _*_, _≤_, _<_}
 use lib.ListN.{length, take as firsts}
 use Rattle.ground.proofs.Cases.{clash}
 use Rattle.ground.specs.Lists.{tableAfter}
-use Rattle.catalogue_tables.specs.Tables.{Tables}
-use Rattle.catalogue_check.specs.Catalogue.{catalogueRule}
+use Rattle.catalogue_titles.specs.Lent.{Lent, lentRule}
 use Rattle.player_check.specs.Standing.{textRule}
 use Rattle.desk_slots.specs.Slots.{slotCount, serviceCount, clientCount, placeOf, serviceOf, slotAt}
 use Rattle.desk_client.specs.Client.{controlSlot}
@@ -32,7 +31,7 @@ use Rattle.mcs_history.proofs.Meaning.{began-right, made-means, means}
 use Rattle.mcs_history.proofs.Hearing.{heard-is}
 
 -- a call that is no take hands out nothing
-silent : (k : Tables) (call : Call) (d : Desk) → isTake call ≡ false → none ≡ handedOut k call d
+silent : (k : Lent) (call : Call) (d : Desk) → isTake call ≡ false → none ≡ handedOut k call d
 silent k (setName v name) d e = refl
 silent k (activate v g) d e = refl
 silent k (deactivate v) d e = refl
@@ -45,7 +44,7 @@ silent k (read who v c offset room) d e = refl
 silent k (write who v c value) d e = refl
 silent k (take room) d e = clash (sym e)
 
-module _ (k : Tables) (gen nam : Beginning) where
+module _ (k : Lent) (gen nam : Beginning) where
   -- what C hears of one call is what the desk of the history hands out
   hears-made : {h : List Call} {call : Call} {state state′ : List ℕ} {o : Option Handout} → Run k gen nam h state → Made k call state state′ o → o ≡ handedOut k call (deskAt k gen nam h)
   hears-made {h} run (other call t l) = silent k call (deskAt k gen nam h) t
@@ -76,7 +75,7 @@ module _ (k : Tables) (gen nam : Beginning) where
       subst (λ (d : Desk). Shown k d who v characteristic offset out told out′ told′) (means k gen nam run) p
 
   module _ {h : List Call} {state : List ℕ} (run : Run k gen nam h state) where
-    right : catalogueRule k ≡ true
+    right : lentRule k ≡ true
     right = began-right k gen nam run .0
 
     gt : textRule (gen .name) ≡ true

@@ -16,7 +16,8 @@ use Rattle.ground.specs.Lists.{tableAfter}
 use Rattle.ground.specs.Refusals.{Said, granted, Row, row, rowWith, accepted, saidBy, leaves}
 use Rattle.ground.proofs.Cases.{past, clash, true-or}
 use Rattle.ground.proofs.Rows.{said-of}
-use Rattle.catalogue_tables.specs.Tables.{Tables}
+use Rattle.catalogue_titles.specs.Lent.{Lent, catalogueOf, lentRule, renamesRow}
+use Rattle.catalogue_titles.proofs.Laws.{rules-kept}
 use Rattle.catalogue_check.specs.Catalogue.{catalogueRule, catalogueCarries}
 use Rattle.desk_slots.specs.Slots.{slotCount, clientCount, slotOf, characteristicOf, placeOf, serviceOf, slotAt}
 use Rattle.desk_slots.proofs.PlaceLaws.{slot-there}
@@ -39,7 +40,7 @@ none-is-0 : slotOf 0 < slotCount → ⊥
 unfolding slotOf
 none-is-0 h = omega (arith, h)
 
-module _ (k : Tables) (right : catalogueRule k ≡ true) (generic named : Beginning) (h : List Call) (out : List ℕ) (a b c e : ℕ) where
+module _ (k : Lent) (right : lentRule k ≡ true) (generic named : Beginning) (h : List Call) (out : List ℕ) (a b c e : ℕ) where
   abbrev d : Desk
   d = deskAt k generic named h
 
@@ -62,11 +63,13 @@ module _ (k : Tables) (right : catalogueRule k ≡ true) (generic named : Beginn
   abbrev hands : Said → Option Handout
   hands said = spoken (said .values) O
 
-  refused-heard : (v : List ℕ) (x y z : Bool) → x ≡ false → hears (saidBy (rowWith 200 v x ∷ row 205 y ∷ row 201 z ∷ [])) ≡ hands (saidBy (rowWith 200 v x ∷ row 205 y ∷ row 201 z ∷ []))
-  refused-heard v true y z q = clash (sym q)
-  refused-heard v false true z q = refl
-  refused-heard v false false true q = refl
-  refused-heard v false false false q = refl
+  refused-heard : (v : List ℕ) (x r y z : Bool) → x ≡ false
+      → hears (saidBy (rowWith 200 v x ∷ row 224 r ∷ row 205 y ∷ row 201 z ∷ [])) ≡ hands (saidBy (rowWith 200 v x ∷ row 224 r ∷ row 205 y ∷ row 201 z ∷ []))
+  refused-heard v true r y z q = clash (sym q)
+  refused-heard v false true y z q = refl
+  refused-heard v false false true z q = refl
+  refused-heard v false false false true q = refl
+  refused-heard v false false false false q = refl
 
   abbrev ch : ℕ
   ch = characteristicOf (slotAt (nextPlace own))
@@ -108,4 +111,4 @@ module _ (k : Tables) (right : catalogueRule k ≡ true) (generic named : Beginn
 
       go : (t : Bool) → accepted R ≡ t → hears (pick t (takenBy k d (nextClient d) .said) (saidBy R)) ≡ hands (pick t (takenBy k d (nextClient d) .said) (saidBy R))
       go true q = serve (leb clientCount (nextClient d)) refl (by ∙ (λ i. pick (q i) (takenBy k d (nextClient d) .said) (saidBy R)))
-      go false q = refused-heard (catalogueCarries k) (not (catalogueRule k)) small (not (stateRight k d)) (ap not right)
+      go false q = refused-heard (catalogueCarries (catalogueOf k)) (not (catalogueRule (catalogueOf k))) (renamesRow k .applies) small (not (stateRight k d)) (ap not (rules-kept k right))

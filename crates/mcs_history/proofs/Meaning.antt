@@ -11,8 +11,10 @@ use lib.ListN.{length}
 use Rattle.ground.specs.Limits.{leastOutput}
 use Rattle.ground.specs.Cases.{pick}
 use Rattle.ground.specs.Refusals.{granted, refusedWith, Row, row, rowWith, Left, leaves, keeping, answered}
-use Rattle.ground.proofs.Cases.{here}
-use Rattle.catalogue_tables.specs.Tables.{Tables}
+use Rattle.ground.proofs.Cases.{here, and-both}
+use Rattle.catalogue_titles.specs.Titles.{renamesRule}
+use Rattle.catalogue_titles.specs.Lent.{Lent, catalogueOf, lentRule}
+use Rattle.catalogue_titles.proofs.Laws.{rules-kept, renames-kept}
 use Rattle.catalogue_check.specs.Catalogue.{catalogueRule, catalogueCarries}
 use Rattle.player_check.specs.Standing.{textRule, nameCarries}
 use Rattle.player_state.specs.Player.{renamed, deactivated}
@@ -53,12 +55,12 @@ either-granted true x y e f = e
 either-granted false x y e f = f
 
 -- the state that a call of these rows leaves
-module _ (k : Tables) (small : Bool) (d : Desk) (rows : List Row) where
+module _ (k : Lent) (small : Bool) (d : Desk) (rows : List Row) where
   asked-keeps : (work : Left Desk) → work .said .isGranted ≡ true
       → pick (asked k small d rows work .said .isGranted) (asked k small d rows work .state) d ≡ asked k small d rows work .state
   asked-keeps work g = refused-keeps d (fronted k small d ++ rows) work g
 
-keeps : (k : Tables) (call : Call) (d : Desk) → pick (left k call d .said .isGranted) (left k call d .state) d ≡ left k call d .state
+keeps : (k : Lent) (call : Call) (d : Desk) → pick (left k call d .said .isGranted) (left k call d .state) d ≡ left k call d .state
 unfolding nameCall activateCall deactivateCall advanceCall connectCall disconnectCall slotCall readCall writeCall takeCall
 keeps k (setName v name) d = asked-keeps k false d (nameRows v name) (becoming k d v false (renamed name (playerOf d v))) refl
 keeps k (activate v g) d = asked-keeps k false d (activateRows k v g) (becoming k d v false (activated (k .groups) (k .tracks) g (playerOf d v))) refl
@@ -85,32 +87,33 @@ keeps k (take room) d =
     (leaves (granted (nextClient d ∷ handedValues k (playersOf d) (clientAt d (nextClient d)))) (withServed (nextClient d) (afterServing (clientAt d (nextClient d))) d)) refl refl)
 
 -- start is accepted where it answers 0
-accepted-start : (v w z : List ℕ) (a b c : Bool) (x y : Desk)
-    → answered (keeping x) (rowWith 200 v a ∷ row 205 false ∷ rowWith 207 w b ∷ rowWith 207 z c ∷ []) (leaves (granted []) y) .said .number ≡ 0 → (a ≡ false) × (b ≡ false) × (c ≡ false)
-accepted-start v w z true b c x y e = absurd (let q : ⊥ = omega (arith, e) in q)
-accepted-start v w z false true c x y e = absurd (let q : ⊥ = omega (arith, e) in q)
-accepted-start v w z false false true x y e = absurd (let q : ⊥ = omega (arith, e) in q)
-accepted-start v w z false false false x y e = (refl, refl, refl)
+accepted-start : (v w z : List ℕ) (a r b c : Bool) (x y : Desk)
+    → answered (keeping x) (rowWith 200 v a ∷ row 224 r ∷ row 205 false ∷ rowWith 207 w b ∷ rowWith 207 z c ∷ []) (leaves (granted []) y) .said .number ≡ 0 → (a ≡ false) × (r ≡ false) × (b ≡ false) × (c ≡ false)
+accepted-start v w z true r b c x y e = absurd (let q : ⊥ = omega (arith, e) in q)
+accepted-start v w z false true b c x y e = absurd (let q : ⊥ = omega (arith, e) in q)
+accepted-start v w z false false true c x y e = absurd (let q : ⊥ = omega (arith, e) in q)
+accepted-start v w z false false false true x y e = absurd (let q : ⊥ = omega (arith, e) in q)
+accepted-start v w z false false false false x y e = (refl, refl, refl, refl)
 
-module _ (k : Tables) (generic named : Beginning) where
-  -- every name and the catalogue are right
+module _ (k : Lent) (generic named : Beginning) where
+  -- every name, the catalogue and the titles are right
   abbrev AllRight : Type 0
-  AllRight = (catalogueRule k ≡ true) × (textRule (generic .name) ≡ true) × (textRule (named .name) ≡ true)
+  AllRight = (lentRule k ≡ true) × (textRule (generic .name) ≡ true) × (textRule (named .name) ≡ true)
 
   start-right : startCall k generic named .said .number ≡ 0 → AllRight
-  unfolding startCall
+  unfolding startCall lentRule
   start-right e =
-      let p = accepted-start (catalogueCarries k) (nameCarries (generic .name)) (nameCarries (named .name)) (not (catalogueRule k)) (not (textRule (generic .name))) (not (textRule (named .name))) (startedDesk (freshly (nameless generic)) (freshly (nameless named))) (startedDesk (freshly generic) (freshly named)) e in
-      (not-false _ (p .0), not-false _ (p .1), not-false _ (p .2))
+      let p = accepted-start (catalogueCarries (catalogueOf k)) (nameCarries (generic .name)) (nameCarries (named .name)) (not (catalogueRule (catalogueOf k))) (not (renamesRule (k .tracks) (k .renames) (k .office))) (not (textRule (generic .name))) (not (textRule (named .name))) (startedDesk (freshly (nameless generic)) (freshly (nameless named))) (startedDesk (freshly generic) (freshly named)) e in
+      (and-both (not-false (catalogueRule (catalogueOf k)) (p .0)) (not-false (renamesRule (k .tracks) (k .renames) (k .office)) (p .1)), not-false _ (p .2), not-false _ (p .3))
 
   start-granted : AllRight → startCall k generic named .said .isGranted ≡ true
   unfolding startCall
   start-granted p =
       λ i. answered (keeping (startedDesk (freshly (nameless generic)) (freshly (nameless named))))
-      (rowWith 200 (catalogueCarries k) (not (p .0 i)) ∷ row 205 false ∷ rowWith 207 (nameCarries (generic .name)) (not (p .1 i)) ∷ rowWith 207 (nameCarries (named .name)) (not (p .2 i)) ∷ [])
+      (rowWith 200 (catalogueCarries (catalogueOf k)) (not (rules-kept k (p .0) i)) ∷ row 224 (not (renames-kept k (p .0) i)) ∷ row 205 false ∷ rowWith 207 (nameCarries (generic .name)) (not (p .1 i)) ∷ rowWith 207 (nameCarries (named .name)) (not (p .2 i)) ∷ [])
       (leaves (granted []) (startedDesk (freshly generic) (freshly named))) .said .isGranted
 
-  -- every history began with a catalogue and names that are right
+  -- every history began with a catalogue, titles and names that are right
   pub began-right : {h : List Call} {state : List ℕ} → Run k generic named h state → AllRight
   began-right (started l) = start-right (sym (l .told))
   began-right (then run m) = began-right run

@@ -1,14 +1,15 @@
-// Plays a script of the twelve calls on the whole from standard input, over the sample catalogue of document 01, and writes a line for each call: its
+// Plays a script of the thirteen calls on the whole from standard input, over the sample catalogue of document 01, and writes a line for each call: its
 // answer; and for each of the two services the media state, order and both speeds; the group, track and position and the named next track, or - where
 // none is named; and each of the four clients, as ATT_MTU: subscribed; owed; waiting results, or - while it is unconnected. A ! ends the line where lent
 // octets behind the answer did not stay.
 // A frame of the script: an octet for the catalogue (0 the sample, 1 the sample with long titles, 2 and 3 wrong ones, 4 the sample with segments close
 // to each other, 5 the sample with recordings that are still running, 6 the sample with two titles that are not UTF-8, 7 the same with wrong groups, 8 the
 // sample with folders, 9 one of 64 groups and 256 tracks), one for the call (0 a note, 1 to 12 in document 01's order from start to take, 13 damage to the
-// state), one for the client, one for the service and one for the characteristic, a little endian word that the call takes, an octet for the room of the
+// state, 14 other titles, 15 the title), one for the client, one for the service and one for the characteristic, a little endian word that the call takes, an octet for the room of the
 // lent output, two, little endian, for the length of the text, the text. The text of a start: an octet with the length of service 0's name, that name, a
 // little endian word with service 1's mask, an octet with its Content Control ID, and service 1's name; what is missing counts as 0, and names as what is
-// there.
+// there. Other titles are lent from their frame on, and have a line without a state: where the octet of the characteristic is 1, nothing is renamed, as in the
+// beginning; else the word is how many words the entries have, and the text is these, little endian, and then the office's text.
 ghost use Prim.Native.Nat.{_-_, _<_, _≤_};
 ghost use lib.ListN.{length};
 ghost use Rattle.desk_slots.specs.Slots.{slotCount};
@@ -170,6 +171,10 @@ const BAD_TRACKS: [u32; 24] = [
 const MOST_ROOM: usize = 160;
 // What the lent octets hold before a call.
 const LENT: u8 = 0xA5;
+// The frame that lends other titles, and the most words that its entries have.
+const TITLES: u8 = 14;
+
+const MOST_RENAMES: usize = 64;
 
 // What a frame asks, but for its text. The octet is the characteristic; of a start service 0's Content Control ID, of a connect whether it is encrypted,
 // of damage the part of the state.
@@ -180,6 +185,9 @@ struct Ask {
     octet: u8,
     number: u32,
     room: usize,
+    // Whether nothing is renamed, and else how many words of the titles are entries.
+    plain: bool,
+    entries: usize,
 }
 
 fn at_most(n: usize, most: usize) -> usize
@@ -420,6 +428,24 @@ fn write_taken(answer: Answer) {
     }
 }
 
+// Which text the title is a part of, where it stands in it and how long it is; or the refusal.
+fn write_title(answer: Answer, part: catalogue_titles::Part) {
+    match answer {
+        Answer::Done => {
+            if part.renamed {
+                io::write_all(1, b"title office");
+            } else {
+                io::write_all(1, b"title card");
+            }
+            write_number(part.offset);
+            write_number(part.len);
+        }
+        _ => {
+            write_answer(answer);
+        }
+    }
+}
+
 // Writes the line of a call, and hands back the state that it left.
 fn report(o: Outcome) -> desk_state::Desk {
     let answer = o.answer;
@@ -479,11 +505,13 @@ fn report_lent(o: Outcome, out: &[u8; MOST_ROOM]) -> desk_state::Desk {
     d
 }
 
-fn read(
+fn read<'a>(
     groups: &[u32],
     tracks: &[u32],
     segments: &[u32],
-    text: &[u8],
+    text: &'a [u8],
+    renames: &[u32],
+    office: &'a [u8],
     d: desk_state::Desk,
     c: Ask,
 ) -> desk_state::Desk {
@@ -494,6 +522,8 @@ fn read(
         tracks,
         segments,
         text,
+        renames,
+        office,
         d,
         c.who,
         c.service,
@@ -506,20 +536,71 @@ fn read(
     report_lent(o, &out)
 }
 
-fn take(
+fn take<'a>(
     groups: &[u32],
     tracks: &[u32],
     segments: &[u32],
-    text: &[u8],
+    text: &'a [u8],
+    renames: &[u32],
+    office: &'a [u8],
     d: desk_state::Desk,
     c: Ask,
 ) -> desk_state::Desk {
     let mut out = [LENT; MOST_ROOM];
     let room = at_most(c.room, MOST_ROOM);
-    let o = desk_take::take(groups, tracks, segments, text, d, &mut out[0..room]);
+    let o = desk_take::take(
+        groups,
+        tracks,
+        segments,
+        text,
+        renames,
+        office,
+        d,
+        &mut out[0..room],
+    );
     let answer = o.answer;
     write_taken(answer);
     report_lent(o, &out)
+}
+
+// The title itself, as the one call hands it back, behind what the other says of it.
+fn title<'a>(
+    groups: &[u32],
+    tracks: &[u32],
+    segments: &[u32],
+    text: &'a [u8],
+    renames: &[u32],
+    office: &'a [u8],
+    d: desk_state::Desk,
+    c: Ask,
+) -> desk_state::Desk {
+    let w = desk_title::which(
+        groups,
+        tracks,
+        segments,
+        text,
+        renames,
+        office,
+        d,
+        c.service,
+    );
+    let part = desk_title::title(
+        groups,
+        tracks,
+        segments,
+        text,
+        renames,
+        office,
+        d,
+        c.service,
+    );
+    let answer = w.answer;
+    let said = w.part;
+    write_title(answer, said);
+    write_octets(part);
+    write_state(d);
+    io::write_all(1, b"\n");
+    d
 }
 
 // The player elsewhere, and nothing else of it altered.
@@ -723,6 +804,8 @@ fn start(
     tracks: &[u32],
     segments: &[u32],
     text: &[u8],
+    renames: &[u32],
+    office: &[u8],
     d: desk_state::Desk,
     c: Ask,
     words: &[u8],
@@ -735,6 +818,8 @@ fn start(
         tracks,
         segments,
         text,
+        renames,
+        office,
         name,
         c.number,
         c.octet,
@@ -746,40 +831,75 @@ fn start(
 }
 
 // The calls of the desk itself, and notes.
-fn call_desk(
+fn call_desk<'a>(
     groups: &[u32],
     tracks: &[u32],
     segments: &[u32],
-    text: &[u8],
+    text: &'a [u8],
+    renames: &[u32],
+    office: &'a [u8],
     d: desk_state::Desk,
     c: Ask,
     words: &[u8],
 ) -> desk_state::Desk {
     let kind = c.kind;
     match kind {
-        1 => start(groups, tracks, segments, text, d, c, words),
-        2 => report(desk_console::set_name(groups, tracks, segments, text, d, c.service, words)),
+        1 => start(groups, tracks, segments, text, renames, office, d, c, words),
+        2 => report(desk_console::set_name(
+            groups,
+            tracks,
+            segments,
+            text,
+            renames,
+            office,
+            d,
+            c.service,
+            words,
+        )),
         3 => report(desk_console::activate(
             groups,
             tracks,
             segments,
             text,
+            renames,
+            office,
             d,
             c.service,
             catalogue_tables::GroupNo(c.number),
         )),
-        4 => report(desk_console::deactivate(groups, tracks, segments, text, d, c.service)),
-        5 => report(desk_console::advance(groups, tracks, segments, text, d, c.service, c.number)),
+        4 => report(desk_console::deactivate(
+            groups,
+            tracks,
+            segments,
+            text,
+            renames,
+            office,
+            d,
+            c.service,
+        )),
+        5 => report(desk_console::advance(
+            groups,
+            tracks,
+            segments,
+            text,
+            renames,
+            office,
+            d,
+            c.service,
+            c.number,
+        )),
         _ => note(d, words),
     }
 }
 
 // The calls of the clients, and damage.
-fn call_client(
+fn call_client<'a>(
     groups: &[u32],
     tracks: &[u32],
     segments: &[u32],
-    text: &[u8],
+    text: &'a [u8],
+    renames: &[u32],
+    office: &'a [u8],
     d: desk_state::Desk,
     c: Ask,
     words: &[u8],
@@ -792,17 +912,30 @@ fn call_client(
             tracks,
             segments,
             text,
+            renames,
+            office,
             d,
             c.who,
             c.number,
             c.octet != 0,
         )),
-        7 => report(desk_links::disconnect(groups, tracks, segments, text, d, c.who)),
+        7 => report(desk_links::disconnect(
+            groups,
+            tracks,
+            segments,
+            text,
+            renames,
+            office,
+            d,
+            c.who,
+        )),
         8 => report(desk_links::subscribe(
             groups,
             tracks,
             segments,
             text,
+            renames,
+            office,
             d,
             c.who,
             c.service,
@@ -813,83 +946,187 @@ fn call_client(
             tracks,
             segments,
             text,
+            renames,
+            office,
             d,
             c.who,
             c.service,
             characteristic,
         )),
-        10 => read(groups, tracks, segments, text, d, c),
+        10 => read(groups, tracks, segments, text, renames, office, d, c),
         11 => report(desk_exchange::write(
             groups,
             tracks,
             segments,
             text,
+            renames,
+            office,
             d,
             c.who,
             c.service,
             characteristic,
             words,
         )),
-        12 => take(groups, tracks, segments, text, d, c),
+        12 => take(groups, tracks, segments, text, renames, office, d, c),
+        15 => title(groups, tracks, segments, text, renames, office, d, c),
         _ => damaged(d, c),
     }
 }
 
-fn call(
+fn call_with<'a>(
     groups: &[u32],
     tracks: &[u32],
     segments: &[u32],
-    text: &[u8],
+    text: &'a [u8],
+    renames: &[u32],
+    office: &'a [u8],
     d: desk_state::Desk,
     c: Ask,
     words: &[u8],
 ) -> desk_state::Desk {
     if c.kind < 6 {
-        return call_desk(groups, tracks, segments, text, d, c, words);
+        return call_desk(groups, tracks, segments, text, renames, office, d, c, words);
     }
-    call_client(groups, tracks, segments, text, d, c, words)
+    call_client(groups, tracks, segments, text, renames, office, d, c, words)
+}
+
+// Fills the table with the little endian words of s.
+fn read_words(table: &mut [u32; MOST_RENAMES], s: &[u8]) {
+    let mut i: usize = 0;
+    while i < MOST_RENAMES {
+        table[i] = word(rest(s, i * 4));
+        i += 1;
+    }
+}
+
+// The first n words, or all where there are fewer.
+fn front_of_words(table: &[u32; MOST_RENAMES], n: usize) -> &[u32] {
+    let whole = &table[..];
+    let e = at_most(n, whole.len());
+    &whole[0..e]
+}
+
+// The office's text, behind the words of the entries.
+fn office_of(titles: &[u8], entries: usize) -> &[u8] {
+    rest(titles, at_most(entries, MOST_RENAMES) * 4)
+}
+
+// Makes a call with the titles that are lent by now.
+fn call<'a>(
+    groups: &[u32],
+    tracks: &[u32],
+    segments: &[u32],
+    text: &'a [u8],
+    titles: &'a [u8],
+    d: desk_state::Desk,
+    c: Ask,
+    words: &[u8],
+) -> desk_state::Desk {
+    if c.plain {
+        let zeros = [0u32; 512];
+        let n = at_most(catalogue_tables::track_count(tracks), 256) * 2;
+        return call_with(
+            groups,
+            tracks,
+            segments,
+            text,
+            &zeros[0..n],
+            front(titles, 0),
+            d,
+            c,
+            words,
+        );
+    }
+    let mut renames = [0u32; MOST_RENAMES];
+    read_words(&mut renames, titles);
+    call_with(
+        groups,
+        tracks,
+        segments,
+        text,
+        front_of_words(&renames, c.entries),
+        office_of(titles, c.entries),
+        d,
+        c,
+        words,
+    )
 }
 
 // 64 groups, of which the last has all tracks, and 256 tracks of duration 0, without segments and with empty titles.
-fn call_over_many(d: desk_state::Desk, c: Ask, words: &[u8]) -> desk_state::Desk {
+fn call_over_many(titles: &[u8], d: desk_state::Desk, c: Ask, words: &[u8]) -> desk_state::Desk {
     let mut groups = [0u32; 192];
     groups[191] = 256;
     let tracks = [0u32; 1536];
     let segments: [u32; 0] = [];
     let text: [u8; 0] = [];
-    call(&groups, &tracks, &segments, &text, d, c, words)
+    call(&groups, &tracks, &segments, &text, titles, d, c, words)
 }
 
-fn call_over(catalogue: u8, d: desk_state::Desk, c: Ask, words: &[u8]) -> desk_state::Desk {
+fn call_over(
+    catalogue: u8,
+    titles: &[u8],
+    d: desk_state::Desk,
+    c: Ask,
+    words: &[u8],
+) -> desk_state::Desk {
     let text = b"\xC3\x9CberfahrtRastZiel";
     let bad = b"Pr\xC3\xA9ludeInter\xC3ezzoCod\xFF";
     match catalogue {
-        0 => call(&GROUPS, &TRACKS, &SEGMENTS, text, d, c, words),
+        0 => call(&GROUPS, &TRACKS, &SEGMENTS, text, titles, d, c, words),
         1 => call(
             &GROUPS,
             &LONG_TRACKS,
             &SEGMENTS,
             b"Gespr\xC3\xA4ch \xC3\xBCber die \xC3\x9Cberfahrt, aufgenommen im Hafen, erste SpurGespr\xC3\xA4ch \xC3\xBCber die \xC3\x9Cberfahrt, aufgenommen im Hafen, erste Spur",
+            titles,
             d,
             c,
             words,
         ),
-        2 => call(&WRONG_GROUPS, &TRACKS, &SEGMENTS, text, d, c, words),
-        3 => call(&CUT_GROUPS, &TRACKS, &SEGMENTS, text, d, c, words),
-        4 => call(&GROUPS, &CLOSE_TRACKS, &CLOSE_SEGMENTS, text, d, c, words),
+        2 => call(&WRONG_GROUPS, &TRACKS, &SEGMENTS, text, titles, d, c, words),
+        3 => call(&CUT_GROUPS, &TRACKS, &SEGMENTS, text, titles, d, c, words),
+        4 => call(
+            &GROUPS,
+            &CLOSE_TRACKS,
+            &CLOSE_SEGMENTS,
+            text,
+            titles,
+            d,
+            c,
+            words,
+        ),
         5 => call(
             &GROUPS,
             &RUNNING_TRACKS,
             &RUNNING_SEGMENTS,
             text,
+            titles,
             d,
             c,
             words,
         ),
-        6 => call(&GROUPS, &BAD_TRACKS, &SEGMENTS, bad, d, c, words),
-        7 => call(&WRONG_GROUPS, &BAD_TRACKS, &SEGMENTS, bad, d, c, words),
-        8 => call(&FOLDER_GROUPS, &TRACKS, &SEGMENTS, text, d, c, words),
-        _ => call_over_many(d, c, words),
+        6 => call(&GROUPS, &BAD_TRACKS, &SEGMENTS, bad, titles, d, c, words),
+        7 => call(
+            &WRONG_GROUPS,
+            &BAD_TRACKS,
+            &SEGMENTS,
+            bad,
+            titles,
+            d,
+            c,
+            words,
+        ),
+        8 => call(
+            &FOLDER_GROUPS,
+            &TRACKS,
+            &SEGMENTS,
+            text,
+            titles,
+            d,
+            c,
+            words,
+        ),
+        _ => call_over_many(titles, d, c, words),
     }
 }
 
@@ -900,9 +1137,41 @@ fn text_length(s: &[u8]) -> usize
     count_at(s, 10) + 256 * count_at(s, 11)
 }
 
-// Makes the call of the first frame.
-fn frame(s: &[u8], d: desk_state::Desk) -> desk_state::Desk {
+// Whether the first frame lends other titles.
+fn lends(s: &[u8]) -> bool {
+    ground::octet_or_zero(s, 1) == TITLES
+}
+
+// The titles that are lent from the first frame on.
+fn titles_of(s: &[u8]) -> &[u8] {
+    front(rest(s, 12), text_length(s))
+}
+
+fn report_titles(titles: &[u8], plain: bool, entries: usize) {
+    if plain {
+        io::write_all(1, b"titles none\n");
+        return;
+    }
+    let office = office_of(titles, entries);
+    io::write_all(1, b"titles");
+    write_place(entries);
+    write_place(office.len());
+    io::write_all(1, b"\n");
+}
+
+// Makes the call of the first frame, with these titles; `plain` says that nothing is renamed, and else so many words of them are entries.
+fn frame(
+    s: &[u8],
+    titles: &[u8],
+    plain: bool,
+    entries: usize,
+    d: desk_state::Desk,
+) -> desk_state::Desk {
     if s.len() < 12 {
+        return d;
+    }
+    if lends(s) {
+        report_titles(titles, plain, entries);
         return d;
     }
     let catalogue = s[0];
@@ -919,9 +1188,11 @@ fn frame(s: &[u8], d: desk_state::Desk) -> desk_state::Desk {
         octet: octet,
         number: number,
         room: room,
+        plain: plain,
+        entries: entries,
     };
     let words = front(rest(s, 12), text_length(s));
-    call_over(catalogue, d, c, words)
+    call_over(catalogue, titles, d, c, words)
 }
 
 // What follows the first frame.
@@ -936,15 +1207,24 @@ fn frames(s: &[u8]) {
     let p = player_state::start(&none, 0, 0);
     let mut d = desk_state::fresh_desk(p, p);
     let mut left = s;
+    let mut titles = s;
+    let mut plain = true;
+    let mut entries: usize = 0;
     while 0 < left.len() {
-        d = frame(left, d);
+        if lends(left) {
+            let lent = titles_of(left);
+            titles = &lent[0..];
+            plain = count_at(left, 4) == 1;
+            entries = ground::wide_word(word(rest(left, 5)));
+        }
+        d = frame(left, titles, plain, entries, d);
         let after = behind(left);
         left = &after[0..];
     }
 }
 
 fn main() {
-    let mut input = [0u8; 262144];
+    let mut input = [0u8; 524288];
     let n = io::read_full(0, &mut input);
     frames(&input[..n]);
 }

@@ -56,7 +56,7 @@ read-as-kept tracks t = ⊎-elim
 -- each characteristic's value: which depend on the player alone, and which are a word, of four octets
 pub record Values (from : Source) (p : Player) : Type 0 where
   pub name : valueOf from p 1 ≡ nameOf p
-  pub title : valueOf from p 5 ≡ titleValue (from .tracks) (from .text) p
+  pub title : valueOf from p 5 ≡ titleValue (from .tracks) (from .text) (from .renames) (from .office) p
   pub duration : valueOf from p 6 ≡ durationValue (from .tracks) p
   pub position : valueOf from p 7 ≡ positionValue p
   pub speed : valueOf from p 8 ≡ p .mode .speed ∷ []
@@ -94,17 +94,17 @@ values from p =
       ccid = refl;
     }
 
-module _ (groups tracks text : List ℕ) (p : Player) where
+module _ (groups tracks text renames office : List ℕ) (p : Player) where
   -- a number that is none of those with a value has none
   pub value-none : (c : ℕ) → (c ≡ 1 → ⊥) → (c ≡ 5 → ⊥) → (c ≡ 6 → ⊥) → (c ≡ 7 → ⊥) → (c ≡ 8 → ⊥) → (c ≡ 9 → ⊥) → (c ≡ 10 → ⊥) → (c ≡ 11 → ⊥) → (c ≡ 12 → ⊥)
       → (c ≡ 13 → ⊥) → (c ≡ 14 → ⊥) → (c ≡ 15 → ⊥) → (c ≡ 16 → ⊥) → (c ≡ 17 → ⊥) → (c ≡ 19 → ⊥) → (c ≡ 22 → ⊥)
-      → valueOf (source groups tracks text) p c ≡ []
+      → valueOf (source groups tracks text renames office) p c ≡ []
   unfolding valueOf
   value-none c a b d e f g n10 n11 n12 n13 n14 h i j k l =
       rw (ne-eqb c 1 a, ne-eqb c 5 b, ne-eqb c 6 d, ne-eqb c 7 e, ne-eqb c 8 f, ne-eqb c 9 g, ne-eqb c 10 n10, ne-eqb c 11 n11, ne-eqb c 12 n12, ne-eqb c 13 n13, ne-eqb c 14 n14, ne-eqb c 15 h, ne-eqb c 16 i, ne-eqb c 17 j, ne-eqb c 19 k, ne-eqb c 22 l)
 
   -- none has more than 128 octets, where the name and the title have not
-  pub value-short : p .name .len ≤ 128 → length (titleValue tracks text p) ≤ 128 → (c : ℕ) → length (valueOf (source groups tracks text) p c) ≤ 128
+  pub value-short : p .name .len ≤ 128 → length (titleValue tracks text renames office p) ≤ 128 → (c : ℕ) → length (valueOf (source groups tracks text renames office) p c) ≤ 128
   unfolding valueOf durationValue positionValue opcodesValue
   value-short n t c =
       short (eqb c 1) _ _ (simp length-take (omega arith))

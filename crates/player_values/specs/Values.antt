@@ -1,4 +1,4 @@
--- The values of the player's characteristics (document 01, "What the player does" and "Player rules"; document 02, W-209). A characteristic carries the last part of its
+-- The values of the player's characteristics (document 01, "What the player does" and "Player rules"; document 02, W-209 and W-210). A characteristic carries the last part of its
 -- section number in the standard.
 -- Assumes nothing.
 use mathlib.Core.List.{List, [], _∷_}
@@ -6,34 +6,44 @@ use Prim.Native.Nat.{ℕ, _/_, _%_, _^_}
 use lib.Dec.{eqb}
 use Rattle.ground.specs.Cases.{pick}
 use Rattle.ground.specs.Words.{sixOctets}
-use Rattle.catalogue_tables.specs.Tables.{Tables, parentOf, durationOf, isRunning, segmentsIn, titleOf}
+use Rattle.catalogue_tables.specs.Tables.{parentOf, durationOf, isRunning, segmentsIn}
 use Rattle.catalogue_tables.specs.Objects.{trackObject, groupObject, segmentsObject}
+use Rattle.catalogue_titles.specs.declared.Part.{Part}
+use Rattle.catalogue_titles.specs.Titles.{partOf, front, octetsAt}
+use Rattle.catalogue_titles.specs.Lent.{Lent}
 use Rattle.player_walk.specs.declared.Near.{Near}
 use Rattle.player_walk.specs.declared.Near.the-variants.{At, Nothing}
 use Rattle.player_state.specs.declared.Player.{Player}
 use Rattle.player_state.specs.Player.{isActive, nameOf}
 use Rattle.player_moves.specs.Moves.{nextTrack}
 
--- what the values are taken from besides the player: the groups and the tracks of a catalogue, and the text of its titles
+-- what the values are taken from besides the player: the groups and the tracks of a catalogue, the text of its titles, and the office's titles
 pub record Source : Type 0 where
   pub groups : List ℕ
   pub tracks : List ℕ
   pub text : List ℕ
+  pub renames : List ℕ
+  pub office : List ℕ
 
-abbrev pub source : List ℕ → List ℕ → List ℕ → Source
-source groups tracks text = record { groups = groups; tracks = tracks; text = text }
+abbrev pub source : List ℕ → List ℕ → List ℕ → List ℕ → List ℕ → Source
+source groups tracks text renames office = record { groups = groups; tracks = tracks; text = text; renames = renames; office = office }
 
-abbrev pub sourceOf : Tables → Source
-sourceOf k = source (k .groups) (k .tracks) (k .text)
+abbrev pub sourceOf : Lent → Source
+sourceOf k = source (k .groups) (k .tracks) (k .text) (k .renames) (k .office)
 
 -- "Numbers are little endian."
 unfoldable pub wordOctets : ℕ → List ℕ
 wordOctets w = w % 256 ∷ w / 256 % 256 ∷ w / 65536 % 256 ∷ w / 16777216 % 256 ∷ []
 
--- "title is then empty, duration and position read −1"
-unfoldable pub titleValue : List ℕ → List ℕ → Player → List ℕ
-titleValue tracks text p = pick (isActive p) (titleOf tracks text (p .place .track .0)) []
+-- where the title stands: "a part of the office's text or of the card's text"; while Inactive "the part is the empty front of the card's text" (document 02, W-210)
+unfoldable pub titlePart : List ℕ → List ℕ → Player → Part
+titlePart tracks renames p = pick (isActive p) (partOf tracks renames (p .place .track .0)) front
 
+-- "5 shows it"
+unfoldable pub titleValue : List ℕ → List ℕ → List ℕ → List ℕ → Player → List ℕ
+titleValue tracks text renames office p = octetsAt (titlePart tracks renames p) text office
+
+-- while Inactive "duration and position read −1"
 abbrev pub minusOne : ℕ
 minusOne = 0xFFFF_FFFF
 
@@ -88,7 +98,7 @@ opcodesValue p = wordOctets (p .offer .mask % 2 ^ 21)
 unfoldable pub valueOf : Source → Player → ℕ → List ℕ
 valueOf from p c =
     pick (eqb c 1) (nameOf p)
-    (pick (eqb c 5) (titleValue (from .tracks) (from .text) p)
+    (pick (eqb c 5) (titleValue (from .tracks) (from .text) (from .renames) (from .office) p)
     (pick (eqb c 6) (durationValue (from .tracks) p)
     (pick (eqb c 7) (positionValue p)
     (pick (eqb c 8) (p .mode .speed ∷ [])

@@ -7,7 +7,7 @@ ghost use lib.ListN.{length, take};
 ghost use Rattle.ground.specs.Limits.{mostTitle};
 ghost use Rattle.ground.specs.Lists.{filled};
 ghost use Rattle.player_state.specs.Player.{nameOf};
-ghost use Rattle.player_values.specs.Values.{source, wordOctets, titleValue, durationValue, positionValue, segmentsNow, trackNow, nextNow, parentNow, groupNow, objectOctets, valueOf};
+ghost use Rattle.player_values.specs.Values.{source, wordOctets, titlePart, titleValue, durationValue, positionValue, segmentsNow, trackNow, nextNow, parentNow, groupNow, objectOctets, valueOf};
 ghost use Rattle.player_moves.specs.Moves.{Sits};
 ghost use Rattle.player_values.specs.Handing.{heldOf, partFrom};
 
@@ -61,23 +61,48 @@ fn put_name(out: &mut [u8], p: player_state::Player) -> usize
     put(out, &octets[0..n])
 }
 
-// The title; empty while there is no current track.
-pub fn title_of<'a>(tracks: &[u32], text: &'a [u8], p: player_state::Player) -> &'a [u8]
-    ensures { λ r. ⌜ now r ≡ titleValue (now (tracks .entry)) (now (text .entry)) p ⌝ }
+// Where the title stands; while there is no current track, the empty front of the card's text.
+pub fn title_part(
+    tracks: &[u32],
+    renames: &[u32],
+    p: player_state::Player,
+) -> catalogue_titles::Part
+    ensures { λ r. ⌜ r ≡ titlePart (now (tracks .entry)) (now (renames .entry)) p ⌝ }
 {
     if p.mode.media == player_state::INACTIVE {
-        return &text[0..0];
+        return catalogue_titles::front_part();
     }
-    catalogue_tables::title(tracks, text, p.place.track)
+    catalogue_titles::part_of(tracks, renames, p.place.track)
 }
 
-fn put_title(out: &mut [u8], tracks: &[u32], text: &[u8], p: player_state::Player) -> usize
-    requires { ⌜ mostTitle ≤ length (now out) ⌝ }
-    requires { ⌜ length (titleValue (now tracks) (now text) p) ≤ mostTitle ⌝ }
-    ensures { λ r. ⌜ r ≡ length (titleValue (now (tracks .entry)) (now (text .entry)) p) ⌝ }
-    ensures { λ _. ⌜ now (out .exit) ≡ filled (titleValue (now (tracks .entry)) (now (text .entry)) p) (now (out .entry)) ⌝ }
+// The title, a part of the card's text or of the office's.
+pub fn title_of<'a>(
+    tracks: &[u32],
+    text: &'a [u8],
+    renames: &[u32],
+    office: &'a [u8],
+    p: player_state::Player,
+) -> &'a [u8]
+    ensures { λ r. ⌜ now r ≡ titleValue (now (tracks .entry)) (now (text .entry)) (now (renames .entry)) (now (office .entry)) p ⌝ }
 {
-    let title = title_of(tracks, text, p);
+    let part = title_part(tracks, renames, p);
+    catalogue_titles::cut(part, text, office)
+}
+
+fn put_title<'a>(
+    out: &mut [u8],
+    tracks: &[u32],
+    text: &'a [u8],
+    renames: &[u32],
+    office: &'a [u8],
+    p: player_state::Player,
+) -> usize
+    requires { ⌜ mostTitle ≤ length (now out) ⌝ }
+    requires { ⌜ length (titleValue (now tracks) (now text) (now renames) (now office) p) ≤ mostTitle ⌝ }
+    ensures { λ r. ⌜ r ≡ length (titleValue (now (tracks .entry)) (now (text .entry)) (now (renames .entry)) (now (office .entry)) p) ⌝ }
+    ensures { λ _. ⌜ now (out .exit) ≡ filled (titleValue (now (tracks .entry)) (now (text .entry)) (now (renames .entry)) (now (office .entry)) p) (now (out .entry)) ⌝ }
+{
+    let title = title_of(tracks, text, renames, office, p);
     put(out, title)
 }
 
@@ -175,24 +200,26 @@ fn put_object(out: &mut [u8], object: usize) -> usize
 }
 
 // The value of a characteristic, over the front of out; none of 4, of 18 and of what is no characteristic.
-pub fn value(
+pub fn value<'a>(
     out: &mut [u8],
     groups: &[u32],
     tracks: &[u32],
-    text: &[u8],
+    text: &'a [u8],
+    renames: &[u32],
+    office: &'a [u8],
     p: player_state::Player,
     c: u32,
 ) -> usize
     requires { ⌜ mostTitle ≤ length (now out) ⌝ }
     requires { ⌜ Sits (now groups) (now tracks) p ⌝ }
     requires { ⌜ p .name .len ≤ mostTitle ⌝ }
-    requires { ⌜ length (titleValue (now tracks) (now text) p) ≤ mostTitle ⌝ }
-    ensures { λ r. ⌜ r ≡ length (valueOf (source (now (groups .entry)) (now (tracks .entry)) (now (text .entry))) p c) ⌝ }
-    ensures { λ _. ⌜ now (out .exit) ≡ filled (valueOf (source (now (groups .entry)) (now (tracks .entry)) (now (text .entry))) p c) (now (out .entry)) ⌝ }
+    requires { ⌜ length (titleValue (now tracks) (now text) (now renames) (now office) p) ≤ mostTitle ⌝ }
+    ensures { λ r. ⌜ r ≡ length (valueOf (source (now (groups .entry)) (now (tracks .entry)) (now (text .entry)) (now (renames .entry)) (now (office .entry))) p c) ⌝ }
+    ensures { λ _. ⌜ now (out .exit) ≡ filled (valueOf (source (now (groups .entry)) (now (tracks .entry)) (now (text .entry)) (now (renames .entry)) (now (office .entry))) p c) (now (out .entry)) ⌝ }
 {
     match c {
         1 => put_name(out, p),
-        5 => put_title(out, tracks, text, p),
+        5 => put_title(out, tracks, text, renames, office, p),
         6 => put_word(out, duration_word(tracks, p)),
         7 => put_word(out, position_word(p)),
         8 => put_octet(out, p.mode.speed),
@@ -221,14 +248,22 @@ pub struct Held {
 }
 
 // The value of a characteristic.
-pub fn hold(groups: &[u32], tracks: &[u32], text: &[u8], p: player_state::Player, c: u32) -> Held
+pub fn hold<'a>(
+    groups: &[u32],
+    tracks: &[u32],
+    text: &'a [u8],
+    renames: &[u32],
+    office: &'a [u8],
+    p: player_state::Player,
+    c: u32,
+) -> Held
     requires { ⌜ Sits (now groups) (now tracks) p ⌝ }
     requires { ⌜ p .name .len ≤ mostTitle ⌝ }
-    requires { ⌜ length (titleValue (now tracks) (now text) p) ≤ mostTitle ⌝ }
-    ensures { λ r. ⌜ r ≡ heldOf (valueOf (source (now (groups .entry)) (now (tracks .entry)) (now (text .entry))) p c) ⌝ }
+    requires { ⌜ length (titleValue (now tracks) (now text) (now renames) (now office) p) ≤ mostTitle ⌝ }
+    ensures { λ r. ⌜ r ≡ heldOf (valueOf (source (now (groups .entry)) (now (tracks .entry)) (now (text .entry)) (now (renames .entry)) (now (office .entry))) p c) ⌝ }
 {
     let mut octets = [0u8; ground::MOST_TITLE];
-    let n = value(&mut octets, groups, tracks, text, p, c);
+    let n = value(&mut octets, groups, tracks, text, renames, office, p, c);
     Held {
         octets: octets,
         len: n,

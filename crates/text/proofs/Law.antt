@@ -1,5 +1,6 @@
 -- `textOf` against the grammar of RFC 3629, both ways: what is fine, and which offset is told. Assumes nothing.
 use mathlib.Core.Path.{_≡_, refl, sym, ap, _∙_}
+use mathlib.Core.Bool.{true, false≢true}
 use mathlib.Core.Logic.{_↔_, ⊎-elim}
 use mathlib.Core.List.{List, [], _∷_, _++_, append-assoc, append-nil}
 use Prim.Native.Nat.{ℕ, zero, suc, _+_, _≤_, _<_, zero-le}
@@ -8,7 +9,7 @@ use native.Mathlib.Omega.{arith}
 use lib.ListN.{length, getD, take, drop, length-append, length-drop, take-append-drop}
 use lib.Seq.{length-take-le, drop-append-seam, take-append-add, drop-append-add}
 use Rattle.text.specs.Grammar.{Char, Text, Text.end, Text.more, Starts, FirstBad}
-use Rattle.text.specs.Utf8.{charLength, textFrom, textOf, textSaid, saidOf}
+use Rattle.text.specs.Utf8.{charLength, textFrom, textOf, textSaid, saidOf, isFine}
 use Rattle.text.specs.declared.Checked.{Checked}
 use Rattle.text.specs.declared.Checked.the-variants.{Fine, BadAt}
 use Rattle.text.proofs.Chars.{char-sound, char-long, char-complete}
@@ -86,6 +87,11 @@ bad-read {s} {at} f =
     let z : charLength (drop at s) ≡ 0 = ⊎-elim (λ z. z) (λ b. absurd (f .none (b .starts))) (char-complete (drop at s) g) in
     let l : length (take at s) ≡ at = length-take-le at s (omega (arith, f .inside)) in
     ap (textFrom 0 0) (sym (take-append-drop at s)) ∙ text-read (f .before) 0 (drop at s) ∙ stops (0 + length (take at s)) (drop at s) g z ∙ ap BadAt (zero-add (length (take at s)) ∙ l)
+
+-- of the two answers the one that is granted
+pub only-fine : (c : Checked) → isFine c ≡ true → c ≡ Fine
+only-fine Fine e = refl
+only-fine (BadAt at) e = absurd (false≢true e)
 
 -- THE LAW: what is called fine is just what the grammar of the RFC makes
 pub fine-is-text : (s : List ℕ) → (textOf s ≡ Fine) ↔ Text s

@@ -1,7 +1,7 @@
-// Runs card load, the catalogue check, the text check, the reading of a cue sheet, card write and the writing and reading of objects on framed cases from
-// standard input, and writes a line for each. A frame: an octet for the kind (1 card, 2 catalogue, 3 text, 4 cue sheet, 5 catalogue to be written, 6 and 7
-// catalogue and group or track whose Group object or Track Segments object is to be written, 8 and 9 such an object that is to be read), an octet for the
-// length of the name, the name, the case.
+// Runs card load, the catalogue check, the text check, the reading of a cue sheet, card write, the writing and reading of objects and the check of an office's
+// titles on framed cases from standard input, and writes a line for each. A frame: an octet for the kind (1 card, 2 catalogue, 3 text, 4 cue sheet, 5 catalogue to
+// be written, 6 and 7 catalogue and group or track whose Group object or Track Segments object is to be written, 8 and 9 such an object that is to be read, 10
+// catalogue with the office's titles), an octet for the length of the name, the name, the case.
 ghost use Prim.Native.Nat.{_-_, _≤_};
 ghost use lib.ListN.{length};
 use card_load::Loaded;
@@ -205,8 +205,7 @@ fn rest_of_words(s: &[u8], n: usize) -> &[u8]
     rest(s, at_most(n, 2048) * 4)
 }
 
-fn check_catalogue(groups: &[u32], tracks: &[u32], segments: &[u32], text: &[u8]) {
-    let answer = catalogue_check::check(groups, tracks, segments, text);
+fn write_checked(answer: Catalogue) {
     match answer {
         Catalogue::Fine => {
             io::write_all(1, b" fine");
@@ -215,6 +214,23 @@ fn check_catalogue(groups: &[u32], tracks: &[u32], segments: &[u32], text: &[u8]
             write_refusal(r);
         }
     }
+}
+
+// The entries in words, and behind them the office's text.
+fn check_titles(groups: &[u32], tracks: &[u32], segments: &[u32], text: &[u8], behind: &[u8]) {
+    let n = number(behind);
+    let m = number(rest(behind, 4));
+    let entries = rest(behind, 8);
+    let mut renames = [0u32; 2048];
+    read_words(&mut renames, entries);
+    write_checked(catalogue_titles::check(
+        groups,
+        tracks,
+        segments,
+        text,
+        front_of_words(&renames, n),
+        front(rest_of_words(entries, n), m),
+    ));
 }
 
 fn write_written(answer: Written) {
@@ -305,7 +321,8 @@ fn write_segments_into(
     write_segments(groups, tracks, segments, text, t, &mut out[0..n]);
 }
 
-// What a kind does with a catalogue. Behind the catalogue its case has nothing; or the room for a card; or a group or a track, and the room for its object.
+// What a kind does with a catalogue. Behind the catalogue its case has nothing; or the room for a card; or a group or a track, and the room for its object; or
+// the office's titles.
 fn with_catalogue(
     kind: u8,
     groups: &[u32],
@@ -316,7 +333,10 @@ fn with_catalogue(
 ) {
     match kind {
         2 => {
-            check_catalogue(groups, tracks, segments, text);
+            write_checked(catalogue_check::check(groups, tracks, segments, text));
+        }
+        10 => {
+            check_titles(groups, tracks, segments, text, behind);
         }
         5 => {
             write_card_into(groups, tracks, segments, text, number(behind));
@@ -368,6 +388,16 @@ fn catalogue_case(kind: u8, s: &[u8]) -> &[u8]
         number(rest(s, 8)),
         number(rest(s, 12)),
     )
+}
+
+// A catalogue, the number of words of the office's entries and of octets of its text, and then these.
+fn titles_case(s: &[u8]) -> &[u8]
+    ensures { λ r. ⌜ length (now r) ≤ length (now (s .entry)) ⌝ }
+{
+    let behind = catalogue_case(10, s);
+    let n = number(behind);
+    let m = number(rest(behind, 4));
+    rest(rest_of_words(rest(behind, 8), n), m)
 }
 
 // A catalogue, and the room for its card in octets.
@@ -495,6 +525,7 @@ fn case_of_kind(kind: u8, s: &[u8]) -> &[u8]
         5 => write_case(s),
         6..=7 => write_object_case(kind, s),
         8..=9 => object_case(kind, s),
+        10 => titles_case(s),
         _ => rest(s, s.len()),
     }
 }
@@ -521,7 +552,7 @@ fn frames(s: &[u8]) {
 }
 
 fn main() {
-    let mut input = [0u8; 3145728];
+    let mut input = [0u8; 4194304];
     let n = io::read_full(0, &mut input);
     frames(&input[..n]);
 }

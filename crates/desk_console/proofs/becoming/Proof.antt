@@ -19,7 +19,7 @@ service-at-requires c κs = search needs
 
 settle-requires : tie.Need-settle-requires
 settle-requires c κs =
-    let s = c .before .before .before .before .before in
+    let s = c .before .before .before .before .before .before .before in
     (subst (λ (v : Service). Sits (s .args .groups .now) (s .args .tracks .now) (v .player)) (sym (c .service-at .ensures)) (s .pre .1 .0), s .pre .1 .1)
 
 with-service-requires : tie.Need-with-service-requires
@@ -33,11 +33,11 @@ returns c =
     let t = c .before .before in
     let v = t .before in
     let n = v .before in
-    let s = n .before .before .before .before in
+    let s = n .before .before .before .before .before .before in
     c .left .ensures
     ∙ ap (leaves (granted []))
     (c .before .with-service .ensures ∙ ap (λ (x : Service). withService (s .args .service) x (s .args .d))
-    (t .settle .ensures ∙ (λ k. settled (source (s .args .groups .now) (s .args .tracks .now) (s .args .text .now)) (n .no-writer .ensures k) (s .args .q) (v .service-at .ensures k))))
+    (t .settle .ensures ∙ (λ k. settled (source (s .args .groups .now) (s .args .tracks .now) (s .args .text .now) (s .args .renames .now) (s .args .office .now)) (n .no-writer .ensures k) (s .args .q) (v .service-at .ensures k))))
 
 pub becoming-spec : {M : Type 1} → statement M
 becoming-spec =

@@ -5,7 +5,7 @@ use mathlib.Core.List.{List, [], _∷_, _++_}
 use borrow.Author.Tests.{leb-false, not-true, not-false}
 use Rattle.ground.specs.Refusals.{granted, Row, leaves, keeping}
 use Rattle.ground.proofs.Rows.{NoneApplies, through}
-use Rattle.catalogue_tables.specs.Tables.{Tables, tables}
+use Rattle.catalogue_titles.specs.Lent.{Lent, lending}
 use Rattle.player_state.specs.declared.Player.{Player}
 use Rattle.player_state.specs.Player.{deactivated}
 use Rattle.player_moves.proofs.Kept.{kept-deactivated}
@@ -20,14 +20,14 @@ use Rattle.desk_console.proofs.deactivate.Statement.{statement}
 use Rattle.player_values.specs.Values.{source}
 use Rattle.desk_console.proofs.deactivate.Tie as tie
 
-abbrev lent : tie.Start → Tables
-lent s = tables (s .args .groups .now) (s .args .tracks .now) (s .args .segments .now) (s .args .text .now)
+abbrev lent : tie.Start → Lent
+lent s = lending (s .args .groups .now) (s .args .tracks .now) (s .args .segments .now) (s .args .text .now) (s .args .renames .now) (s .args .office .now)
 
 abbrev front : tie.Start → List Row
 front s = fronted (lent s) false (s .args .d) ++ (serviceRow (s .args .service) ∷ [])
 
 abbrev begun : tie.Else1 → tie.Start
-begun e = e .before .before .before .before .before .before .before
+begun e = e .before .before .before .before .before .before .before .before .before
 
 passed : (e : tie.Else1) → NoneApplies (front (begun e))
 passed e = let g = e .before .before in none (front (begun e)) (g .service-gate .result) (g .service-gate .ensures) (not-false _ (e .if1 .left))
@@ -42,11 +42,11 @@ returns : tie.Need-returns
 unfolding deactivateCall
 returns c =
     let g = c .before .before .before in
-    let s = g .before .before .before .before .before in
+    let s = g .before .before .before .before .before .before .before in
     c .shut .ensures ∙ refuses (front s) (g .service-gate .result) (g .service-gate .ensures) (not-true _ (c .before .if1 .taken)) (keeping (s .args .d)) [] _
 
 player-at-requires : tie.Need-player-at-requires
-player-at-requires c κs = leb-false _ _ (passed c .1 .1 .1 .0)
+player-at-requires c κs = leb-false _ _ (passed c .1 .1 .1 .1 .0)
 
 deactivate-requires : tie.Need-deactivate-requires
 deactivate-requires c κs = search needs
@@ -57,7 +57,7 @@ becoming-requires c κs =
     let s = begun e in
     let k = lent s in
     let rows = serviceRow (s .args .service) ∷ [] in
-    let there = leb-false _ _ (passed e .1 .1 .1 .0) in
+    let there = leb-false _ _ (passed e .1 .1 .1 .1 .0) in
     let kept = kept-deactivated (k .groups) (k .tracks) (playerOf (s .args .d) (s .args .service)) (sitting.stands k (s .args .d) rows (passed e) (s .args .service) there) in (
       there,
       (
@@ -72,7 +72,7 @@ returns-2 c =
     let e = c .before .before .before in
     let s = begun e in
     through (keeping (s .args .d)) (front s) (passed e)
-    (c .becoming .ensures ∙ ap (λ (q : Player). leaves (granted []) (withService (s .args .service) (settled (source (s .args .groups .now) (s .args .tracks .now) (s .args .text .now)) (noWriter false) q (serviceAt (s .args .d) (s .args .service))) (s .args .d)))
+    (c .becoming .ensures ∙ ap (λ (q : Player). leaves (granted []) (withService (s .args .service) (settled (source (s .args .groups .now) (s .args .tracks .now) (s .args .text .now) (s .args .renames .now) (s .args .office .now)) (noWriter false) q (serviceAt (s .args .d) (s .args .service))) (s .args .d)))
     (c .before .deactivate .ensures ∙ ap deactivated (c .before .before .player-at .ensures)))
 
 pub deactivate-spec : {M : Type 1} → statement M

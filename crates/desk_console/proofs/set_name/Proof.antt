@@ -6,7 +6,7 @@ use borrow.Author.Tests.{leb-false, not-true, not-false}
 use Rattle.ground.specs.Refusals.{granted, Row, leaves, keeping}
 use Rattle.ground.proofs.Cases.{past}
 use Rattle.ground.proofs.Rows.{NoneApplies, through}
-use Rattle.catalogue_tables.specs.Tables.{Tables, tables}
+use Rattle.catalogue_titles.specs.Lent.{Lent, lending}
 use Rattle.player_state.specs.declared.Player.{Player}
 use Rattle.player_state.specs.Player.{renamed}
 use Rattle.player_check.specs.Standing.{nameRow}
@@ -23,14 +23,14 @@ use Rattle.desk_console.proofs.set_name.Statement.{statement}
 use Rattle.player_values.specs.Values.{source}
 use Rattle.desk_console.proofs.set_name.Tie as tie
 
-abbrev lent : tie.Start → Tables
-lent s = tables (s .args .groups .now) (s .args .tracks .now) (s .args .segments .now) (s .args .text .now)
+abbrev lent : tie.Start → Lent
+lent s = lending (s .args .groups .now) (s .args .tracks .now) (s .args .segments .now) (s .args .text .now) (s .args .renames .now) (s .args .office .now)
 
 abbrev front : tie.Start → List Row
 front s = fronted (lent s) false (s .args .d) ++ (serviceRow (s .args .service) ∷ [])
 
 abbrev begun : tie.Else1 → tie.Start
-begun e = e .before .before .before .before .before .before .before .before
+begun e = e .before .before .before .before .before .before .before .before .before .before
 
 passed : (e : tie.Else1) → NoneApplies (front (begun e))
 passed e = let g = e .before .before in none (front (begun e)) (g .service-gate .result) (g .service-gate .ensures) (not-false _ (e .if1 .left))
@@ -49,7 +49,7 @@ returns : tie.Need-returns
 unfolding nameCall
 returns c =
     let g = c .before .before .before in
-    let s = g .before .before .before .before .before .before in
+    let s = g .before .before .before .before .before .before .before .before in
     c .shut .ensures ∙ refuses (front s) (g .service-gate .result) (g .service-gate .ensures) (not-true _ (c .before .if1 .taken)) (keeping (s .args .d)) (nameRow (s .args .name .now) ∷ []) _
 
 name-gate-requires : tie.Need-name-gate-requires
@@ -67,7 +67,7 @@ returns-2 c =
     (c .shut2 .ensures ∙ refuses (nameRow (s .args .name .now) ∷ []) (t .name-gate .result) (t .name-gate .ensures) (not-true _ (c .before .if2 .taken)) (keeping (s .args .d)) [] _)
 
 player-at-requires : tie.Need-player-at-requires
-player-at-requires c κs = leb-false _ _ (passed (c .before .before .before) .1 .1 .1 .0)
+player-at-requires c κs = leb-false _ _ (passed (c .before .before .before) .1 .1 .1 .1 .0)
 
 set-name-requires : tie.Need-set-name-requires
 set-name-requires c κs = text-short _ (not-false _ (good (c .before) .0))
@@ -79,7 +79,7 @@ becoming-requires c κs =
     let s = begun e in
     let k = lent s in
     let rows = serviceRow (s .args .service) ∷ [] in
-    let there = leb-false _ _ (passed e .1 .1 .1 .0) in
+    let there = leb-false _ _ (passed e .1 .1 .1 .1 .0) in
     let kept =
     kept-renamed (k .groups) (k .tracks) (playerOf (s .args .d) (s .args .service)) (sitting.stands k (s .args .d) rows (passed e) (s .args .service) there)
     (s .args .name .now) (not-false _ (good g .0)) in (
@@ -98,7 +98,7 @@ returns-3 c =
     let s = begun (t .before) in
     through (keeping (s .args .d)) (front s) (passed (t .before))
     (past _ (good e .0)
-    (c .becoming .ensures ∙ ap (λ (q : Player). leaves (granted []) (withService (s .args .service) (settled (source (s .args .groups .now) (s .args .tracks .now) (s .args .text .now)) (noWriter false) q (serviceAt (s .args .d) (s .args .service))) (s .args .d)))
+    (c .becoming .ensures ∙ ap (λ (q : Player). leaves (granted []) (withService (s .args .service) (settled (source (s .args .groups .now) (s .args .tracks .now) (s .args .text .now) (s .args .renames .now) (s .args .office .now)) (noWriter false) q (serviceAt (s .args .d) (s .args .service))) (s .args .d)))
     (c .before .set-name .ensures ∙ ap (renamed (s .args .name .now)) (c .before .before .player-at .ensures))))
 
 pub set-name-spec : {M : Type 1} → statement M

@@ -6,7 +6,7 @@ use borrow.Author.Tests.{not-true, not-false}
 use Rattle.ground.specs.Refusals.{granted, Row, leaves, keeping}
 use Rattle.ground.proofs.Cases.{past}
 use Rattle.ground.proofs.Rows.{NoneApplies, through}
-use Rattle.catalogue_tables.specs.Tables.{Tables, tables}
+use Rattle.catalogue_titles.specs.Lent.{Lent, lending}
 use Rattle.player_check.specs.Standing.{nameRow}
 use Rattle.player_check.proofs.Laws.{text-short}
 use Rattle.desk_state.specs.declared.Desk.{Desk}
@@ -18,8 +18,8 @@ use borrow.Author.Needs.{needs}
 use Rattle.desk_console.proofs.start.Statement.{statement}
 use Rattle.desk_console.proofs.start.Tie as tie
 
-abbrev lent : tie.Start → Tables
-lent s = tables (s .args .groups .now) (s .args .tracks .now) (s .args .segments .now) (s .args .text .now)
+abbrev lent : tie.Start → Lent
+lent s = lending (s .args .groups .now) (s .args .tracks .now) (s .args .segments .now) (s .args .text .now) (s .args .renames .now) (s .args .office .now)
 
 abbrev front : tie.Start → List Row
 front s = lentRows (lent s) false
@@ -35,7 +35,7 @@ abbrev nobody : tie.Start → Desk
 nobody s = startedDesk (freshly (nameless (generic s))) (freshly (nameless (named s)))
 
 abbrev start-of : tie.After-lent-gate → tie.Start
-start-of g = g .before .before .before .before .before .before .before .before .before .before
+start-of g = g .before .before .before .before .before .before .before .before .before .before .before .before
 
 passed : (e : tie.Else1) → NoneApplies (front (start-of (e .before .before)))
 passed e = let g = e .before .before in none (front (start-of g)) (g .lent-gate .result) (g .lent-gate .ensures) (not-false _ (e .if1 .left))

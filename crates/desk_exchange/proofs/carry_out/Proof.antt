@@ -2,7 +2,8 @@
 use mathlib.Core.Path.{sym, subst, _∙_}
 use borrow.Author.Tests.{eq-eqb, ne-eqb}
 use Rattle.ground.proofs.Cases.{past, here}
-use Rattle.catalogue_tables.specs.Tables.{Tables, tables}
+use Rattle.catalogue_titles.specs.Lent.{Lent, lending, catalogueOf}
+use Rattle.catalogue_titles.proofs.Laws.{fit-right}
 use Rattle.player_moves.specs.Moves.{Sits}
 use Rattle.player_values.specs.Values.{sourceOf}
 use Rattle.player_values.proofs.Fits.{player-sits}
@@ -14,10 +15,10 @@ use Rattle.desk_exchange.proofs.carry_out.Statement.{statement}
 use Rattle.desk_exchange.proofs.carry_out.Tie as tie
 
 abbrev begun : tie.Else1 → tie.Start
-begun e = e .before .before .before .before .before .before
+begun e = e .before .before .before .before .before .before .before .before
 
-abbrev lent : tie.Start → Tables
-lent s = tables (s .args .groups .now) (s .args .tracks .now) (s .args .segments .now) (s .args .text .now)
+abbrev lent : tie.Start → Lent
+lent s = lending (s .args .groups .now) (s .args .tracks .now) (s .args .segments .now) (s .args .text .now) (s .args .renames .now) (s .args .office .now)
 
 control-requires : tie.Need-control-requires
 control-requires c κs = search needs
@@ -27,7 +28,9 @@ unfolding written
 returns c = here _ (eq-eqb _ _ (c .before .if1 .taken)) (c .control .ensures)
 
 player-written-requires : tie.Need-player-written-requires
-player-written-requires c κs = search needs
+player-written-requires c κs =
+    let s = begun (c .before) in
+    (fit-right (lent s) (s .pre .0), s .pre .1 .1 .1)
 
 by-writer-requires : tie.Need-by-writer-requires
 by-writer-requires c κs = search needs
@@ -37,9 +40,9 @@ settle-requires c κs =
     let w = c .before in
     let s = begun (w .before .before) in
     let a = s .args in (
-      player-sits (lent s) (s .pre .0) (a .s .player) (s .pre .1 .0),
+      player-sits (catalogueOf (lent s)) (fit-right (lent s) (s .pre .0)) (a .s .player) (s .pre .1 .0),
       subst (Sits (a .groups .now) (a .tracks .now)) (sym (w .player-written .ensures))
-          (written-sits (lent s) (s .pre .0) (a .s .player) (s .pre .1 .0) (a .value .now) (a .characteristic) (s .pre .1 .1 .1 .1)),
+          (written-sits (catalogueOf (lent s)) (fit-right (lent s) (s .pre .0)) (a .s .player) (s .pre .1 .0) (a .value .now) (a .characteristic) (s .pre .1 .1 .1 .1)),
     )
 
 returns-2 : tie.Need-returns-2

@@ -1,7 +1,8 @@
 -- `desk_exchange::control`: what the opcode comes to is settled, and then its result is noted.
 use mathlib.Core.Path.{sym, ap, subst, _∙_}
 use native.Mathlib.Omega.{arith}
-use Rattle.catalogue_tables.specs.Tables.{Tables, tables}
+use Rattle.catalogue_titles.specs.Lent.{Lent, lending, catalogueOf}
+use Rattle.catalogue_titles.proofs.Laws.{fit-right}
 use Rattle.player_moves.specs.declared.Controlled.{Controlled}
 use Rattle.player_moves.specs.Moves.{Sits}
 use Rattle.player_moves.specs.Control.{controlled}
@@ -18,8 +19,8 @@ use borrow.Author.Needs.{needs}
 use Rattle.desk_exchange.proofs.control.Statement.{statement}
 use Rattle.desk_exchange.proofs.control.Tie as tie
 
-abbrev lent : tie.Start → Tables
-lent s = tables (s .args .groups .now) (s .args .tracks .now) (s .args .segments .now) (s .args .text .now)
+abbrev lent : tie.Start → Lent
+lent s = lending (s .args .groups .now) (s .args .tracks .now) (s .args .segments .now) (s .args .text .now) (s .args .renames .now) (s .args .office .now)
 
 octet-or-zero-requires : tie.Need-octet-or-zero-requires
 octet-or-zero-requires c κs = search needs
@@ -29,8 +30,8 @@ number-of-requires c κs = search needs
 
 control-requires : tie.Need-control-requires
 control-requires c κs =
-    let s = c .before .before .before .before .before .before .before .before in
-    (shaped (lent s) (s .pre .0), s .pre .1 .0)
+    let s = c .before .before .before .before .before .before .before .before .before .before in
+    (shaped (catalogueOf (lent s)) (fit-right (lent s) (s .pre .0)), s .pre .1 .0)
 
 by-writer-requires : tie.Need-by-writer-requires
 by-writer-requires c κs = search needs
@@ -40,18 +41,18 @@ settle-requires c κs =
     let after-control = c .before .before in
     let after-number-of = after-control .before in
     let after-octet-or-zero = after-number-of .before in
-    let s = after-octet-or-zero .before .before .before .before .before .before .before in
+    let s = after-octet-or-zero .before .before .before .before .before .before .before .before .before in
     let a = s .args in (
-      player-sits (lent s) (s .pre .0) (a .s .player) (s .pre .1 .0),
+      player-sits (catalogueOf (lent s)) (fit-right (lent s) (s .pre .0)) (a .s .player) (s .pre .1 .0),
       subst (λ (done : Controlled). Sits (a .groups .now) (a .tracks .now) (done .player)) (sym (after-control .control .ensures))
-          (player-sits (lent s) (s .pre .0) _
-          (kept-controlled (a .groups .now) (a .tracks .now) (a .segments .now) (shaped (lent s) (s .pre .0)) (a .s .player) (s .pre .1 .0)
+          (player-sits (catalogueOf (lent s)) (fit-right (lent s) (s .pre .0)) _
+          (kept-controlled (a .groups .now) (a .tracks .now) (a .segments .now) (shaped (catalogueOf (lent s)) (fit-right (lent s) (s .pre .0))) (a .s .player) (s .pre .1 .0)
           (after-octet-or-zero .octet-or-zero .result) (after-number-of .number-of .result))),
     )
 
 account-in-requires : tie.Need-account-in-requires
 account-in-requires c κs =
-    let start = c .before .before .before .before .before .before .before .before .before .before .before .before in
+    let start = c .before .before .before .before .before .before .before .before .before .before .before .before .before .before in
     omega (arith, start .pre .1 .1)
 
 note-result-requires : tie.Need-note-result-requires
@@ -59,7 +60,7 @@ note-result-requires c κs = search needs
 
 with-account-requires : tie.Need-with-account-requires
 with-account-requires c κs =
-    let start = c .before .before .before .before .before .before .before .before .before .before .before .before .before .before in
+    let start = c .before .before .before .before .before .before .before .before .before .before .before .before .before .before .before .before in
     start .pre .1 .1
 
 returns : tie.Need-returns
@@ -71,7 +72,7 @@ returns c =
     let after-control = after-by-writer .before .before in
     let after-number-of = after-control .before in
     let after-octet-or-zero = after-number-of .before in
-    let s = after-octet-or-zero .before .before .before .before .before .before .before in
+    let s = after-octet-or-zero .before .before .before .before .before .before .before .before .before in
     let opcode = after-octet-or-zero .octet-or-zero .ensures in
     let done = after-control .control .ensures ∙ (λ k. controlled (s .args .groups .now) (s .args .tracks .now) (s .args .segments .now) (opcode k) (after-number-of .number-of .ensures k) (s .args .s .player)) in
     let told = after-settle .settle .ensures ∙ (λ k. settled (sourceOf (lent s)) (after-by-writer .by-writer .ensures k) (done k .player) (s .args .s)) in

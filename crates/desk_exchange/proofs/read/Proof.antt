@@ -11,8 +11,8 @@ use lib.Seq.{take-append-seam}
 use Rattle.ground.specs.Refusals.{granted, Left, leaves, keeping, Row}
 use Rattle.ground.specs.Limits.{mostTitle, leastOutput}
 use Rattle.ground.specs.Lists.{filled}
-use Rattle.catalogue_tables.specs.Tables.{Tables, tables}
-use Rattle.catalogue_check.specs.Catalogue.{Right}
+use Rattle.catalogue_titles.specs.Lent.{Lent, lending, catalogueOf, Fit}
+use Rattle.catalogue_titles.proofs.Laws.{fit-right}
 use Rattle.player_check.specs.Standing.{playerRule}
 use Rattle.desk_slots.specs.Slots.{serviceCount, clientCount}
 use Rattle.desk_slots.specs.Characteristics.{readables}
@@ -29,17 +29,17 @@ use Rattle.desk_state.specs.declared.Desk.{Desk}
 use Rattle.desk_state.specs.Desk.{serviceAt, accountIn, withAccount, withService}
 use Rattle.desk_state.proofs.Laws.{link-stands}
 use Rattle.desk_replies.specs.Replies.{fronted, linkOf}
-use Rattle.desk_replies.proofs.Gates.{refuses, none, right, stands, player, as-it-was, shown}
+use Rattle.desk_replies.proofs.Gates.{refuses, none, fit, stands, player, as-it-was, shown}
 use Rattle.desk_exchange.specs.Read.{valueNow, readerRows, afterRead, readOctets, readCall}
 use borrow.Author.Needs.{needs}
 use Rattle.desk_exchange.proofs.read.Statement.{statement}
 use Rattle.desk_exchange.proofs.read.Tie as tie
 
-abbrev lent : tie.Start → Tables
-lent s = tables (s .args .groups .now) (s .args .tracks .now) (s .args .segments .now) (s .args .text .now)
+abbrev lent : tie.Start → Lent
+lent s = lending (s .args .groups .now) (s .args .tracks .now) (s .args .segments .now) (s .args .text .now) (s .args .renames .now) (s .args .office .now)
 
 abbrev begin : tie.After-read-gate → tie.Start
-begin g = g .before .before .before .before .before .before
+begin g = g .before .before .before .before .before .before .before .before
 
 abbrev room : tie.Start → ℕ
 room s = length (s .args .out .now)
@@ -61,14 +61,14 @@ passed e =
 
 -- of a read that is not refused
 module _ (s : tie.Start) (n : NoneApplies (rows s)) where
-  catalogue : Right (lent s)
-  catalogue = right (lent s) (ltb (room s) leastOutput) (s .args .d) (mine s) n
+  lent-fits : Fit (lent s)
+  lent-fits = fit (lent s) (ltb (room s) leastOutput) (s .args .d) (mine s) n
 
   there : s .args .who < clientCount
-  there = leb-false _ _ (n .1 .1 .1 .0)
+  there = leb-false _ _ (n .1 .1 .1 .1 .0)
 
   served : s .args .service < serviceCount
-  served = leb-false _ _ (n .1 .1 .1 .1 .0)
+  served = leb-false _ _ (n .1 .1 .1 .1 .1 .0)
 
   fine : playerRule (s .args .groups .now) (s .args .tracks .now) (serviceAt (s .args .d) (s .args .service) .player) ≡ true
   fine = player (lent s) (ltb (room s) leastOutput) (s .args .d) (mine s) n (s .args .service) served
@@ -82,10 +82,10 @@ module _ (s : tie.Start) (n : NoneApplies (rows s)) where
   value = valueNow (lent s) (s .args .d) (s .args .service) (s .args .characteristic)
 
   within-value : s .args .offset ≤ length value
-  within-value = ltb-false _ _ (n .1 .1 .1 .1 .1 .1 .1 .1 .1 .1 .0)
+  within-value = ltb-false _ _ (n .1 .1 .1 .1 .1 .1 .1 .1 .1 .1 .1 .0)
 
   short : length value ≤ mostTitle
-  short = value-fits (lent s) catalogue (serviceAt (s .args .d) (s .args .service) .player) fine (s .args .characteristic)
+  short = value-fits (lent s) lent-fits (serviceAt (s .args .d) (s .args .service) .player) fine (s .args .characteristic)
 
 -- the player whose value is held is the one of the service that is read
 standing : (v : tie.After-service-at)
@@ -134,9 +134,11 @@ hold-requires : tie.Need-hold-requires
 hold-requires c κs =
     let v = c .before .before .before in
     let s = start (v .before) in
-    let r = catalogue s (passed (v .before)) in
-    let p = v .service-at .result .player in
-    (player-sits (lent s) r p (standing v), (name-short (lent s) r p (standing v), title-fits (lent s) r p (standing v)))
+    let r = lent-fits s (passed (v .before)) in
+    let p = v .service-at .result .player in (
+      player-sits (catalogueOf (lent s)) (fit-right (lent s) r) p (standing v),
+      (name-short (catalogueOf (lent s)) (fit-right (lent s) r) p (standing v), title-fits (lent s) r p (standing v)),
+    )
 
 wide-word-requires : tie.Need-wide-word-requires
 wide-word-requires c κs = search needs
@@ -159,14 +161,14 @@ hand-requires c κs =
     let n = passed e in
     let long = ap (λ (h : Held). h .len) (held after-hold) in
     let from = after-wide-word .wide-word .ensures .0 in
-    (ltb-false _ _ (n .1 .0), (omega (arith, within-value s n, long, from), omega (arith, short s n, long)))
+    (ltb-false _ _ (n .1 .1 .0), (omega (arith, within-value s n, long, from), omega (arith, short s n, long)))
 
 -- from where the octets are handed out, the way back to the gate's test
 abbrev reached : tie.After-slice-known2 → tie.Else1
 reached a = chosen (a .before .before .before .before .before .before .before) .before
 
 after-read-requires : tie.Need-after-read-requires
-after-read-requires c κs = in-below 32 readables refl _ (not-false _ (passed (reached c) .1 .1 .1 .1 .1 .1 .1 .0))
+after-read-requires c κs = in-below 32 readables refl _ (not-false _ (passed (reached c) .1 .1 .1 .1 .1 .1 .1 .1 .0))
 
 with-account-requires : tie.Need-with-account-requires
 with-account-requires c κs = there (start (reached (c .before))) (passed (reached (c .before)))

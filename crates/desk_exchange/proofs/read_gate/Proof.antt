@@ -12,7 +12,8 @@ use Rattle.ground.specs.Limits.{leastOutput}
 use Rattle.ground.specs.Refusals.{refused, Row, row}
 use Rattle.ground.proofs.Cases.{past, here}
 use Rattle.ground.proofs.Rows.{NoneApplies, beyond}
-use Rattle.catalogue_tables.specs.Tables.{Tables, tables}
+use Rattle.catalogue_titles.specs.Lent.{Lent, lending, catalogueOf}
+use Rattle.catalogue_titles.proofs.Laws.{fit-right}
 use Rattle.player_check.specs.Standing.{playerRule}
 use Rattle.player_values.specs.Values.{sourceOf, valueOf}
 use Rattle.player_values.specs.Handing.{heldOf}
@@ -25,14 +26,14 @@ use Rattle.desk_client.specs.declared.Account.{Account}
 use Rattle.desk_state.specs.declared.Service.{Service}
 use Rattle.desk_state.specs.Desk.{accountIn}
 use Rattle.desk_replies.specs.Replies.{Gated, fronted, ofCaller, ofCharacteristic, linkOf, accountOf}
-use Rattle.desk_replies.proofs.Gates.{says, none, stays-shut, stays-open, right, player}
+use Rattle.desk_replies.proofs.Gates.{says, none, stays-shut, stays-open, fit, player}
 use Rattle.desk_exchange.specs.Read.{valueNow}
 use borrow.Author.Needs.{needs}
 use Rattle.desk_exchange.proofs.read_gate.Statement.{statement}
 use Rattle.desk_exchange.proofs.read_gate.Tie as tie
 
-abbrev lent : tie.Start → Tables
-lent s = tables (s .args .groups .now) (s .args .tracks .now) (s .args .segments .now) (s .args .text .now)
+abbrev lent : tie.Start → Lent
+lent s = lending (s .args .groups .now) (s .args .tracks .now) (s .args .segments .now) (s .args .text .now) (s .args .renames .now) (s .args .office .now)
 
 abbrev own : tie.Start → Link
 own s = linkOf (s .args .d) (s .args .who)
@@ -54,7 +55,7 @@ behind s =
     ∷ []
 
 abbrev begun : tie.After-characteristic-gate → tie.Start
-begun g = g .before .before .before .before .before .before
+begun g = g .before .before .before .before .before .before .before .before
 
 gated : (g : tie.After-characteristic-gate) → Gated (asked (begun g)) (g .characteristic-gate .result)
 gated g =
@@ -68,7 +69,7 @@ passed e = none (asked (begun (e .before .before))) (e .before .before .characte
 
 -- the service is there, and its player stands
 served : (e : tie.Else1) → begun (e .before .before) .args .service < serviceCount
-served e = leb-false _ _ (passed e .1 .1 .1 .1 .0)
+served e = leb-false _ _ (passed e .1 .1 .1 .1 .1 .0)
 
 fine : (v : tie.After-service-at)
     → let s = begun (v .before .before .before) in
@@ -115,10 +116,10 @@ service-at-requires : tie.Need-service-at-requires
 service-at-requires c κs = omega (arith, served c)
 
 account-in-requires : tie.Need-account-in-requires
-account-in-requires c κs = leb-false _ _ (passed (c .before) .1 .1 .1 .0)
+account-in-requires c κs = leb-false _ _ (passed (c .before) .1 .1 .1 .1 .0)
 
 has-bit-requires : tie.Need-has-bit-requires
-has-bit-requires c κs = in-below 32 readables refl _ (not-false _ (passed (c .before .before) .1 .1 .1 .1 .1 .1 .1 .0))
+has-bit-requires c κs = in-below 32 readables refl _ (not-false _ (passed (c .before .before) .1 .1 .1 .1 .1 .1 .1 .1 .0))
 
 gate-shut-requires : tie.Need-gate-shut-requires
 gate-shut-requires c κs = search needs
@@ -136,9 +137,11 @@ hold-requires c κs =
     let v = c .before .before .before .before in
     let e = v .before in
     let s = begun (e .before .before) in
-    let r = right (lent s) (ltb (s .args .room) leastOutput) (s .args .d) (mine s) (passed e) in
-    let p = v .service-at .result .player in
-    (player-sits (lent s) r p (fine v), (name-short (lent s) r p (fine v), title-fits (lent s) r p (fine v)))
+    let r = fit (lent s) (ltb (s .args .room) leastOutput) (s .args .d) (mine s) (passed e) in
+    let p = v .service-at .result .player in (
+      player-sits (catalogueOf (lent s)) (fit-right (lent s) r) p (fine v),
+      (name-short (catalogueOf (lent s)) (fit-right (lent s) r) p (fine v), title-fits (lent s) r p (fine v)),
+    )
 
 wide-word-requires : tie.Need-wide-word-requires
 wide-word-requires c κs = search needs

@@ -6,24 +6,24 @@ use Prim.Native.Nat.{_<_}
 use native.Mathlib.Omega.{arith}
 use borrow.Author.Tests.{leb-false, not-true, not-false}
 use Rattle.ground.specs.Refusals.{granted, leaves, keeping, Row}
-use Rattle.catalogue_tables.specs.Tables.{Tables, tables}
+use Rattle.catalogue_titles.specs.Lent.{Lent, lending}
 use Rattle.player_check.specs.Standing.{playerRule}
 use Rattle.ground.proofs.Rows.{NoneApplies, through}
 use Rattle.desk_state.specs.declared.Service.{Service}
 use Rattle.desk_state.specs.Desk.{withService}
 use Rattle.desk_replies.specs.Replies.{fronted}
-use Rattle.desk_replies.proofs.Gates.{refuses, none, right, player}
+use Rattle.desk_replies.proofs.Gates.{refuses, none, fit, player}
 use Rattle.desk_slots.specs.Slots.{serviceCount, clientCount}
 use Rattle.desk_exchange.specs.Write.{allowed, writerRows, written, writeCall}
 use borrow.Author.Needs.{needs}
 use Rattle.desk_exchange.proofs.write.Statement.{statement}
 use Rattle.desk_exchange.proofs.write.Tie as tie
 
-abbrev lent : tie.Start → Tables
-lent s = tables (s .args .groups .now) (s .args .tracks .now) (s .args .segments .now) (s .args .text .now)
+abbrev lent : tie.Start → Lent
+lent s = lending (s .args .groups .now) (s .args .tracks .now) (s .args .segments .now) (s .args .text .now) (s .args .renames .now) (s .args .office .now)
 
 abbrev begin : tie.After-write-gate → tie.Start
-begin g = g .before .before .before .before .before .before
+begin g = g .before .before .before .before .before .before .before .before
 
 abbrev mine : tie.Start → List Row
 mine s = writerRows (lent s) (s .args .d) (s .args .who) (s .args .service) (s .args .characteristic) (s .args .value .now)
@@ -41,10 +41,10 @@ passed e =
 
 -- the client and the service are there
 client : (e : tie.Else1) → start e .args .who < clientCount
-client e = leb-false _ _ (passed e .1 .1 .1 .0)
+client e = leb-false _ _ (passed e .1 .1 .1 .1 .0)
 
 served : (e : tie.Else1) → start e .args .service < serviceCount
-served e = leb-false _ _ (passed e .1 .1 .1 .1 .0)
+served e = leb-false _ _ (passed e .1 .1 .1 .1 .1 .0)
 
 write-gate-requires : tie.Need-write-gate-requires
 write-gate-requires c κs = search needs
@@ -67,16 +67,16 @@ carry-out-requires c κs =
     let e = c .before in
     let s = start e in
     let n = passed e in (
-      right (lent s) false (s .args .d) (mine s) n,
+      fit (lent s) false (s .args .d) (mine s) n,
       (
         ap (λ (t : Service). playerRule (s .args .groups .now) (s .args .tracks .now) (t .player)) (c .service-at .ensures)
             ∙ player (lent s) false (s .args .d) (mine s) n (s .args .service) (served e),
         (
           client e,
           (
-            not-false _ (n .1 .1 .1 .1 .1 .1 .1 .1 .1 .0),
+            not-false _ (n .1 .1 .1 .1 .1 .1 .1 .1 .1 .1 .0),
             ap (λ (t : Service). allowed (s .args .groups .now) (t .player) (s .args .characteristic) (s .args .value .now)) (c .service-at .ensures)
-                ∙ not-false _ (n .1 .1 .1 .1 .1 .1 .1 .1 .1 .1 .0),
+                ∙ not-false _ (n .1 .1 .1 .1 .1 .1 .1 .1 .1 .1 .1 .0),
           ),
         ),
       ),

@@ -8,7 +8,8 @@ use lib.Dec.{eqb, leb}
 use Rattle.ground.specs.Refusals.{refused, Row, row}
 use Rattle.ground.proofs.Cases.{past, here}
 use Rattle.ground.proofs.Rows.{NoneApplies, beyond}
-use Rattle.catalogue_tables.specs.Tables.{Tables, tables}
+use Rattle.catalogue_titles.specs.Lent.{Lent, lending, catalogueOf}
+use Rattle.catalogue_titles.proofs.Laws.{fit-right}
 use Rattle.catalogue_check.proofs.Laws.{few-groups}
 use Rattle.desk_slots.specs.Characteristics.{writables, isIn}
 use Rattle.desk_client.specs.declared.Link.{Link}
@@ -17,14 +18,14 @@ use Rattle.desk_client.specs.Client.{mostResults}
 use Rattle.desk_state.specs.declared.Service.{Service}
 use Rattle.desk_state.specs.Desk.{serviceAt, accountIn}
 use Rattle.desk_replies.specs.Replies.{Gated, fronted, ofCaller, ofCharacteristic, linkOf, accountOf}
-use Rattle.desk_replies.proofs.Gates.{says, none, stays-shut, stays-open, right}
+use Rattle.desk_replies.proofs.Gates.{says, none, stays-shut, stays-open, fit}
 use Rattle.desk_exchange.specs.Write.{lengthRight, allowed}
 use borrow.Author.Needs.{needs}
 use Rattle.desk_exchange.proofs.write_gate.Statement.{statement}
 use Rattle.desk_exchange.proofs.write_gate.Tie as tie
 
-abbrev lent : tie.Start → Tables
-lent s = tables (s .args .groups .now) (s .args .tracks .now) (s .args .segments .now) (s .args .text .now)
+abbrev lent : tie.Start → Lent
+lent s = lending (s .args .groups .now) (s .args .tracks .now) (s .args .segments .now) (s .args .text .now) (s .args .renames .now) (s .args .office .now)
 
 abbrev own : tie.Start → Link
 own s = linkOf (s .args .d) (s .args .who)
@@ -50,7 +51,7 @@ behind s =
     ∷ []
 
 abbrev begun : tie.After-characteristic-gate → tie.Start
-begun g = g .before .before .before .before .before .before .before
+begun g = g .before .before .before .before .before .before .before .before .before
 
 abbrev start : tie.Else1 → tie.Start
 start e = begun (e .before .before)
@@ -115,7 +116,7 @@ returns-2 c =
     (beyond (asked s) (behind s) (passed e) (here _ (long l ∙ c .before .if2 .taken) refl))
 
 service-at-requires : tie.Need-service-at-requires
-service-at-requires c κs = leb-false _ _ (passed (c .before .before) .1 .1 .1 .1 .0)
+service-at-requires c κs = leb-false _ _ (passed (c .before .before) .1 .1 .1 .1 .1 .0)
 
 is-allowed-requires : tie.Need-is-allowed-requires
 is-allowed-requires c κs =
@@ -123,7 +124,7 @@ is-allowed-requires c κs =
     let l = test2 .before in
     let e = l .before in
     let s = start e in
-    (sym (l .length-right .ensures) ∙ not-false _ (test2 .if2 .left), few-groups (lent s) (right (lent s) false (s .args .d) (mine s) (passed e)))
+    (sym (l .length-right .ensures) ∙ not-false _ (test2 .if2 .left), few-groups (catalogueOf (lent s)) (fit-right (lent s) (fit (lent s) false (s .args .d) (mine s) (passed e))))
 
 gate-shut-requires-2 : tie.Need-gate-shut-requires-2
 gate-shut-requires-2 c κs = search needs
@@ -138,7 +139,7 @@ returns-3 c =
     (beyond (asked s) (behind s) (passed e) (past _ (long (test2 .before) ∙ test2 .if2 .left) (here _ (sym (may-is w) ∙ c .before .if3 .taken) refl)))
 
 account-in-requires : tie.Need-account-in-requires
-account-in-requires c κs = leb-false _ _ (passed (reached (c .before)) .1 .1 .1 .0)
+account-in-requires c κs = leb-false _ _ (passed (reached (c .before)) .1 .1 .1 .1 .0)
 
 gate-shut-requires-3 : tie.Need-gate-shut-requires-3
 gate-shut-requires-3 c κs = search needs

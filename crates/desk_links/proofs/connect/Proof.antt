@@ -6,7 +6,7 @@ use borrow.Author.Tests.{leb-false, not-true, not-false}
 use Rattle.ground.specs.Refusals.{granted, Row, row, leaves, keeping}
 use Rattle.ground.proofs.Cases.{past, here}
 use Rattle.ground.proofs.Rows.{NoneApplies, through}
-use Rattle.catalogue_tables.specs.Tables.{Tables, tables}
+use Rattle.catalogue_titles.specs.Lent.{Lent, lending}
 use Rattle.desk_client.specs.declared.Link.{Link}
 use Rattle.desk_client.specs.declared.Client.{Client}
 use Rattle.desk_client.specs.Client.{mtuRight, blankClient}
@@ -18,8 +18,8 @@ use borrow.Author.Needs.{needs}
 use Rattle.desk_links.proofs.connect.Statement.{statement}
 use Rattle.desk_links.proofs.connect.Tie as tie
 
-abbrev lent : tie.Start → Tables
-lent s = tables (s .args .groups .now) (s .args .tracks .now) (s .args .segments .now) (s .args .text .now)
+abbrev lent : tie.Start → Lent
+lent s = lending (s .args .groups .now) (s .args .tracks .now) (s .args .segments .now) (s .args .text .now) (s .args .renames .now) (s .args .office .now)
 
 abbrev front : tie.Start → List Row
 front s = fronted (lent s) false (s .args .d) ++ (clientRow (s .args .who) ∷ [])
@@ -28,7 +28,7 @@ abbrev own : tie.Start → List Row
 own s = row 204 (linkOf (s .args .d) (s .args .who) .connected) ∷ row 206 (not (mtuRight (s .args .mtu))) ∷ []
 
 abbrev begun : tie.Else1 → tie.Start
-begun e = e .before .before .before .before .before .before .before
+begun e = e .before .before .before .before .before .before .before .before .before
 
 passed : (e : tie.Else1) → NoneApplies (front (begun e))
 passed e = let g = e .before .before in none (front (begun e)) (g .client-gate .result) (g .client-gate .ensures) (not-false _ (e .if1 .left))
@@ -50,11 +50,11 @@ returns : tie.Need-returns
 unfolding connectCall
 returns c =
     let g = c .before .before .before in
-    let s = g .before .before .before .before .before in
+    let s = g .before .before .before .before .before .before .before in
     c .shut .ensures ∙ refuses (front s) (g .client-gate .result) (g .client-gate .ensures) (not-true _ (c .before .if1 .taken)) (keeping (s .args .d)) (own s) _
 
 link-at-requires : tie.Need-link-at-requires
-link-at-requires c κs = leb-false _ _ (passed c .1 .1 .1 .0)
+link-at-requires c κs = leb-false _ _ (passed c .1 .1 .1 .1 .0)
 
 refuse-requires : tie.Need-refuse-requires
 refuse-requires c κs = search needs
@@ -90,7 +90,7 @@ blank-client-requires : tie.Need-blank-client-requires
 blank-client-requires c κs = search needs
 
 with-client-requires : tie.Need-with-client-requires
-with-client-requires c κs = leb-false _ _ (passed (c .before .before .before .before .before .before) .1 .1 .1 .0)
+with-client-requires c κs = leb-false _ _ (passed (c .before .before .before .before .before .before) .1 .1 .1 .1 .0)
 
 left-requires : tie.Need-left-requires
 left-requires c κs = search needs

@@ -8,7 +8,7 @@ use borrow.Author.Tests.{leb-false, ltb-true, not-true, not-false}
 use Rattle.ground.specs.Cases.{pick}
 use Rattle.ground.specs.Refusals.{granted, Row, leaves, keeping}
 use Rattle.ground.proofs.Rows.{NoneApplies, through}
-use Rattle.catalogue_tables.specs.Tables.{Tables, tables}
+use Rattle.catalogue_titles.specs.Lent.{Lent, lending}
 use Rattle.desk_slots.specs.Slots.{slotCount}
 use Rattle.desk_client.specs.Duties.{joined, dropped}
 use Rattle.desk_state.specs.declared.Service.{Service}
@@ -20,8 +20,8 @@ use borrow.Author.Needs.{needs}
 use Rattle.desk_links.proofs.set_slot.Statement.{statement}
 use Rattle.desk_links.proofs.set_slot.Tie as tie
 
-abbrev lent : tie.Start → Tables
-lent s = tables (s .args .groups .now) (s .args .tracks .now) (s .args .segments .now) (s .args .text .now)
+abbrev lent : tie.Start → Lent
+lent s = lending (s .args .groups .now) (s .args .tracks .now) (s .args .segments .now) (s .args .text .now) (s .args .renames .now) (s .args .office .now)
 
 abbrev rows : tie.Start → List Row
 rows s =
@@ -29,16 +29,16 @@ rows s =
     ++ slotRows (s .args .who) (s .args .service) (linkOf (s .args .d) (s .args .who) .connected) (linkOf (s .args .d) (s .args .who) .encrypted) (s .args .characteristic)
 
 -- the gate was asked whether there is a slot
-gated : (g : tie.After-characteristic-gate) → Gated (rows (g .before .before .before .before .before .before)) (g .characteristic-gate .result)
+gated : (g : tie.After-characteristic-gate) → Gated (rows (g .before .before .before .before .before .before .before .before)) (g .characteristic-gate .result)
 gated g =
-    let s = g .before .before .before .before .before .before in
+    let s = g .before .before .before .before .before .before .before .before in
     let l = linkOf (s .args .d) (s .args .who) in
     subst
     (λ (x : ℕ). Gated (fronted (lent s) false (s .args .d) ++ (ofCaller (s .args .who) (s .args .service) (l .connected) ++ ofCharacteristic (l .encrypted) (s .args .characteristic) 209 (ltb x slotCount))) (g .characteristic-gate .result))
     (g .before .slot-of .ensures .1) (g .characteristic-gate .ensures)
 
 abbrev begun : tie.Else1 → tie.Start
-begun e = e .before .before .before .before .before .before .before .before
+begun e = e .before .before .before .before .before .before .before .before .before .before
 
 passed : (e : tie.Else1) → NoneApplies (rows (begun e))
 passed e = let g = e .before .before in none (rows (begun e)) (g .characteristic-gate .result) (gated g) (not-false _ (e .if1 .left))
@@ -46,7 +46,7 @@ passed e = let g = e .before .before in none (rows (begun e)) (g .characteristic
 inside : (e : tie.Else1) → e .before .before .before .slot-of .result < slotCount
 inside e =
     ltb-true _ _
-    (ap (λ (x : ℕ). ltb x slotCount) (e .before .before .before .slot-of .ensures .1) ∙ not-false _ (passed e .1 .1 .1 .1 .1 .1 .1 .0))
+    (ap (λ (x : ℕ). ltb x slotCount) (e .before .before .before .slot-of .ensures .1) ∙ not-false _ (passed e .1 .1 .1 .1 .1 .1 .1 .1 .0))
 
 slot-of-requires : tie.Need-slot-of-requires
 slot-of-requires c κs = search needs
@@ -61,23 +61,23 @@ returns : tie.Need-returns
 unfolding slotCall
 returns c =
     let g = c .before .before .before in
-    let s = g .before .before .before .before .before .before in
+    let s = g .before .before .before .before .before .before .before .before in
     c .shut .ensures ∙ refuses (rows s) (g .characteristic-gate .result) (gated g) (not-true _ (c .before .if1 .taken)) (keeping (s .args .d)) [] _
 
 service-at-requires : tie.Need-service-at-requires
-service-at-requires c κs = leb-false _ _ (passed c .1 .1 .1 .1 .0)
+service-at-requires c κs = leb-false _ _ (passed c .1 .1 .1 .1 .1 .0)
 
 account-in-requires : tie.Need-account-in-requires
-account-in-requires c κs = leb-false _ _ (passed (c .before) .1 .1 .1 .0)
+account-in-requires c κs = leb-false _ _ (passed (c .before) .1 .1 .1 .1 .0)
 
 with-slot-requires : tie.Need-with-slot-requires
 with-slot-requires c κs = inside (c .before .before)
 
 with-account-requires : tie.Need-with-account-requires
-with-account-requires c κs = leb-false _ _ (passed (c .before .before .before) .1 .1 .1 .0)
+with-account-requires c κs = leb-false _ _ (passed (c .before .before .before) .1 .1 .1 .1 .0)
 
 with-service-requires : tie.Need-with-service-requires
-with-service-requires c κs = leb-false _ _ (passed (c .before .before .before .before) .1 .1 .1 .1 .0)
+with-service-requires c κs = leb-false _ _ (passed (c .before .before .before .before) .1 .1 .1 .1 .1 .0)
 
 left-requires : tie.Need-left-requires
 left-requires c κs = search needs

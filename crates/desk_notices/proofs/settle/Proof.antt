@@ -23,11 +23,11 @@ unfolding settled alteredOf
 returns c =
     let t = c .before .before in
     let w = t .before in
-    let a = w .before .before .before .before .before .args in
+    let a = w .before .before .before .before .before .before .before .args in
     let altered = w .changed-word .ensures in
     let track = t .track-changed .ensures in
     let p = a .s .player in
-    let from = source (a .groups .now) (a .tracks .now) (a .text .now) in
+    let from = source (a .groups .now) (a .tracks .now) (a .text .now) (a .renames .now) (a .office .now) in
     let told : c .note-all .result ≡ mapFrom (λ who r. noted (dueTo from p (a .q) (a .cause) who) (alteredOf from p (a .q)) r) 0 (a .s .accounts) =
     c .note-all .ensures
     ∙ (λ k. mapFrom (noticed (altered k) (track k) (a .cause)) 0 (a .s .accounts))

@@ -9,7 +9,8 @@ use lib.Seq.{take-append-seam}
 use Rattle.ground.specs.Cases.{has}
 use Rattle.ground.specs.Limits.{mostTitle}
 use Rattle.ground.specs.Lists.{filled}
-use Rattle.catalogue_tables.specs.Tables.{Tables, tables}
+use Rattle.catalogue_titles.specs.Lent.{Lent, lending, catalogueOf}
+use Rattle.catalogue_titles.proofs.Laws.{fit-right}
 use Rattle.desk_slots.specs.Slots.{placeCount, characteristicOf, serviceOf, slotAt}
 use Rattle.desk_slots.specs.Round.{next}
 use Rattle.player_state.specs.declared.Player.{Player}
@@ -27,11 +28,11 @@ use borrow.Author.Needs.{needs}
 use Rattle.desk_take.proofs.hand_out.Statement.{statement}
 use Rattle.desk_take.proofs.hand_out.Tie as tie
 
-abbrev lent : tie.Start → Tables
-lent s = tables (s .args .groups .now) (s .args .tracks .now) (s .args .segments .now) (s .args .text .now)
+abbrev lent : tie.Start → Lent
+lent s = lending (s .args .groups .now) (s .args .tracks .now) (s .args .segments .now) (s .args .text .now) (s .args .renames .now) (s .args .office .now)
 
 abbrev begun : tie.After-serve → tie.Start
-begun v = v .before .before .before .before .before .before .before .before .before .before .before
+begun v = v .before .before .before .before .before .before .before .before .before .before .before .before .before
 
 -- the place that is served, its service and slot, the characteristic, and the record afterwards
 place : (v : tie.After-serve) → v .before .before .before .before .next-place .result ≡ nextPlace (begun v .args .c)
@@ -52,18 +53,18 @@ after : (v : tie.After-serve) → v .serve .result ≡ passedOn (nextPlace (begu
 after v = v .serve .ensures ∙ ap (λ (n : ℕ). passedOn n (begun v .args .c)) (place v)
 
 -- what is said and the record, once the octets are known
-said : (v : tie.After-serve) (n : ℕ) → n ≡ length (handedOctets (lent (begun v)) (begun v .args .t5) (begun v .args .c))
-    → (v .before .before .before .service-of .result ∷ v .before .characteristic-of .result ∷ n ∷ [] ≡ handedValues (lent (begun v)) (begun v .args .t5) (begun v .args .c)) × (v .serve .result ≡ passedOn (nextPlace (begun v .args .c)) (begun v .args .c))
+said : (v : tie.After-serve) (n : ℕ) → n ≡ length (handedOctets (lent (begun v)) (begun v .args .t7) (begun v .args .c))
+    → (v .before .before .before .service-of .result ∷ v .before .characteristic-of .result ∷ n ∷ [] ≡ handedValues (lent (begun v)) (begun v .args .t7) (begun v .args .c)) × (v .serve .result ≡ passedOn (nextPlace (begun v .args .c)) (begun v .args .c))
 said v n e = (λ k. service v k ∷ number v k ∷ e k ∷ [], after v)
 
 -- the player of the service, which stands; and the least ATT_MTU
 abbrev of : tie.After-serve → Player
-of v = playerAt (begun v .args .t5) (v .before .before .before .service-of .result)
+of v = playerAt (begun v .args .t7) (v .before .before .before .service-of .result)
 
 stands : (v : tie.After-serve) → playerRule (begun v .args .groups .now) (begun v .args .tracks .now) (of v) ≡ true
 stands v =
     let s = begun v in
-    each-player (s .args .groups .now) (s .args .tracks .now) (s .args .t5) (s .pre .1 .0) (v .before .before .before .service-of .result) (v .before .before .before .service-of .ensures .0)
+    each-player (s .args .groups .now) (s .args .tracks .now) (s .args .t7) (s .pre .1 .0) (v .before .before .before .service-of .result) (v .before .before .before .service-of .ensures .0)
 
 least : (s : tie.Start) → 23 ≤ s .args .c .link .mtu
 least s = mtu-least (s .args .c .link) (client-link (s .args .c) (s .pre .1 .1 .0))
@@ -73,7 +74,7 @@ places-owed-requires c κs = search needs
 
 next-place-requires : tie.Need-next-place-requires
 next-place-requires c κs =
-    let s = c .before .before .before .before .before .before in
+    let s = c .before .before .before .before .before .before .before .before in
     let owed = c .places-owed .ensures in
     (subst (λ (w : ℕ). 0 < w) (sym (owed .1)) (s .pre .1 .1 .1), owed .0, mark-within (s .args .c .link) (client-link (s .args .c) (s .pre .1 .1 .0)))
 
@@ -125,7 +126,7 @@ returns c =
     let s = begun v in
     let octets =
     ap (λ (n : ℕ). resultOctets (getD (accountWith (s .args .c) n .results) 0 blankEntry)) (service v)
-    ∙ result-handed (lent s) (s .args .t5) (s .args .c) (sym (control (taken .before)) ∙ taken .if1 .taken) (least s) in (
+    ∙ result-handed (lent s) (s .args .t7) (s .args .c) (sym (control (taken .before)) ∙ taken .if1 .taken) (least s) in (
       said v (put .put .result) (put .put .ensures .0 ∙ ap length octets),
       put .put .ensures .1 ∙ ap (λ (front : List ℕ). filled front (s .args .out .now)) octets,
     )
@@ -140,8 +141,8 @@ hold-requires : tie.Need-hold-requires
 hold-requires c κs =
     let v = c .before .before .before in
     let s = begun v in (
-      player-sits (lent s) (s .pre .0) (of v) (stands v),
-      (name-short (lent s) (s .pre .0) (of v) (stands v), title-fits (lent s) (s .pre .0) (of v) (stands v)),
+      player-sits (catalogueOf (lent s)) (fit-right (lent s) (s .pre .0)) (of v) (stands v),
+      (name-short (catalogueOf (lent s)) (fit-right (lent s) (s .pre .0)) (of v) (stands v), title-fits (lent s) (s .pre .0) (of v) (stands v)),
     )
 
 sub-wide-word : tie.Need-sub-wide-word
@@ -172,12 +173,12 @@ returns-2 c =
     let s = begun v in
     let hold = held .hold .ensures in
     let most = wide .wide-word .ensures .0 in
-    let from = source (s .args .groups .now) (s .args .tracks .now) (s .args .text .now) in
+    let from = source (s .args .groups .now) (s .args .tracks .now) (s .args .text .now) (s .args .renames .now) (s .args .office .now) in
     let value = valueOf from (of v) (v .before .characteristic-of .result) in
-    let octets : partFrom 0 (wide .wide-word .result) (take (held .hold .result .len) (held .hold .result .octets)) ≡ handedOctets (lent s) (s .args .t5) (s .args .c) =
+    let octets : partFrom 0 (wide .wide-word .result) (take (held .hold .result .len) (held .hold .result .octets)) ≡ handedOctets (lent s) (s .args .t7) (s .args .c) =
     (λ k. partFrom 0 (most k) (take (hold k .len) (hold k .octets)))
-    ∙ ap (take (s .args .c .link .mtu - 3)) (take-append-seam value (drop (length value) (replicate mostTitle 0)) ∙ (λ k. valueOf from (playerAt (s .args .t5) (service v k)) (number v k)))
-    ∙ value-handed (lent s) (s .args .t5) (s .args .c) (sym (control (left .before)) ∙ left .if1 .left) in (
+    ∙ ap (take (s .args .c .link .mtu - 3)) (take-append-seam value (drop (length value) (replicate mostTitle 0)) ∙ (λ k. valueOf from (playerAt (s .args .t7) (service v k)) (number v k)))
+    ∙ value-handed (lent s) (s .args .t7) (s .args .c) (sym (control (left .before)) ∙ left .if1 .left) in (
       said v (hand .hand .result) (hand .hand .ensures .0 ∙ ap length octets),
       hand .hand .ensures .1 ∙ ap (λ (front : List ℕ). filled front (s .args .out .now)) octets,
     )

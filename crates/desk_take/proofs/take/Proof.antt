@@ -8,7 +8,7 @@ use lib.Dec.{ltb, leb}
 use lib.ListN.{length}
 use Rattle.ground.specs.Lists.{filled}
 use Rattle.ground.proofs.Cases.{past, here}
-use Rattle.catalogue_tables.specs.Tables.{Tables, tables}
+use Rattle.catalogue_titles.specs.Lent.{Lent, lending}
 use Rattle.desk_slots.specs.Slots.{clientCount, owing}
 use Rattle.desk_slots.specs.Round.{next}
 use Rattle.ground.specs.Limits.{leastOutput}
@@ -20,7 +20,7 @@ use Rattle.desk_state.specs.declared.Desk.{Desk}
 use Rattle.desk_state.specs.Desk.{clientAt}
 use Rattle.desk_replies.specs.Replies.{fronted}
 use Rattle.desk_state.proofs.Laws.{client-stands, turn-there}
-use Rattle.desk_replies.proofs.Gates.{refuses, none, right, stands, player, as-it-was, shown}
+use Rattle.desk_replies.proofs.Gates.{refuses, none, fit, stands, player, as-it-was, shown}
 use Rattle.desk_take.specs.Serving.{placesOwed, handedOctets, handedValues, playersRule, afterServing}
 use Rattle.desk_take.specs.Take.{AllRight, nextClient, withServed, takeCall, takeOctets}
 use Rattle.desk_take.proofs.Laws.{players-stand, owed-there}
@@ -28,11 +28,11 @@ use borrow.Author.Needs.{needs}
 use Rattle.desk_take.proofs.take.Statement.{statement}
 use Rattle.desk_take.proofs.take.Tie as tie
 
-abbrev lent : tie.Start → Tables
-lent s = tables (s .args .groups .now) (s .args .tracks .now) (s .args .segments .now) (s .args .text .now)
+abbrev lent : tie.Start → Lent
+lent s = lending (s .args .groups .now) (s .args .tracks .now) (s .args .segments .now) (s .args .text .now) (s .args .renames .now) (s .args .office .now)
 
 abbrev begin : tie.After-front-gate → tie.Start
-begin g = g .before .before .before .before .before .before
+begin g = g .before .before .before .before .before .before .before .before
 
 abbrev small : tie.Start → Bool
 small s = ltb (length (s .args .out .now)) leastOutput
@@ -110,14 +110,14 @@ hand-out-requires c κs =
     let n = clear w in
     let there = test2 .if2 .left in
     let own = c .before .client-at .ensures in (
-      right (lent s) (small s) (s .args .d) [] n,
+      fit (lent s) (small s) (s .args .d) [] n,
       (
         ap (playersRule (s .args .groups .now) (s .args .tracks .now)) (c .before .before .players-of .ensures)
             ∙ players-stand (s .args .groups .now) (s .args .tracks .now) (s .args .d) (player (lent s) (small s) (s .args .d) [] n),
         (
           ap clientRule own ∙ records-stand s n (w .next-client .result) there,
           subst (λ (r : Client). 0 < placesOwed r) (sym own) (owed-there (s .args .d) (turn-stands s n) (w .next-client .result) (whose w) there),
-          ltb-false _ _ (n .1 .0),
+          ltb-false _ _ (n .1 .1 .0),
         ),
       ),
     )

@@ -13,24 +13,23 @@ use Rattle.ground.specs.Lists.{filled}
 use Rattle.ground.specs.Refusals.{Said, granted, leaves, keeping, Row}
 use Rattle.ground.proofs.Cases.{past, here, le-or, and-left, and-right}
 use Rattle.ground.proofs.Rows.{NoneApplies, through}
-use Rattle.catalogue_tables.specs.Tables.{Tables, tables}
-use Rattle.catalogue_check.proofs.Laws.{is-right}
+use Rattle.catalogue_titles.specs.Lent.{Lent, lending}
 use Rattle.desk_client.specs.Client.{clientRule}
 use Rattle.desk_replies.specs.Replies.{lentRows, stateRow}
-use Rattle.desk_replies.proofs.Gates.{refuses, none, as-it-was, shown}
+use Rattle.desk_replies.proofs.Gates.{refuses, none, none-fit, as-it-was, shown}
 use Rattle.desk_take.specs.Serving.{placesOwed, playersRule, recordRight, ownCall, ownOctets}
 use borrow.Author.Needs.{needs}
 use Rattle.desk_take.proofs.take_own.Statement.{statement}
 use Rattle.desk_take.proofs.take_own.Tie as tie
 
-abbrev lent : tie.Start → Tables
-lent s = tables (s .args .groups .now) (s .args .tracks .now) (s .args .segments .now) (s .args .text .now)
+abbrev lent : tie.Start → Lent
+lent s = lending (s .args .groups .now) (s .args .tracks .now) (s .args .segments .now) (s .args .text .now) (s .args .renames .now) (s .args .office .now)
 
 abbrev front : tie.Start → List Row
 front s = lentRows (lent s) (ltb (length (s .args .out .now)) leastOutput)
 
 abbrev begun : tie.After-lent-gate → tie.Start
-begun g = g .before .before .before .before .before .before
+begun g = g .before .before .before .before .before .before .before .before
 
 -- behind the gate, where players and record were asked
 abbrev asked : tie.After-client-right → tie.Start
@@ -112,8 +111,8 @@ hand-out-requires c κs =
     let t = e .before .before in
     let s = asked (t .before) in
     let n = passed (t .before) in (
-      is-right (lent s) (not-false _ (n .0)),
-      (players-stand t, (record-stands t, above (placesOwed (s .args .c)) (something e), ltb-false _ _ (n .1 .0))),
+      none-fit (lent s) (n .0, (n .1 .0, tt)),
+      (players-stand t, (record-stands t, above (placesOwed (s .args .c)) (something e), ltb-false _ _ (n .1 .1 .0))),
     )
 
 same-length : tie.Need-same-length

@@ -1,6 +1,6 @@
 -- `mcs::mcs_activate`: the state read out, `desk_console::activate`, then its end.
 use mathlib.Core.Path.{_≡_, ap, _∙_}
-use Rattle.catalogue_tables.specs.Tables.{Tables, tables}
+use Rattle.catalogue_titles.specs.Lent.{Lent, lending}
 use Rattle.desk_state.specs.declared.Desk.{Desk}
 use Rattle.desk_replies.specs.Replies.{leftBy}
 use Rattle.desk_console.specs.Console.{activateCall}
@@ -13,10 +13,10 @@ use Rattle.mcs.proofs.mcs_activate.Tie as tie
 
 -- what the call left
 abbrev begun : tie.After-activate → tie.Start
-begun m = m .before .before .before .before .before .before .before .before
+begun m = m .before .before .before .before .before .before .before .before .before .before
 
-abbrev lent : tie.Start → Tables
-lent s = tables (s .args .groups .now) (s .args .tracks .now) (s .args .segments .now) (s .args .text .now)
+abbrev lent : tie.Start → Lent
+lent s = lending (s .args .groups .now) (s .args .tracks .now) (s .args .segments .now) (s .args .text .now) (s .args .renames .now) (s .args .office .now)
 
 left-is : (m : tie.After-activate) → let s = begun m in leftBy (m .activate .result) ≡ activateCall (lent s) (deskOf (s .args .state .now)) (s .args .service) (s .args .group)
 left-is m = let s = begun m in m .activate .ensures ∙ ap (λ (d : Desk). activateCall (lent s) d (s .args .service) (s .args .group)) (m .before .decode .ensures)

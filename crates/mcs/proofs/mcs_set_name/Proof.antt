@@ -1,6 +1,6 @@
 -- `mcs::mcs_set_name`: the state read out, `desk_console::set_name`, then its end.
 use mathlib.Core.Path.{_≡_, ap, _∙_}
-use Rattle.catalogue_tables.specs.Tables.{Tables, tables}
+use Rattle.catalogue_titles.specs.Lent.{Lent, lending}
 use Rattle.desk_state.specs.declared.Desk.{Desk}
 use Rattle.desk_replies.specs.Replies.{leftBy}
 use Rattle.desk_console.specs.Console.{nameCall}
@@ -13,10 +13,10 @@ use Rattle.mcs.proofs.mcs_set_name.Tie as tie
 
 -- what the call left
 abbrev begun : tie.After-set-name → tie.Start
-begun m = m .before .before .before .before .before .before .before .before .before
+begun m = m .before .before .before .before .before .before .before .before .before .before .before
 
-abbrev lent : tie.Start → Tables
-lent s = tables (s .args .groups .now) (s .args .tracks .now) (s .args .segments .now) (s .args .text .now)
+abbrev lent : tie.Start → Lent
+lent s = lending (s .args .groups .now) (s .args .tracks .now) (s .args .segments .now) (s .args .text .now) (s .args .renames .now) (s .args .office .now)
 
 left-is : (m : tie.After-set-name) → let s = begun m in leftBy (m .set-name .result) ≡ nameCall (lent s) (deskOf (s .args .state .now)) (s .args .service) (s .args .name .now)
 left-is m = let s = begun m in m .set-name .ensures ∙ ap (λ (d : Desk). nameCall (lent s) d (s .args .service) (s .args .name .now)) (m .before .decode .ensures)

@@ -1,6 +1,6 @@
 -- `mcs::mcs_subscribe`: the state read out, `desk_links::subscribe`, then its end.
 use mathlib.Core.Path.{_≡_, ap, _∙_}
-use Rattle.catalogue_tables.specs.Tables.{Tables, tables}
+use Rattle.catalogue_titles.specs.Lent.{Lent, lending}
 use Rattle.desk_state.specs.declared.Desk.{Desk}
 use Rattle.desk_replies.specs.Replies.{leftBy}
 use Rattle.desk_client.specs.Duties.{joined}
@@ -14,10 +14,10 @@ use Rattle.mcs.proofs.mcs_subscribe.Tie as tie
 
 -- what the call left
 abbrev begun : tie.After-subscribe → tie.Start
-begun m = m .before .before .before .before .before .before .before .before
+begun m = m .before .before .before .before .before .before .before .before .before .before
 
-abbrev lent : tie.Start → Tables
-lent s = tables (s .args .groups .now) (s .args .tracks .now) (s .args .segments .now) (s .args .text .now)
+abbrev lent : tie.Start → Lent
+lent s = lending (s .args .groups .now) (s .args .tracks .now) (s .args .segments .now) (s .args .text .now) (s .args .renames .now) (s .args .office .now)
 
 left-is : (m : tie.After-subscribe) → let s = begun m in leftBy (m .subscribe .result) ≡ subscribeCall (lent s) (deskOf (s .args .state .now)) (s .args .client) (s .args .service) (s .args .characteristic)
 left-is m = let s = begun m in m .subscribe .ensures ∙ ap (λ (d : Desk). subscribeCall (lent s) d (s .args .client) (s .args .service) (s .args .characteristic)) (m .before .decode .ensures)

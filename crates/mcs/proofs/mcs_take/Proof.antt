@@ -1,7 +1,7 @@
 -- `mcs::mcs_take`: the state read out, `desk_take::take`, what it says of it, then its end.
 use mathlib.Core.Path.{ap, _∙_}
 use lib.ListN.{length}
-use Rattle.catalogue_tables.specs.Tables.{tables}
+use Rattle.catalogue_titles.specs.Lent.{lending}
 use Rattle.ground.specs.Refusals.{Left}
 use Rattle.desk_state.specs.declared.Desk.{Desk}
 use Rattle.ground.specs.Lists.{tableAfter}
@@ -31,8 +31,8 @@ finish-requires : tie.Need-finish-requires
 finish-requires c κs =
     let after-take = c .before .before .before .before .before .before .before .before .before in
     let after-decode = after-take .before .before in
-    let s = after-decode .before .before .before .before .before .before .before .before in
-    let k = tables (s .args .groups .now) (s .args .tracks .now) (s .args .segments .now) (s .args .text .now) in (
+    let s = after-decode .before .before .before .before .before .before .before .before .before .before in
+    let k = lending (s .args .groups .now) (s .args .tracks .now) (s .args .segments .now) (s .args .text .now) (s .args .renames .now) (s .args .office .now) in (
       search needs,
       (
         search needs,
@@ -52,8 +52,8 @@ returns c =
     let after-told-of = after-tell .before .before .before in
     let after-take = after-told-of .before .before .before in
     let after-decode = after-take .before .before in
-    let s = after-decode .before .before .before .before .before .before .before .before in
-    let k = tables (s .args .groups .now) (s .args .tracks .now) (s .args .segments .now) (s .args .text .now) in
+    let s = after-decode .before .before .before .before .before .before .before .before .before .before in
+    let k = lending (s .args .groups .now) (s .args .tracks .now) (s .args .segments .now) (s .args .text .now) (s .args .renames .now) (s .args .office .now) in
     let o = after-take .take in
     let d = after-decode .decode .ensures in
     let start = deskOf (s .args .state .now) in

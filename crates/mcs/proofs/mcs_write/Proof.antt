@@ -1,6 +1,6 @@
 -- `mcs::mcs_write`: the state read out, `desk_exchange::write`, then its end.
 use mathlib.Core.Path.{_≡_, ap, _∙_}
-use Rattle.catalogue_tables.specs.Tables.{Tables, tables}
+use Rattle.catalogue_titles.specs.Lent.{Lent, lending}
 use Rattle.desk_state.specs.declared.Desk.{Desk}
 use Rattle.desk_replies.specs.Replies.{leftBy}
 use Rattle.desk_exchange.specs.Write.{writeCall}
@@ -13,10 +13,10 @@ use Rattle.mcs.proofs.mcs_write.Tie as tie
 
 -- what the call left
 abbrev begun : tie.After-write → tie.Start
-begun m = m .before .before .before .before .before .before .before .before .before
+begun m = m .before .before .before .before .before .before .before .before .before .before .before
 
-abbrev lent : tie.Start → Tables
-lent s = tables (s .args .groups .now) (s .args .tracks .now) (s .args .segments .now) (s .args .text .now)
+abbrev lent : tie.Start → Lent
+lent s = lending (s .args .groups .now) (s .args .tracks .now) (s .args .segments .now) (s .args .text .now) (s .args .renames .now) (s .args .office .now)
 
 left-is : (m : tie.After-write) → let s = begun m in leftBy (m .write .result) ≡ writeCall (lent s) (deskOf (s .args .state .now)) (s .args .client) (s .args .service) (s .args .characteristic) (s .args .value .now)
 left-is m = let s = begun m in m .write .ensures ∙ ap (λ (d : Desk). writeCall (lent s) d (s .args .client) (s .args .service) (s .args .characteristic) (s .args .value .now)) (m .before .decode .ensures)

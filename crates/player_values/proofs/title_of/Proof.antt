@@ -1,32 +1,23 @@
--- `player_values::title_of`: nothing while Inactive, else the current track's title.
-use mathlib.Core.Path.{refl}
-use borrow.Author.Tests.{eq-eqb, ne-eqb}
+-- `player_values::title_of`: the octets of the part that is the title.
+use mathlib.Core.Path.{ap, _∙_}
+use Rattle.catalogue_titles.specs.declared.Part.{Part}
+use Rattle.catalogue_titles.specs.Titles.{octetsAt}
 use Rattle.player_values.specs.Values.{titleValue}
 use borrow.Author.Needs.{needs}
 use Rattle.player_values.proofs.title_of.Statement.{statement}
 use Rattle.player_values.proofs.title_of.Tie as tie
 
-sub-result : tie.Need-sub-result
-sub-result c = search needs
+title-part-requires : tie.Need-title-part-requires
+title-part-requires c κs = search needs
 
-part-result-start : tie.Need-part-result-start
-part-result-start c = search needs
-
-part-result-end : tie.Need-part-result-end
-part-result-end c = search needs
+cut-requires : tie.Need-cut-requires
+cut-requires c κs = search needs
 
 returns : tie.Need-returns
 unfolding titleValue
-returns c = rw (eq-eqb _ _ (c .before .if1 .taken)) refl
-
-title-requires : tie.Need-title-requires
-title-requires c κs = search needs
-
-returns-2 : tie.Need-returns-2
-unfolding titleValue
-returns-2 c = rw (ne-eqb _ _ (c .before .if1 .left)) (c .title .ensures)
+returns c =
+    let a = c .before .before .before .before .before .before .args in
+    c .cut .ensures .0 ∙ ap (λ (part : Part). octetsAt part (a .text .now) (a .office .now)) (c .before .title-part .ensures)
 
 pub title-of-spec : {M : Type 1} → statement M
-title-of-spec =
-    tie.close
-    (tie.spec sub-result part-result-start part-result-end returns title-requires returns-2)
+title-of-spec = tie.close (tie.spec title-part-requires cut-requires returns)

@@ -7,7 +7,7 @@ use Rattle.vectors.proofs.main.Statement.{statement}
 use Rattle.vectors.proofs.main.Tie as tie
 
 slice-aggregate-read-full : tie.Need-slice-aggregate-read-full
-slice-aggregate-read-full c = sym (length-replicate {0} {A = ℕ} 3145728 0)
+slice-aggregate-read-full c = sym (length-replicate {0} {A = ℕ} 4194304 0)
 
 read-full-requires : tie.Need-read-full-requires
 read-full-requires c κs = search needs

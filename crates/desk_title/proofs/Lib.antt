@@ -1,0 +1,4 @@
+-- The laws that belong to no one function.
+pub mod Lying
+pub mod Orders
+pub mod Settled

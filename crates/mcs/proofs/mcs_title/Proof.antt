@@ -1,0 +1,71 @@
+-- `mcs::mcs_title`: the state read out, `desk_title::which`, and what it says.
+use mathlib.Core.Path.{_≡_, ap, _∙_}
+use mathlib.Core.List.{List}
+use Prim.Native.Nat.{ℕ}
+use Rattle.ground.specs.Refusals.{Said, Left}
+use Rattle.catalogue_titles.specs.declared.Part.{Part}
+use Rattle.catalogue_titles.specs.Titles.{partValues}
+use Rattle.catalogue_titles.specs.Lent.{Lent, lending}
+use Rattle.desk_state.specs.declared.Desk.{Desk}
+use Rattle.desk_title.specs.Title.{titledBy, titleCall}
+use Rattle.mcs_state.specs.Codec.{deskOf}
+use Rattle.mcs.specs.declared.Told.{Told}
+use Rattle.mcs.specs.Calls.{toldOf, toldAfter, partAfter}
+use Rattle.mcs.proofs.Short.{titled-words, place-as-said}
+use borrow.Author.Needs.{needs}
+use Rattle.mcs.proofs.mcs_title.Statement.{statement}
+use Rattle.mcs.proofs.mcs_title.Tie as tie
+
+abbrev begun : tie.After-which → tie.Start
+begun w = w .before .before .before .before .before .before .before .before .before
+
+abbrev lent : tie.Start → Lent
+lent s = lending (s .args .groups .now) (s .args .tracks .now) (s .args .segments .now) (s .args .text .now) (s .args .renames .now) (s .args .office .now)
+
+-- what the call said, and the part
+said-is : (w : tie.After-which) → let s = begun w in titledBy (w .which .result) ≡ titleCall (lent s) (deskOf (s .args .state .now)) (s .args .service)
+said-is w = let s = begun w in w .which .ensures ∙ ap (λ (d : Desk). titleCall (lent s) d (s .args .service)) (w .before .decode .ensures)
+
+decode-requires : tie.Need-decode-requires
+decode-requires c κs = search needs
+
+which-requires : tie.Need-which-requires
+which-requires c κs = search needs
+
+told-of-requires : tie.Need-told-of-requires
+told-of-requires c κs = search needs
+
+tell-part-requires : tie.Need-tell-part-requires
+tell-part-requires c κs = search needs
+
+tell-place-requires : tie.Need-tell-place-requires
+tell-place-requires c κs = search needs
+
+returns : tie.Need-returns
+returns c =
+    let p = c .before .before .before in
+    let t = p .before .before .before in
+    let w = t .before in
+    let s = begun w in
+    let a = s .args in
+    let l = titleCall (lent s) (deskOf (a .state .now)) (a .service) in
+    let told = t .told-of .ensures ∙ ap (λ (x : Left Part). toldOf (x .said)) (said-is w) in (
+      ap (λ (x : Told). x .number) told,
+      (
+        p .tell-part .ensures
+            ∙ ap (λ (x : Told). toldAfter (x .granted) (partValues (w .which .result .part)) (a .part .now)) told
+            ∙ ap (λ (x : Part). toldAfter (l .said .isGranted) (partValues x) (a .part .now)) (ap (λ (x : Left Part). x .state) (said-is w)),
+        place-as-said _ (l .said) told (titled-words (lent s) (deskOf (a .state .now)) (a .service)) (a .track .now) (a .octet .now) _ _ (c .tell-place .ensures),
+      ),
+    )
+
+pub mcs-title-spec : {M : Type 1} → statement M
+mcs-title-spec =
+    tie.close
+    (tie.spec
+    decode-requires
+    which-requires
+    told-of-requires
+    tell-part-requires
+    tell-place-requires
+    returns)
