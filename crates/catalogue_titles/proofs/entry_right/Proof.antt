@@ -2,9 +2,10 @@
 use mathlib.Core.Path.{_≡_, _∙_}
 use Prim.Native.Nat.{_+_, _-_}
 use native.Mathlib.Omega.{arith}
-use lib.ListN.{length}
+use lib.ListN.{length, take, drop}
 use borrow.Author.Tests.{eq-eqb, ne-eqb, le-leb, lt-leb}
 use Rattle.ground.specs.Limits.{mostTitle}
+use Rattle.text.specs.Utf8.{textOf, isFine}
 use Rattle.catalogue_titles.specs.Titles.{entryRule}
 use borrow.Author.Needs.{needs}
 use Rattle.catalogue_titles.proofs.entry_right.Statement.{statement}
@@ -59,7 +60,7 @@ returns-4 c =
     let long : o .result + n .result - o .result ≡ a .len = omega arith in
     rw
     (ne-eqb (a .len) 0 (λ e. omega arith), le-leb (a .len) mostTitle (omega arith), le-leb (a .offset + a .len) (length (a .office .now)) (omega arith))
-    (c .is-text .ensures ∙ rw (long, o .ensures .0))
+    (c .is-text .ensures ∙ (λ k. isFine (textOf (take (long k) (drop (o .ensures .0 k) (a .office .now))))))
 
 pub entry-right-spec : {M : Type 1} → statement M
 entry-right-spec =
