@@ -19,11 +19,14 @@ enum { PARENT, FIRST_TRACK, TRACK_COUNT };
 enum { DURATION, STAMP, FIRST_SEGMENT, SEGMENT_COUNT, TITLE_OFFSET, TITLE_LENGTH };
 enum { RENAME_OFFSET, RENAME_LENGTH };
 
+/* The texts begin at a line of the cache, so that what a call takes does not depend on where a program has its tables. */
+#define CACHE_LINE 64
+
 typedef struct {
     uint32_t groups[GROUPS_ROOM], tracks[TRACKS_ROOM], segments[SEGMENTS_ROOM];
-    uint8_t text[TEXT_ROOM];
+    _Alignas(CACHE_LINE) uint8_t text[TEXT_ROOM];
     uint32_t renames[RENAMES_ROOM];
-    uint8_t office[OFFICE_ROOM];
+    _Alignas(CACHE_LINE) uint8_t office[OFFICE_ROOM];
     uint32_t length[LENT_TABLES]; /* as lent: in words, of the texts in octets */
 } tables;
 
