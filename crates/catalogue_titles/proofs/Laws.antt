@@ -11,6 +11,7 @@ use lib.Dec.{eqb, leb}
 use lib.ListN.{length, length-take, length-drop}
 use Rattle.ground.specs.Cases.{pick}
 use Rattle.ground.specs.Limits.{mostTitle, renameWords}
+use Rattle.ground.specs.Lists.{partFrom}
 use Rattle.ground.specs.Refusals.{Said, granted}
 use Rattle.ground.proofs.Bounded.{all-at}
 use Rattle.ground.proofs.Rows.{kept}
@@ -21,7 +22,7 @@ use Rattle.text.proofs.Law.{only-fine, fine-is-text}
 use Rattle.catalogue_tables.specs.Tables.{trackCount, titleOf}
 use Rattle.catalogue_check.specs.Catalogue.{catalogueRule, catalogueCarries, Right}
 use Rattle.catalogue_check.proofs.Laws.{is-right, title-inside, title-short, title-valid}
-use Rattle.catalogue_titles.specs.Titles.{renameOffsetOf, renameLengthOf, partFrom, entryRule, countRule, entriesRule, renamesRule, partOf, octetsAt, Inside}
+use Rattle.catalogue_titles.specs.Titles.{renameOffsetOf, renameLengthOf, entryRule, countRule, entriesRule, renamesRule, partOf, octetsAt, Inside}
 use Rattle.catalogue_titles.specs.Lent.{Lent, catalogueOf, lentRule, fitRows, lentSaid, Fit}
 
 -- neither row applies exactly where all rules hold

@@ -6,11 +6,11 @@ use mathlib.Core.Bool.{Bool, true, false, _&&_}
 use mathlib.Core.List.{List, [], _∷_}
 use Prim.Native.Nat.{ℕ, _+_, _*_, _≤_}
 use lib.Dec.{eqb, leb}
-use lib.ListN.{length, take, drop}
+use lib.ListN.{length}
 use denote.Ref.{RefT}
 use Rattle.ground.specs.Cases.{pick}
 use Rattle.ground.specs.Limits.{renameWords, mostTitle}
-use Rattle.ground.specs.Lists.{allBelow}
+use Rattle.ground.specs.Lists.{partFrom, allBelow}
 use Rattle.text.specs.Utf8.{textOf, isFine}
 use Rattle.catalogue_tables.specs.Tables.{wordIn, trackCount, titleOffsetOf, titleLengthOf}
 use Rattle.catalogue_titles.specs.declared.Part.{Part}
@@ -21,10 +21,6 @@ renameOffsetOf renames t = wordIn renameWords renames t 0
 
 abbrev pub renameLengthOf : List ℕ → ℕ → ℕ
 renameLengthOf renames t = wordIn renameWords renames t 1
-
--- a part of the office's text
-abbrev pub partFrom : ℕ → ℕ → List ℕ → List ℕ
-partFrom offset len text = take len (drop offset text)
 
 -- 224: "a length over 128, a part of length above 0 that is outside the text or not UTF-8"
 unfoldable pub entryRule : ℕ → ℕ → List ℕ → Bool

@@ -5,13 +5,13 @@ use mathlib.Core.List.{List, [], _∷_, _++_}
 use Prim.Native.Nat.{ℕ, _-_}
 use lib.Dec.{eqb, ltb}
 use lib.ListN.{length}
+use Rattle.ground.specs.Lists.{partFrom}
 use Rattle.ground.specs.Cases.{pick, has}
 use Rattle.ground.specs.Limits.{leastOutput}
 use Rattle.ground.specs.Refusals.{granted, Left, leaves, Row, row}
 use Rattle.catalogue_titles.specs.Lent.{Lent}
 use Rattle.desk_slots.specs.Characteristics.{readables, isIn}
 use Rattle.player_values.specs.Values.{sourceOf, valueOf}
-use Rattle.player_values.specs.Handing.{partFrom}
 use Rattle.desk_client.specs.declared.Account.{Account}
 use Rattle.desk_client.specs.Duties.{wasRead}
 use Rattle.desk_state.specs.declared.Desk.{Desk}

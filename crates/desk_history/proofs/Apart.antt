@@ -7,6 +7,7 @@ use Prim.Native.Nat.{ℕ, _<_, _-_}
 use lib.Dec.{leb, ltb}
 use lib.ListN.{length}
 use lib.Seq.{getD-set-same, getD-set-other, set-getD}
+use Rattle.ground.specs.Lists.{partFrom}
 use Rattle.ground.specs.Cases.{pick, has}
 use Rattle.ground.specs.Limits.{leastOutput}
 use Rattle.ground.specs.Refusals.{Said, granted, Left, leaves, keeping, Row, answered}
@@ -14,7 +15,6 @@ use Rattle.catalogue_titles.specs.Lent.{Lent}
 use Rattle.player_state.specs.Player.{renamed, deactivated}
 use Rattle.player_moves.specs.Clock.{advanced, activated}
 use Rattle.player_values.specs.Values.{sourceOf, valueOf}
-use Rattle.player_values.specs.Handing.{partFrom}
 use Rattle.desk_slots.specs.Slots.{serviceCount, clientCount, slotOf, serviceOf}
 use Rattle.desk_client.specs.declared.Link.{Link}
 use Rattle.desk_client.specs.declared.Account.{Account}

@@ -11,6 +11,10 @@ use Rattle.ground.specs.Refusals.{Said}
 abbrev pub part : {A : Type 0} → List A → ℕ → ℕ → List A
 part s a e = take (e - a) (drop a s)
 
+-- the elements from a place on, at most so many
+abbrev pub partFrom : {A : Type 0} → ℕ → ℕ → List A → List A
+partFrom from most s = take most (drop from s)
+
 -- a table whose front is filled; the rest stays
 abbrev pub filled : {A : Type 0} → List A → List A → List A
 filled front old = front ++ drop (length front) old

@@ -6,8 +6,8 @@ use Prim.Native.Nat.{ℕ, _+_, _-_, _≤_, _<_, min}
 use native.Mathlib.Omega.{arith}
 use lib.ListN.{length, take, drop, length-take}
 use lib.Seq.{length-take-le, take-all, take-take, take-add, drop-at}
+use Rattle.ground.specs.Lists.{partFrom}
 use Rattle.ground.proofs.Cases.{le-or}
-use Rattle.player_values.specs.Handing.{partFrom}
 
 module _ (xs : List ℕ) (len from : ℕ) (inside : from ≤ len) (held : len ≤ length xs) where
   rest : drop from (take len xs) ≡ take (len - from) (drop from xs)

@@ -5,11 +5,11 @@ ghost use Prim.Native.Nat.{_≤_, _<_, min};
 ghost use mathlib.Core.List.{_∷_, []};
 ghost use lib.ListN.{length, take};
 ghost use Rattle.ground.specs.Limits.{mostTitle};
-ghost use Rattle.ground.specs.Lists.{filled};
+ghost use Rattle.ground.specs.Lists.{filled, partFrom};
 ghost use Rattle.player_state.specs.Player.{nameOf};
 ghost use Rattle.player_values.specs.Values.{source, wordOctets, titlePart, titleValue, durationValue, positionValue, segmentsNow, trackNow, nextNow, parentNow, groupNow, objectOctets, valueOf};
 ghost use Rattle.player_moves.specs.Moves.{Sits};
-ghost use Rattle.player_values.specs.Handing.{heldOf, partFrom};
+ghost use Rattle.player_values.specs.Handing.{heldOf};
 
 // What the duration and the position read while there is no current track.
 const MINUS_ONE: u32 = 0xFFFF_FFFF;

@@ -10,7 +10,7 @@ use lib.ListN.{length, take, drop, replicate}
 use lib.Seq.{take-append-seam}
 use Rattle.ground.specs.Refusals.{granted, Left, leaves, keeping, Row}
 use Rattle.ground.specs.Limits.{mostTitle, leastOutput}
-use Rattle.ground.specs.Lists.{filled}
+use Rattle.ground.specs.Lists.{filled, partFrom}
 use Rattle.catalogue_titles.specs.Lent.{Lent, lending, catalogueOf, Fit}
 use Rattle.catalogue_titles.proofs.Laws.{fit-right}
 use Rattle.player_check.specs.Standing.{playerRule}
@@ -19,7 +19,7 @@ use Rattle.desk_slots.specs.Characteristics.{readables}
 use Rattle.desk_slots.proofs.SetLaws.{in-below}
 use Rattle.player_values.specs.declared.Held.{Held}
 use Rattle.player_values.specs.Values.{sourceOf, valueOf}
-use Rattle.player_values.specs.Handing.{heldOf, partFrom}
+use Rattle.player_values.specs.Handing.{heldOf}
 use Rattle.player_values.proofs.Fits.{player-sits, name-short, title-fits, value-fits}
 use Rattle.ground.proofs.Rows.{NoneApplies, through}
 use Rattle.desk_client.specs.declared.Link.{Link}

@@ -8,7 +8,7 @@ use lib.ListN.{length, take, drop, replicate, getD}
 use lib.Seq.{take-append-seam}
 use Rattle.ground.specs.Cases.{has}
 use Rattle.ground.specs.Limits.{mostTitle}
-use Rattle.ground.specs.Lists.{filled}
+use Rattle.ground.specs.Lists.{filled, partFrom}
 use Rattle.catalogue_titles.specs.Lent.{Lent, lending, catalogueOf}
 use Rattle.catalogue_titles.proofs.Laws.{fit-right}
 use Rattle.desk_slots.specs.Slots.{placeCount, characteristicOf, serviceOf, slotAt}
@@ -17,7 +17,6 @@ use Rattle.player_state.specs.declared.Player.{Player}
 use Rattle.player_check.specs.Standing.{playerRule}
 use Rattle.player_values.specs.Values.{source, valueOf}
 use Rattle.player_values.specs.declared.Held.{Held}
-use Rattle.player_values.specs.Handing.{partFrom}
 use Rattle.player_values.proofs.Fits.{player-sits, name-short, title-fits, value-fits}
 use Rattle.desk_client.specs.Client.{isControl, blankEntry, accountWith}
 use Rattle.desk_client.specs.Duties.{passedOn}

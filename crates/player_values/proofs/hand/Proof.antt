@@ -4,8 +4,7 @@ use mathlib.Core.List.{List}
 use Prim.Native.Nat.{ℕ, _+_, _-_}
 use native.Mathlib.Omega.{arith}
 use lib.ListN.{length, take, drop}
-use Rattle.ground.specs.Lists.{filled}
-use Rattle.player_values.specs.Handing.{partFrom}
+use Rattle.ground.specs.Lists.{filled, partFrom}
 use Rattle.player_values.proofs.Parts.{part-of}
 use borrow.Author.Needs.{needs}
 use Rattle.player_values.proofs.hand.Statement.{statement}
