@@ -57,7 +57,8 @@ textFor part text office = pick (part .renamed) office text
 unfoldable pub octetsAt : Part → List ℕ → List ℕ → List ℕ
 octetsAt part text office = partFrom (part .offset) (part .len) (textFor part text office)
 
--- document 01's values of a part: the text, 0 the card's and 1 the office's, the offset in it and the length
+-- the values of a part, which C is told: the text, the offset in it and the length. No document numbers the texts: 0 is the card's and 1 the office's
+-- (docs/DECISIONS.md, "Typists' own titles")
 abbrev pub partValues : Part → List ℕ
 partValues part = pick (part .renamed) 1 0 ∷ part .offset ∷ part .len ∷ []
 

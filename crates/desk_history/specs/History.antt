@@ -1,5 +1,5 @@
--- A history: a list of calls after a start, with one catalogue and one text of renamed titles throughout, "each call given the state the last one left". The ledger and the desk after
--- it, and what its takes hand out.
+-- A history: a list of calls after a start, with one catalogue and one text of renamed titles throughout, "each call given the state the last one left".
+-- The ledger and the desk after it, and what its takes hand out.
 -- Assumes nothing.
 use mathlib.Core.Path.{_≡_}
 use mathlib.Core.Bool.{Bool, true, _&&_}
