@@ -157,6 +157,9 @@ static void make_rows(void)
     make_uneven(&whole[3], "full, uneven");
     for (size_t k = 0; k < 4u; k++) {
         add_calls(&rows, &whole[k]);
+        if (k == 0) {
+            add_speeds(&rows, &whole[k]);
+        }
     }
     make_renamed(&renamed[0], "full, ASCII, all tracks renamed", ASCII);
     make_renamed(&renamed[1], "full, mixed, all tracks renamed", MIXED);

@@ -474,6 +474,15 @@ void add_calls(table *t, const catalogue *c)
     add_refusals(t, c);
 }
 
+void add_speeds(table *t, const catalogue *c)
+{
+    desk faster = playing(c);
+    make(&faster, c, written(0, MCS_PLAYBACK_SPEED, 32));
+    take_until(&faster, c, 0);
+    add(t, "advance, within a track, speed 32", c, plain(ADVANCE, 0, 0, 10), faster, ACCEPTED);
+    add(t, "advance, Paused", c, plain(ADVANCE, 0, 0, 10), paused(c, 3), ACCEPTED);
+}
+
 void add_renamed(table *t, const catalogue *c)
 {
     /* The same with a last title of the office that is no UTF-8. */

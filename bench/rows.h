@@ -46,6 +46,10 @@ typedef struct {
 /* Every call on a catalogue, and refusals of one. */
 void add_calls(table *t, const catalogue *c);
 
+/* An advance within a track at speed 32, and one while Paused, beside that at speed 0 among all calls: what the table of speeds
+ * costs. */
+void add_speeds(table *t, const catalogue *c);
+
 /* Some calls on a catalogue whose tracks the office has renamed. */
 void add_renamed(table *t, const catalogue *c);
 

@@ -1,4 +1,5 @@
 #include "arguments.h"
+#include "clock.h"
 #include "text.h"
 
 #include <string.h>
@@ -157,24 +158,33 @@ uint32_t value_length(const run *r, const ref_player *p, uint32_t characteristic
     }
 }
 
+/* The least time after which a player that plays has come so much further. */
+static uint32_t time_for(const ref_player *p, uint32_t further)
+{
+    uint64_t parts = (uint64_t)further * PARTS_OF_A_HUNDREDTH, e = e_of(p->speed);
+    return parts <= p->rest ? 0 : (uint32_t)((parts - p->rest + e - 1u) / e);
+}
+
 uint32_t some_time(dice *d, const run *r, const ref_player *p)
 {
     uint32_t left = has_track(r, p) ? end_of_track(track_word(&r->lent, p->track, DURATION)) - p->position : 100;
+    uint32_t until = one_in(d, 3) ? left : time_for(p, left), e = e_of(p->speed);
     switch (below(d, 8)) {
     case 0:
-        return ONE_OF(d, 0, 1, 0x7FFFFFFFu, 0x80000000u, 0xFFFFFFFFu, 0x08000000u);
+        return ONE_OF(d, 0, 1, 0x7FFFFFFFu, 0x80000000u, 0xFFFFFFFFu, 0x08000000u, (uint32_t)(((uint64_t)1 << 32) / e + 1u),
+                      (uint32_t)(((uint64_t)1 << 48) / e + 1u));
     case 1:
         return any_word(d);
     case 2:
-        return left;
+        return until;
     case 3:
-        return left + 1u;
+        return until + 1u;
     case 4:
-        return left - 1u;
+        return until - 1u;
     case 5:
-        return left / 4u;
+        return until / 4u;
     default:
-        return below(d, 60);
+        return below(d, one_in(d, 3) ? 3 : 60);
     }
 }
 

@@ -38,7 +38,8 @@ uint32_t reach(const run *r, const ref_player *p, uint8_t opcode);
 /* The length that a value has now, nearly enough to aim an offset at. */
 uint32_t value_length(const run *r, const ref_player *p, uint32_t characteristic);
 
-/* To the end of the track and beside it; nothing; and long times. */
+/* To the end of the track and beside it, by the speed of the player and as if that were 0; nothing; and long times, also such as would
+ * be short if the parts that they count, or the hundredths, had 32 bits. */
 uint32_t some_time(dice *d, const run *r, const ref_player *p);
 
 uint32_t some_group(dice *d, const run *r, uint32_t wrong);

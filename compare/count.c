@@ -1,4 +1,5 @@
 #include "count.h"
+#include "count_clock.h"
 #include "count_objects.h"
 #include "count_services.h"
 #include "count_titles.h"
@@ -427,6 +428,7 @@ void count_call(const run *r, const step *s, uint32_t share)
         count_services(r, s);
         count_numbers(r, s);
         count_titles(r, s);
+        count_clock(r, s);
     }
     if (writes_object(s->kind) || reads_object(s->kind)) {
         count_object(r, s);
@@ -702,6 +704,7 @@ static void tell_all(void)
     tell_services();
     tell_objects();
     tell_titles();
+    tell_clock();
     tell_truths();
     tell_places();
     tell_cards();

@@ -1,6 +1,7 @@
 #include "damage.h"
 #include "arguments.h"
 #include "draw.h"
+#include "random_state.h"
 #include "text.h"
 
 #include <string.h>
@@ -28,7 +29,7 @@ static void damage_player(dice *d, const run *r, step *s)
         first = group_word(&r->lent, now->group, FIRST_TRACK);
         count = group_word(&r->lent, now->group, TRACK_COUNT);
     }
-    switch (below(d, 12)) {
+    switch (below(d, 15)) {
     case 0:
         poke_word(s, at + MCS_IN_NAME_LENGTH, ONE_OF(d, 0, 1, 127, 128, 129, 255), 1);
         break;
@@ -66,6 +67,14 @@ static void damage_player(dice *d, const run *r, step *s)
     case 10: /* of the tracks about the current group's run, as the number plus 1 */
         at += MCS_IN_NEXT;
         poke_word(s, at, ONE_OF(d, 0, 1, first, first + 1u, first + count, first + count + 1u, 257, 0x80000001u, 0xFFFFFFFFu), 4);
+        break;
+    case 11:
+    case 12: /* about the bound, and such as would be right if their upper octets were dropped */
+        at += MCS_IN_REST;
+        poke_word(s, at, ONE_OF(d, 65535, 65536, 65536, 65537, now->rest | 1u << between(d, 16, 31), 0x80000000u, 0xFFFFFFFFu), 4);
+        break;
+    case 13:
+        poke_word(s, at + MCS_IN_REST, random_rest(d), 4);
         break;
     default:
         poke_word(s, at + MCS_IN_SPEED, any_word(d), 1);

@@ -61,6 +61,9 @@ static void draw_control(dice *d, const run *r, uint32_t wrong, step *s)
     if (beside_margin(r, p) && one_in(d, 2)) {
         opcode = MCS_OPCODE_PREVIOUS_SEGMENT; /* of the many positions few are there */
     }
+    if (p->rest != 0 && p->position == 0 && one_in(d, 4)) {
+        opcode = (uint8_t)ONE_OF(d, 0x30, 0x31, 0x32, 0x33, 0x34, 0x42, 0x43, 0x44); /* some of them lead to where it is */
+    }
     if (one_in(d, 24)) {
         opcode =
             (uint8_t)ONE_OF(d, 0x00, 0x06, 0x0F, 0x11, 0x14, 0x1F, 0x25, 0x2F, 0x35, 0x45, 0x50, 0x7F, 0x80, 0x81, 0xFF);
@@ -94,11 +97,12 @@ static void draw_write(dice *d, const run *r, uint32_t wrong, step *s)
         s->what = MCS_POSITION;
         s->length = one_in(d, wrong) ? ONE_OF(d, 0, 1, 2, 3, 5, 6, 8, 260) : 4;
         put_word(s->octets, one_in(d, 2) && has_track(r, p) ? random_position(d, &r->lent, p->track)
+                            : one_in(d, 6)                  ? p->position /* so that nothing but a rest changes */
                                                             : some_number(d, reach(r, p, 0x10)));
     } else if (kind < 14) {
         s->what = MCS_PLAYBACK_SPEED;
         s->length = one_in(d, wrong) ? ONE_OF(d, 0, 2, 4, 257) : 1;
-        s->octets[0] = (uint8_t)(one_in(d, 2) ? ONE_OF(d, 0, 64, 0x80, 0x7F, 0xFF) : any_word(d));
+        s->octets[0] = (uint8_t)(one_in(d, 2) ? ONE_OF(d, 0, 64, 0xC0, 0x80, 0x7F, 1, 0xFF) : any_word(d));
     } else {
         s->what = MCS_PLAYING_ORDER;
         s->length = one_in(d, wrong) ? ONE_OF(d, 0, 2, 4, 257) : 1;

@@ -145,6 +145,13 @@ void write_position(int64_t n)
     write_value(MCS_POSITION, value, 4);
 }
 
+void advance_by(uint32_t hundredths)
+{
+    step s = blank(ADVANCE);
+    s.number = hundredths;
+    makes(s, 0);
+}
+
 void read_name(uint32_t offset, uint32_t number)
 {
     step s = blank(READ);

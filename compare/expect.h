@@ -45,6 +45,7 @@ void set_name(const char *name);
 void subscribe_to(uint32_t client, uint32_t characteristic);
 void write_value(uint32_t characteristic, const void *octets, uint32_t length);
 void write_position(int64_t n);
+void advance_by(uint32_t hundredths);
 void read_name(uint32_t offset, uint32_t number);
 void takes(uint32_t client, uint32_t characteristic, const void *octets, uint32_t length);
 

@@ -201,13 +201,6 @@ static void command_cases(void)
     }
 }
 
-static void advance_by(uint32_t hundredths)
-{
-    step s = blank(ADVANCE);
-    s.number = hundredths;
-    makes(s, 0);
-}
-
 /* Other calls, from the same. */
 static void call_cases(void)
 {

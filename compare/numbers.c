@@ -1,4 +1,5 @@
 #include "numbers.h"
+#include "clock.h"
 #include "order.h"
 #include "words.h"
 
@@ -14,6 +15,8 @@ standing standing_in(const uint8_t state[MCS_STATE_OCTETS], uint32_t service)
                   .track = word_at(p + MCS_IN_TRACK),
                   .position = word_at(p + MCS_IN_POSITION),
                   .next = word_at(p + MCS_IN_NEXT),
+                  .rest = word_at(p + MCS_IN_REST),
+                  .speed = signed_octet(p[MCS_IN_SPEED]),
                   .seeking = signed_octet(p[MCS_IN_SEEKING])};
     return s;
 }
@@ -140,17 +143,17 @@ static standing gone_to(standing p, uint32_t group, uint32_t track)
 }
 
 /* "12 names a track of the current group that Next Track or the end of a track uses once, Goto's steps not" */
-static uint32_t named_or_next(const tables *t, const standing *p, uint8_t opcode, int64_t n)
+uint32_t named_or_next(const tables *t, const standing *p, uint8_t opcode, int64_t n)
 {
     return opcode == MCS_OPCODE_NEXT_TRACK && p->next != 0 ? p->next - 1u
                                                             : track_after(t, p->group, p->track, p->order, opcode, n);
 }
 
-/* Whether the track ends: "at D or beyond", but of a running recording never (W-202). */
+/* Whether the track ends: "at D or beyond", by the clock (W-211), but of a running recording never (W-202). */
 static int track_ends(const tables *t, const step *s, const standing *was)
 {
     return s->kind == ADVANCE && was->media == MCS_PLAYING && track_word(t, was->track, DURATION) != MCS_RUNNING &&
-           (uint64_t)was->position + s->number >= track_word(t, was->track, DURATION);
+           !stays_below(t, was, s->number);
 }
 
 /* A track move that the player offers while it is active. */

@@ -7,8 +7,8 @@
 
 /* Where a player stands, out of a state's octets. */
 typedef struct {
-    uint32_t media, order, mask, group, track, position, next;
-    int seeking;
+    uint32_t media, order, mask, group, track, position, next, rest;
+    int speed, seeking;
 } standing;
 standing standing_in(const uint8_t state[MCS_STATE_OCTETS], uint32_t service);
 
@@ -22,6 +22,9 @@ int may_be_written(const tables *t, const standing *p, uint32_t characteristic, 
 
 /* Whether a player's named next track breaks 201, in a catalogue that is right. */
 int is_misnamed(const tables *t, const standing *p);
+
+/* The track that a track move leads to, of Next Track the named one where there is one; NO_TRACK where it cannot be made. */
+uint32_t named_or_next(const tables *t, const standing *p, uint8_t opcode, int64_t n);
 
 /* Whether a call that began there and ended here is on another track or group, or was or is on none. */
 int ends_elsewhere(const standing *was, const standing *is);

@@ -92,7 +92,7 @@ static void make_catalogues(void)
     wrong->groups[MCS_GROUP_WORDS * 3 + PARENT] = 3;
 }
 
-/* ---- A line */
+/* ---- A line; where the rest of a player is not 0, it follows the position, with a + before it */
 
 static void write_slots(FILE *out, uint32_t word)
 {
@@ -114,6 +114,9 @@ static void write_service(FILE *out, const ref_service *s, const ref_link *links
     }
     fprintf(out, " %u %d %d | %u %u %u", (unsigned)p->order, p->speed, p->seeking, (unsigned)p->group, (unsigned)p->track,
             (unsigned)p->position);
+    if (p->rest != 0) {
+        fprintf(out, "+%u", (unsigned)p->rest);
+    }
     fprintf(out, p->next == 0 ? " -" : " %u", (unsigned)p->next - 1u);
     for (uint32_t k = 0; k < REF_CLIENTS; k++) {
         const ref_account *a = &s->accounts[k];
@@ -196,7 +199,7 @@ static void damage_step(step *s)
     enum { OF_PLAYER, OF_ALL, OF_LINK, OF_ACCOUNT };
     static const struct {
         uint8_t of, in, octets;
-    } PART[] = {{OF_ALL, 0, 0},
+    } PART[] = {{OF_PLAYER, MCS_IN_REST, 4},
                 {OF_PLAYER, MCS_IN_MEDIA_STATE, 1},
                 {OF_PLAYER, MCS_IN_ORDER, 1},
                 {OF_PLAYER, MCS_IN_SEEKING, 1},

@@ -31,9 +31,9 @@ static void print_service(FILE *out, const ref_service *s)
 {
     const ref_player *p = &s->player;
     uint32_t end = REF_NAME_ROOM;
-    fprintf(out, " mask 0x%08x ccid %u media %u order %u speed %d seeking %d group %u track %u position %u next %u name (%u)",
+    fprintf(out, " mask 0x%08x ccid %u media %u order %u speed %d seeking %d group %u track %u position %u next %u rest %u name (%u)",
             (unsigned)p->mask, p->ccid, p->media, p->order, p->speed, p->seeking, (unsigned)p->group, (unsigned)p->track,
-            (unsigned)p->position, (unsigned)p->next, (unsigned)p->name_len);
+            (unsigned)p->position, (unsigned)p->next, (unsigned)p->rest, (unsigned)p->name_len);
     for (; end > p->name_len && p->name[end - 1u] == 0; end--) {
     }
     for (uint32_t k = 0; k < end; k++) {

@@ -22,7 +22,13 @@ uint32_t random_mtu(dice *d)
                         : between(d, 23, one_in(d, 3) ? 517 : 140);
 }
 
-/* At the ends; at or beside a start, or as far past one as the margin of Previous Segment is; or anywhere. */
+/* None; at the bounds, and what halves and quarters of a hundredth leave; or any. */
+uint32_t random_rest(dice *d)
+{
+    return one_in(d, 3) ? 0 : one_in(d, 3) ? ONE_OF(d, 1, 16384, 32767, 32768, 49152, 65534, 65535) : below(d, 65536);
+}
+
+/* At the ends or near the last; at or beside a start, or as far past one as the margin of Previous Segment is; or anywhere. */
 uint32_t random_position(dice *d, const tables *t, uint32_t track)
 {
     uint32_t duration = end_of_track(track_word(t, track, DURATION)), starts = track_word(t, track, SEGMENT_COUNT);
@@ -32,7 +38,7 @@ uint32_t random_position(dice *d, const tables *t, uint32_t track)
         at = one_in(d, 2) ? 0 : duration;
         break;
     case 1:
-        at = below(d, duration + 1u);
+        at = one_in(d, 3) ? duration - below(d, duration < 400u ? duration + 1u : 400u) : below(d, duration + 1u);
         break;
     default:
         at = (starts == 0 ? 0 : t->segments[start]) + (one_in(d, 3) ? 298u : 0) + below(d, 4);
@@ -67,7 +73,8 @@ static void random_player(dice *d, const tables *t, ref_player *s)
     s->mask = random_mask(d);
     s->ccid = (uint8_t)any_word(d);
     s->order = (uint8_t)between(d, 1, 8);
-    s->speed = (int8_t)((int)below(d, 256) - 128);
+    s->speed = (int8_t)(one_in(d, 8) ? 0 : (int)below(d, 256) - 128);
+    s->rest = random_rest(d);
     if (group == group_count(t) || one_in(d, 6)) {
         return; /* Inactive */
     }
@@ -75,7 +82,8 @@ static void random_player(dice *d, const tables *t, ref_player *s)
     s->seeking = s->media == REF_SEEKING ? RUNG[below(d, 8)] : (int8_t)0;
     s->group = group;
     s->track = group_word(t, group, FIRST_TRACK) + below(d, group_word(t, group, TRACK_COUNT));
-    s->position = random_position(d, t, s->track);
+    /* Many moves lead to 0, and are to find a rest there. */
+    s->position = s->rest != 0 && one_in(d, 4) ? 0 : random_position(d, t, s->track);
     s->next = one_in(d, 2) ? 0 : 1u + group_word(t, group, FIRST_TRACK) + below(d, group_word(t, group, TRACK_COUNT));
 }
 

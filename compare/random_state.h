@@ -12,5 +12,6 @@ void random_state(dice *d, const tables *t, ref_state *s);
 uint32_t random_mask(dice *d);
 uint32_t random_position(dice *d, const tables *t, uint32_t track); /* the catalogue may be damaged */
 uint32_t random_mtu(dice *d);
+uint32_t random_rest(dice *d);
 
 #endif

@@ -1,6 +1,7 @@
 #include "run.h"
 #include "alter.h"
 #include "apart.h"
+#include "clock.h"
 #include "entries.h"
 #include "guard.h"
 #include "lend.h"
@@ -71,8 +72,8 @@ static int states_stay(run *r)
     return 1;
 }
 
-/* A state of another layout, a yes or no that is neither 1 nor 0, and a next track that may not be named are refused with 201,
- * before which 200, 224 and 205 come. A start looks at no state. */
+/* A state of another layout, a yes or no that is neither 1 nor 0, a next track that may not be named and a rest of a whole hundredth
+ * are refused with 201, before which 200, 224 and 205 come. A start looks at no state. */
 static int wrong_octets_are_refused(run *r, const step *s)
 {
     const uint8_t *octets = r->octets_before;
@@ -89,12 +90,15 @@ static int wrong_octets_are_refused(run *r, const step *s)
         if (is_misnamed(&r->lent, &p)) {
             return differs(r, "a next track that may not be named is not refused with 201 in its turn");
         }
+        if (p.rest >= PARTS_OF_A_HUNDREDTH) {
+            return differs(r, "a rest over 65,535 is not refused with 201 in its turn");
+        }
     }
     return plain_truths(octets) || differs(r, "a yes or no that is neither 1 nor 0 is not refused with 201 in its turn");
 }
 
-/* What both did to the services, in which order they served, and what they did with the numbers of objects and with titles is what it
- * has to be. */
+/* What both did to the services, in which order they served, and what they did with the numbers of objects, with titles and with the
+ * clock is what it has to be. */
 static int services_are_right(run *r, const step *s)
 {
     const answer *a = &r->library_said;
@@ -107,6 +111,7 @@ static int services_are_right(run *r, const step *s)
     }
     wrong = wrong == NULL ? wrong_number(&r->lent, s, a, octets, r->octets) : wrong;
     wrong = wrong == NULL ? wrong_title(&r->lent, s, a, octets, r->octets) : wrong;
+    wrong = wrong == NULL && a->number == 0 ? wrong_clock(&r->lent, s, octets, r->octets) : wrong;
     return wrong == NULL || differs(r, wrong);
 }
 

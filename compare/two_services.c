@@ -91,7 +91,7 @@ static void start_cases(void)
             expect("the mask", word_at(at + MCS_IN_MASK), 0x11u << service);
             expect("the Content Control ID", at[MCS_IN_CCID], 7u + service);
         }
-        expect("the first octet", both->octets[MCS_AT_LAYOUT], 0x83);
+        expect("the first octet", both->octets[MCS_AT_LAYOUT], 0x84);
     }
 }
 
@@ -102,7 +102,7 @@ static void layout_cases(void)
     for (uint32_t octet = 0; octet < 256; octet++) {
         four_clients("the first octet of a state");
         poke_number(MCS_AT_LAYOUT, octet, 1);
-        calls_give(octet == 0x83 ? 0 : MCS_BAD_STATE);
+        calls_give(octet == 0x84 ? 0 : MCS_BAD_STATE);
     }
 }
 

@@ -19,6 +19,8 @@
 #define upper_writes(t, ...) upper_writes(HERE(t), __VA_ARGS__)
 #define upper_controls(t, ...) upper_controls(HERE(t), __VA_ARGS__)
 #define upper_writes_object(t, ...) upper_writes_object(HERE(t), __VA_ARGS__)
+#define upper_sets_speed(t, ...) upper_sets_speed(HERE(t), __VA_ARGS__)
+#define upper_plays_half(t) upper_plays_half(HERE(t))
 #define upper_confirms(t, ...) upper_confirms(HERE(t), __VA_ARGS__)
 #define lower_subscribes(t, ...) lower_subscribes(HERE(t), __VA_ARGS__)
 #define lower_unsubscribes(t, ...) lower_unsubscribes(HERE(t), __VA_ARGS__)

@@ -69,6 +69,10 @@ static const track_line long_titles_tracks[] = {
      0, {0}},
 };
 
+/* An hour at the greatest playback speed, which is nearly four times that of the recording, is 1,424,487 hundredths of it. */
+static const group_line meeting_groups[] = {{0, 1}};
+static const track_line meeting_tracks[] = {{1500000, 0, "Council meeting, with the public's questions", 0, {0}}};
+
 /* With characters of two octets, and longer than an answer at the least ATT_MTU. */
 const char *const SAMPLE_OFFICE[] = {"Frau Wei\xC3\x9F, 3. Mai: die \xC3\x9C" "berfahrt", NULL, NULL, NULL};
 
@@ -91,3 +95,4 @@ const char *const LONG_TITLES_OFFICE[] = {
 const catalogue_lines ARCHIVE_LINES = LINES(archive);
 const catalogue_lines TWINS_LINES = LINES(twins);
 const catalogue_lines LONG_TITLES_LINES = LINES(long_titles);
+const catalogue_lines MEETING_LINES = LINES(meeting);

@@ -158,15 +158,68 @@ static void track_position(struct tester *t)
     expect_silence(t);
 }
 
+/* 001, 3.8 and 3.8.1: a speed p that is written is that of the current track from then on, 2 to the power p / 64. Document 02,
+ * W-211: a hundredth by the clock is e 65,536ths of one of the track, with the whole number e for which "(2e−1)^64 ≤ 2^(1088+p) <
+ * (2e+1)^64", and nothing of them is lost. So after an hour the position is the whole part of 360,000 e / 65,536, in however many
+ * steps the hour passed. */
+static const struct {
+    int8_t speed;
+    uint32_t after_an_hour;
+} pace[] = {
+    {-128, 90000},  /* e is 16,384, a quarter of 65,536 */
+    {-64, 180000},  /* 32,768, the half */
+    {-37, 241138},  /* 43,898 */
+    {-32, 254558},  /* 46,341 */
+    {-1, 356121},   /* 64,830 */
+    {0, 360000},    /* 65,536 */
+    {1, 363922},    /* 66,250 */
+    {64, 720000},   /* 131,072, twice that */
+    {127, 1424487}, /* 259,320 */
+};
+
+/* In steps of a quarter of a second: at 0 and 64 each is whole hundredths of the track, at the other speeds none is. While it plays
+ * at a constant speed, the position is not sent (001, 3.7.1). */
+static void an_hour_passes(struct tester *t, int8_t speed, uint32_t after_an_hour)
+{
+    const struct setting playing = {3, 0, 0, 0, MCS_PLAYING};
+    preamble(t, &MEETING_LINES);
+    upper_orders(t, playing);
+    lower_subscribes(t, CCCD(MCS_POSITION));
+    upper_sets_speed(t, speed);
+    for (uint32_t step = 0; step < 4 * 3600; step++) {
+        upper_lets_pass(t, 25);
+    }
+    expect_silence(t);
+    expect_reads(t, MCS_POSITION, after_an_hour);
+}
+
+/* A write of the speed sets no position: half a hundredth that was played before is not lost (document 02, W-211). One by the clock
+ * at twice the speed is two, and then one at half speed makes the half a whole one. */
+static void speed_changes_while_playing(struct tester *t)
+{
+    const struct setting playing = {3, 1, 0, 700, MCS_PLAYING};
+    preamble(t, &SAMPLE_LINES);
+    upper_orders(t, playing);
+    upper_plays_half(t);
+    expect_reads(t, MCS_POSITION, 700);
+    upper_sets_speed(t, 64);
+    expect_reads(t, MCS_POSITION, 700);
+    upper_lets_pass(t, 1);
+    expect_reads(t, MCS_POSITION, 702);
+    upper_sets_speed(t, HALF_SPEED);
+    upper_lets_pass(t, 1);
+    expect_reads(t, MCS_POSITION, 703);
+}
+
 /* 3.8: Read, Write, Write Without Response, Notify; length left out */
 static void playback_speed(struct tester *t)
 {
-    static const uint8_t half[1] = {0xC0}, twice[1] = {0x40}; /* -64 and 64 of 001, Table 3.2 */
+    static const uint8_t twice[1] = {0x40}; /* 64 of 001, Table 3.2 */
 
     active(t);
     expect_reads(t, MCS_PLAYBACK_SPEED, 0);
     properties(t, MCS_PLAYBACK_SPEED, READ | WRITE | NOTIFY);
-    upper_writes(t, MCS_PLAYBACK_SPEED, half, 1);
+    upper_sets_speed(t, HALF_SPEED);
     expect_notified(t, MCS_PLAYBACK_SPEED, -64);
     /* Document 01's choice, against 001, 3.8.1: "Not owed: ... 8 and 15 to the client that wrote them." No case of the suite
      * asks for it. */
@@ -174,8 +227,12 @@ static void playback_speed(struct tester *t)
     expect_silence(t);
     expect_reads(t, MCS_PLAYBACK_SPEED, 64);
     lower_unsubscribes(t, CCCD(MCS_PLAYBACK_SPEED));
-    upper_writes(t, MCS_PLAYBACK_SPEED, half, 1);
+    upper_sets_speed(t, HALF_SPEED);
     expect_silence(t);
+    speed_changes_while_playing(t);
+    for (size_t k = 0; k < sizeof pace / sizeof pace[0]; k++) {
+        an_hour_passes(t, pace[k].speed, pace[k].after_an_hour);
+    }
 }
 
 /* 3.9: Read, Notify; length 1. Document 01's rungs: -4, 4, 8 and on. */

@@ -182,8 +182,8 @@ unsigned show_wrong_things(struct tester *t, unsigned *seen)
     t->desk.state[MCS_AT_SERVICE(TESTED(t)) + MCS_IN_ORDER] = 0;
     WRONG(end_case(t));
 
-    /* The other service is altered and nothing of it is notified; it is notified and is as it was before; its player is altered
-     * where a client disconnects. */
+    /* The other service is altered and nothing of it is notified, by a hundredth at its speed, which alters the rest behind the
+     * position alone; it is notified and is as it was before; its player is altered where a client disconnects. */
     begin(t);
     (void)mcs_desk_advance(&t->desk, OTHER(t), 1);
     WRONG(upper_lets_pass(t, 0));
@@ -214,6 +214,16 @@ unsigned show_wrong_things(struct tester *t, unsigned *seen)
     lower_controls(t, t->opcode, 0);
     WRONG(expect_repositioned(t, 700, 1500));
     begin(t);
-    WRONG(expect_time_passing(t, 700, 25));
+    WRONG(expect_time_passing(t, 700, 25, 25));
+
+    /* At half speed: a player that is paused is given no half of a hundredth; one that plays gets 12 and a half on in 25 by the
+     * clock, which is not 13, and in twice 25 it gets 25 on, which is not twice 12. */
+    begin(t);
+    lower_unsubscribes(t, CCCD(MCS_PLAYBACK_SPEED));
+    WRONG(upper_plays_half(t));
+    upper_controls(t, MCS_OPCODE_PLAY);
+    expect_notified(t, MCS_MEDIA_STATE, MCS_PLAYING);
+    WRONG(expect_time_passing(t, 700, 25, 13));
+    WRONG(expect_time_passing(t, 712, 25, 12));
     return shown;
 }

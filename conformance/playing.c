@@ -22,11 +22,37 @@ static void begin(struct tester *t, const struct start *start)
     expect_reads(t, MCS_MEDIA_STATE, t->initial);
 }
 
+/* Neither of the two sets the position, nor does what leads to Seeking: half a hundredth that was played before is not lost
+ * (document 02, W-211). */
+static void half_is_kept(struct tester *t, uint8_t end)
+{
+    struct setting playing = {3, 1, 0, 3000, MCS_PLAYING};
+    preamble(t, &SAMPLE_LINES);
+    upper_orders(t, playing);
+    upper_plays_half(t);
+    if (t->initial != MCS_PLAYING) {
+        upper_controls(t, t->initial == MCS_PAUSED ? MCS_OPCODE_PAUSE : t->seeks_by);
+        expect_notified(t, MCS_MEDIA_STATE, t->initial);
+    }
+    lower_controls(t, t->opcode, 0);
+    expect_result(t, t->opcode, MCS_RESULT_SUCCESS);
+    expect_notified(t, MCS_MEDIA_STATE, end);
+    if (end != MCS_PLAYING) {
+        upper_lets_pass(t, 100);
+        upper_controls(t, MCS_OPCODE_PLAY);
+        expect_notified(t, MCS_MEDIA_STATE, MCS_PLAYING);
+    }
+    expect_reads(t, MCS_POSITION, 3000);
+    upper_lets_pass(t, 1);
+    expect_reads(t, MCS_POSITION, 3001);
+}
+
 /* 4.4.1 */
 static void play_or_pause(struct tester *t)
 {
     const uint8_t end = t->opcode == MCS_OPCODE_PLAY ? MCS_PLAYING : MCS_PAUSED;
 
+    half_is_kept(t, end);
     for (const struct start *start = starts; start < END_OF_STARTS; start++) {
         begin(t, start);
         /* Steps 3 to 5: the opcode; its result; Media State */
@@ -45,11 +71,15 @@ static void seek(struct tester *t)
     const int speed = t->opcode == MCS_OPCODE_FAST_FORWARD ? 4 : -4;
 
     for (const struct start *start = starts; start < END_OF_STARTS; start++) {
-        const long long duration = start->lines->tracks[0].duration, there = start->position + speed * 100LL;
+        const long long duration = start->lines->tracks[0].duration, sum = start->position + speed * 100LL;
+        const long long there = sum < 0 ? 0 : sum > duration ? duration : sum;
         if (start->position == 0 || start->position == duration) {
             continue;
         }
         begin(t, start);
+        if (t->initial == MCS_PLAYING) {
+            upper_plays_half(t);
+        }
         /* Step 3 */
         expect_reads(t, MCS_POSITION, start->position);
         /* Steps 4 and 5: the opcode and its result; by 001, 3.18.1.3 and 4, Seeking, and the Seeking Speed of 3.9 */
@@ -60,7 +90,16 @@ static void seek(struct tester *t)
         expect_silence(t);
         /* Step 6, a second later: the position has moved in the opcode's direction. */
         upper_lets_pass(t, 100);
-        expect_reads(t, MCS_POSITION, there < 0 ? 0 : there > duration ? duration : there);
+        expect_reads(t, MCS_POSITION, there);
+        /* That set the position, so that half a hundredth which was played before is gone (document 02, W-211): another one is not
+         * seen either. At its end the track would be over. */
+        if (t->initial == MCS_PLAYING && there < duration) {
+            upper_controls(t, MCS_OPCODE_PLAY);
+            expect_notified(t, MCS_MEDIA_STATE, MCS_PLAYING);
+            expect_notified(t, MCS_SEEKING_SPEED, 0);
+            upper_lets_pass(t, 1);
+            expect_reads(t, MCS_POSITION, there);
+        }
     }
 }
 

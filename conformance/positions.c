@@ -7,16 +7,22 @@ static const catalogue_lines *const catalogues[] = {&SAMPLE_LINES, &ARCHIVE_LINE
 #define CATALOGUES (sizeof catalogues / sizeof catalogues[0])
 
 /* How time passes after a step, of which the suite says nothing, though over the air some passes: not at all, or a quarter of a
- * second; where the player is Seeking, forward or backward (SEEKING_GOES_ON). */
+ * second; where the player is Playing, as it was recorded or at half speed, of which it says nothing either; where it is Seeking,
+ * forward or backward (SEEKING_GOES_ON). At half speed, when half a hundredth was played before the step, the quarter is 12 and a
+ * half hundredths, of which the position shows 12: the step has set the position, and so the half before it is gone (document 02,
+ * W-211). */
 static const struct clock {
     uint32_t passes;
+    int8_t speed;
+    uint32_t played;
     uint8_t seeks_by;
 } clocks[] = {
-    {0, MCS_OPCODE_FAST_FORWARD},
-    {25, MCS_OPCODE_FAST_FORWARD},
-    {25, MCS_OPCODE_FAST_REWIND},
+    {0, 0, 0, MCS_OPCODE_FAST_FORWARD},
+    {25, 0, 25, MCS_OPCODE_FAST_FORWARD},
+    {25, HALF_SPEED, 12, MCS_OPCODE_FAST_FORWARD},
+    {25, HALF_SPEED, 12, MCS_OPCODE_FAST_REWIND},
 };
-#define CLOCKS(t) ((t)->initial == MCS_SEEKING ? 3u : 2u)
+#define CLOCKS(t) ((t)->initial == MCS_SEEKING ? 4u : (t)->initial == MCS_PLAYING ? 3u : 2u)
 
 /* Step 1: the Upper Tester puts the player there. */
 static void begin(struct tester *t, const catalogue_lines *lines, const struct clock *clock, uint32_t position)
@@ -25,6 +31,11 @@ static void begin(struct tester *t, const catalogue_lines *lines, const struct c
     t->seeks_by = clock->seeks_by;
     preamble(t, lines);
     upper_orders(t, setting);
+    if (clock->speed == HALF_SPEED && t->initial == MCS_PLAYING) {
+        upper_plays_half(t);
+    } else {
+        upper_sets_speed(t, clock->speed);
+    }
 }
 
 /* 4.4.4. The offset of step 7, "a fraction of the Track Duration", in sixteenths of it. */
@@ -40,11 +51,11 @@ static void move_relative_by(struct tester *t, const catalogue_lines *lines, con
     /* Steps 4 to 6: ten before the start; less than 600, by 001 it is 0 */
     lower_controls(t, t->opcode, -(int64_t)duration - 10);
     expect_repositioned(t, position, 0);
-    position = expect_time_passing(t, 0, clock->passes);
+    position = expect_time_passing(t, 0, clock->passes, clock->played);
     /* Steps 7 to 9: within 600 of the offset */
     lower_controls(t, t->opcode, offset);
     expect_repositioned(t, position, position + offset);
-    position = expect_time_passing(t, position + offset, clock->passes);
+    position = expect_time_passing(t, position + offset, clock->passes, clock->played);
     /* Steps 10 to 12: the duration less that offset leads to the end, unless time that passed in Seeking led back. */
     end = position < offset ? duration - (offset - position) : duration;
     lower_controls(t, t->opcode, duration - offset);
@@ -132,7 +143,7 @@ static void segment_moves(struct tester *t)
             expect_repositioned(t, m->from, m->to);
             fetch_segments(t, object, &segments);
             expect_in_segment(t, &segments, m->to, segment_of(m, &segments));
-            expect_time_passing(t, m->to, clocks[k].passes);
+            expect_time_passing(t, m->to, clocks[k].passes, clocks[k].played);
         }
     }
 }
@@ -158,7 +169,7 @@ static void goto_segments(struct tester *t, const catalogue_lines *lines, const 
                 lower_controls(t, t->opcode, n1);
                 expect_repositioned(t, position, to1);
                 expect_in_segment(t, &listed, to1, n1);
-                position = expect_time_passing(t, to1, clock->passes);
+                position = expect_time_passing(t, to1, clock->passes, clock->played);
                 /* The same of round 2: segment N from the end */
                 lower_controls(t, t->opcode, -(int64_t)n2);
                 expect_repositioned(t, position, to2);

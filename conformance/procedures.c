@@ -135,11 +135,20 @@ static void valid_track_position_writes(struct tester *t)
                 }
                 expect_silence(t);
                 expect_reads(t, MCS_POSITION, third);
+                /* Between the writes half a hundredth is played at half speed, where the player plays: the next write sets the
+                 * position, and so that half is gone (document 02, W-211). */
+                if (setting.state == MCS_PLAYING) {
+                    upper_plays_half(t);
+                }
                 /* Steps 4 and 5: the same from the start */
                 lower_commands_position(t, two_thirds);
                 expect_notified(t, MCS_POSITION, two_thirds);
                 expect_silence(t);
                 expect_reads(t, MCS_POSITION, two_thirds);
+                if (setting.state == MCS_PLAYING) {
+                    upper_lets_pass(t, 1);
+                    expect_reads(t, MCS_POSITION, two_thirds);
+                }
             }
         }
     }
@@ -220,12 +229,19 @@ static void goto_segment_zero(struct tester *t)
         for (size_t s = 0; s < PLAYING_OR_PAUSED; s++) {
             struct setting setting = {3, 1, 0, 2345, active_states[s]};
             begin(t, catalogues[c], setting);
+            if (setting.state == MCS_PLAYING) {
+                upper_plays_half(t);
+            }
             expect_reads(t, MCS_POSITION, 2345);
             lower_controls(t, MCS_OPCODE_GOTO_SEGMENT, 0);
             expect_result(t, MCS_OPCODE_GOTO_SEGMENT, MCS_RESULT_SUCCESS);
             expect_silence(t);
             /* Less than 600 further; by 001, 3.18.1.11, not at all */
             expect_reads(t, MCS_POSITION, 2345);
+            /* Document 01: "0: nothing moves". So half a hundredth that was played before is not lost (document 02, W-211). */
+            upper_lets_pass(t, 1);
+            expect_silence(t);
+            expect_reads(t, MCS_POSITION, setting.state == MCS_PLAYING ? 2346 : 2345);
         }
     }
 }

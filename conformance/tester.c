@@ -64,6 +64,11 @@ void nothing_else_came(struct tester *t)
     t->received = 0;
 }
 
+static uint32_t rest_of(const struct tester *t, uint32_t service)
+{
+    return word_at(t->desk.state + MCS_AT_SERVICE(service) + MCS_IN_REST);
+}
+
 /* The octets of a service in the state, and those of its player, which stand before the clients' accounts. */
 #define SERVICE_OCTETS (MCS_AT_SERVICE(1u) - MCS_AT_SERVICE(0u))
 #define PLAYER_OCTETS MCS_IN_ACCOUNT(0u)
@@ -165,7 +170,10 @@ static uint32_t started(struct tester *t, uint32_t mask)
 }
 
 /* The players that are not tested play in the catalogue's last group with tracks, and its first track is named as the next one.
- * The Lower Tester subscribes when they are where they stay, so that nothing of them is owed. */
+ * At their speed, -96, a hundredth by the clock is less than one of the track: it is the rest behind the position, 23,170 65,536ths
+ * (document 02, W-211; 2^31 lies between the squares of 46,339 and 46,341). The Lower Tester subscribes when they are where they
+ * stay, so that nothing of them is owed. */
+#define OTHERS_REST 23170u
 static void begin_others(struct tester *t)
 {
     static const uint8_t order = OTHERS_ORDER, speed = 0xA0, play = MCS_OPCODE_PLAY, position[4] = {77, 0, 0, 0};
@@ -183,7 +191,8 @@ static void begin_others(struct tester *t)
                    mcs_desk_activate(&t->desk, s, group) == MCS_OK &&
                    mcs_desk_write(&t->desk, UPPER(t), s, MCS_NEXT_TRACK_OBJECT, named, sizeof named) == MCS_OK &&
                    mcs_desk_write(&t->desk, UPPER(t), s, MCS_POSITION, position, sizeof position) == MCS_OK &&
-                   mcs_desk_write(&t->desk, UPPER(t), s, MCS_CONTROL_POINT, &play, 1) == MCS_OK;
+                   mcs_desk_write(&t->desk, UPPER(t), s, MCS_CONTROL_POINT, &play, 1) == MCS_OK &&
+                   mcs_desk_advance(&t->desk, s, 1) == MCS_OK && rest_of(t, s) == OTHERS_REST;
             for (uint32_t bit = 0; bit < SLOTS; bit++) {
                 done = done && mcs_desk_subscribe(&t->desk, LOWER(t), s, slot_at(bit)) == MCS_OK;
             }
@@ -273,6 +282,19 @@ void upper_writes_object(struct tester *t, uint32_t characteristic, long long ob
     uint8_t octets[MCS_OBJECT_OCTETS];
     mcs_put_object(octets, (uint64_t)object);
     upper_writes(t, characteristic, octets, sizeof octets);
+}
+
+void upper_sets_speed(struct tester *t, int8_t speed)
+{
+    const uint8_t octet = (uint8_t)speed;
+    upper_writes(t, MCS_PLAYBACK_SPEED, &octet, 1);
+}
+
+void upper_plays_half(struct tester *t)
+{
+    upper_sets_speed(t, HALF_SPEED);
+    upper_lets_pass(t, 1);
+    require(t, rest_of(t, TESTED(t)) == 32768u, "a rest of %u 65,536ths, not half a hundredth", (unsigned)rest_of(t, TESTED(t)));
 }
 
 static bool is_at(const struct tester *t, struct setting setting)
@@ -655,7 +677,7 @@ void expect_repositioned(struct tester *t, uint32_t from, uint32_t to)
     expect_reads(t, MCS_MEDIA_STATE, t->initial);
 }
 
-uint32_t expect_time_passing(struct tester *t, uint32_t position, uint32_t hundredths)
+uint32_t expect_time_passing(struct tester *t, uint32_t position, uint32_t hundredths, uint32_t played)
 {
     const int64_t end = t->lines->tracks[word_at(t->desk.state + MCS_AT_SERVICE(TESTED(t)) + MCS_IN_TRACK)].duration;
     int64_t to = position;
@@ -663,9 +685,10 @@ uint32_t expect_time_passing(struct tester *t, uint32_t position, uint32_t hundr
         return position;
     }
     if (t->initial == MCS_PLAYING) {
-        to += hundredths;
+        to += played;
     } else if (t->initial == MCS_SEEKING) {
-        /* Document 01: "Fast Forward enters Seeking at 4, Rewind at -4"; "Seeking adds d times the seeking speed, held to 0..D". */
+        /* Document 01: "Fast Forward enters Seeking at 4, Rewind at -4"; "Seeking adds d times the seeking speed, held to 0..D".
+         * Document 02, W-211: "Seeking uses d as before", at any playback speed. */
         to += (t->seeks_by == MCS_OPCODE_FAST_FORWARD ? 4 : -4) * (int64_t)hundredths;
         to = to < 0 ? 0 : to > end ? end : to;
     }

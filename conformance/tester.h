@@ -27,6 +27,7 @@
 extern const catalogue_lines ARCHIVE_LINES;     /* many groups, tracks and segments; no two titles or durations alike */
 extern const catalogue_lines TWINS_LINES;       /* the same groups and stamps, and neighbours whose titles or durations are alike */
 extern const catalogue_lines LONG_TITLES_LINES; /* two groups of one track, each title 128 octets */
+extern const catalogue_lines MEETING_LINES;     /* a track that lasts more than an hour at every playback speed */
 
 /* What an office calls their tracks, by number; NULL for one that keeps the card's title (document 02, W-210). */
 extern const char *const SAMPLE_OFFICE[];      /* renames track 0 alone */
@@ -40,8 +41,9 @@ extern const char *const LONG_TITLES_OFFICE[]; /* of 128 octets too */
  * ATT_MTU and way of seeking.
  *
  * While a case is run on one service, the other stands beside it: its player plays, at a position and a speed that no case asks
- * for, with a next track named, and supports Play alone; the Lower Tester is subscribed to all of its slots. After every step its
- * octets in the state have to be what they were before, and nothing of it may have been notified. */
+ * for, with a rest that the clock has left behind the position and a next track named, and supports Play alone; the Lower Tester is
+ * subscribed to all of its slots. After every step its octets in the state have to be what they were before, and nothing of it may
+ * have been notified. */
 struct service {
     const char *tcid; /* the front of its cases' TCIDs */
     uint32_t number;  /* among the services of the core */
@@ -141,12 +143,20 @@ const char *title_of(const struct tester *t, uint32_t track);
 
 void upper_activates(struct tester *t, uint32_t group);
 void upper_renames(struct tester *t, const char *name);
-/* The core has no clock of its own: time passes when it is told so. */
+/* The core has no clock of its own: time passes when it is told so, whatever the playback speed (document 02, W-211: "wall time
+ * instead of progress"). */
 void upper_lets_pass(struct tester *t, uint32_t hundredths);
 /* The panel's writes; of the Media Control Point an opcode without a number. */
 void upper_writes(struct tester *t, uint32_t characteristic, const uint8_t *octets, size_t length);
 void upper_controls(struct tester *t, uint8_t opcode);
 void upper_writes_object(struct tester *t, uint32_t characteristic, long long object);
+void upper_sets_speed(struct tester *t, int8_t speed);
+
+/* The player plays, at a position that was set: at half speed it is now given half a hundredth, which is confirmed. The position
+ * does not show it. Another hundredth by the clock makes it a whole one; but where something sets the position before that, be it
+ * to where it was, the half is gone (document 02, W-211). */
+#define HALF_SPEED (-64) /* 001, Table 3.2 */
+void upper_plays_half(struct tester *t);
 
 /* Group, track, position, order and state, as the octets of the state have them, beside what the Lower Tester reads. */
 void upper_confirms(struct tester *t, struct setting setting);
@@ -266,8 +276,8 @@ void expect_not_completed(struct tester *t, struct setting from);
 /* What is expected after the case's opcode where it moves the position alone: result and Track Position, the state as it was. */
 void expect_repositioned(struct tester *t, uint32_t from, uint32_t to);
 
-/* Time passes in the case's initial state, from a position; where the position is then is expected and handed back. With 0 the
- * clock stands. */
-uint32_t expect_time_passing(struct tester *t, uint32_t position, uint32_t hundredths);
+/* Time passes in the case's initial state, from a position; where the position is then is expected and handed back. Played is how
+ * far it gets in Playing. With 0 the clock stands. */
+uint32_t expect_time_passing(struct tester *t, uint32_t position, uint32_t hundredths, uint32_t played);
 
 #endif

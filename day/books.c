@@ -24,7 +24,7 @@ static page pages[MCS_CLIENTS][MCS_SERVICES];
 typedef struct {
     uint32_t all, wrong;
 } tally;
-static tally calls, takes, agreements, titles, folders, nexts;
+static tally calls, takes, agreements, places, titles, folders, nexts;
 
 static int count(tally *t, int right)
 {
@@ -105,6 +105,14 @@ int book_agreement(int agrees) { return count(&agreements, agrees); }
 int book_title(int right) { return count(&titles, right); }
 int book_folder(int right) { return count(&folders, right); }
 int book_next(int right) { return count(&nexts, right); }
+
+/* ---- Where the tapes are */
+
+static tape_place tapes[MCS_SERVICES];
+
+void book_tape(uint32_t service, tape_place place) { tapes[service] = place; }
+tape_place tape_booked(uint32_t service) { return tapes[service]; }
+int book_place(int right) { return count(&places, right); }
 
 /* ---- Coming and going, and the round of the takes */
 
@@ -211,6 +219,8 @@ int print_books(void)
                          "the other, and what it owed, was the same after each, and the title was owed where it changed");
     others += print_tally("takes", &takes, "each to the device and of the slot whose turn it was, through both players");
     others += print_tally("values compared when nothing was owed", &agreements, "each device agreed with the player it follows");
+    others += print_tally("places of a tape", &places,
+                          "each where the clock on the wall, the speed and what was pressed have it, with nothing lost");
     others += print_tally("titles told, read or asked for", &titles,
                           "each the office's where it lent one for the track, else the card's; what was cut was refused");
     others += print_tally("folders drawn", &folders, "each with the folders and tracks that the catalogue has in it");

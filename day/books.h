@@ -1,10 +1,11 @@
-/* The books: what each device pressed and was told at each player, kept apart from the desk, and held against what the desk hands
- * out. */
+/* The books: what each device pressed and was told at each player, and where each player's tape has to be, kept apart from the
+ * desk, and held against what the desk hands out. */
 #ifndef BOOKS_H
 #define BOOKS_H
 
 #include <stdint.h>
 
+#include "clock.h"
 #include "service.h"
 
 /* A press whose result is still to come. Presses are counted for each device and player from 1; no press has the number 0. */
@@ -44,6 +45,12 @@ void book_leave(uint32_t who, const uint32_t held[MCS_SERVICES]);
  * was, and left alone the player that it was not of. */
 int book_take(const uint32_t owed[MCS_CLIENTS], uint32_t who, uint32_t place, int left_alone);
 
+/* Where the tape of a player has to be from now on, until this is booked again: what is not booked does not move it, and keeps the
+ * rest behind its position. And a place that the player has it at, and whether it is that one, which is handed back. */
+void book_tape(uint32_t service, tape_place place);
+tape_place tape_booked(uint32_t service);
+int book_place(int right);
+
 /* A folder that a device draws, and whether it is the catalogue's. A press of Next Track, and whether it led to the track whose
  * object number the player had as that of the next one, once where it was named, or stayed where it had none. Each hands back what
  * it was told. */
@@ -60,8 +67,8 @@ int book_title(int right);
 
 /* Prints the books. Whether every result went to the device that pressed, at its player, in the order of its presses, and none is
  * missing; every take was in turn; every call left the other player alone, and made the title owed rightly; every device agreed
- * with its players; every title was that of its track; every folder was the catalogue's; and every Next Track led where it
- * should. */
+ * with its players; every tape was where it had to be; every title was that of its track; every folder was the catalogue's; and
+ * every Next Track led where it should. */
 int print_books(void);
 
 #endif

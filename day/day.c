@@ -1,7 +1,7 @@
 /* An office's day on a card: four devices on one desk with two players, the generic one and a named one, over the same tables.
  * The pedals are at the generic player, the screen at the named one, and the headset at both. A person sees each result go to
- * the device that asked, a press at one player leave the other alone, the screen draw the folders and name a track in them, and
- * the titles that the typists' office gives to tracks beside the card's.
+ * the device that asked, a press at one player leave the other alone, the screen draw the folders and name a track in them, a tape
+ * that goes slower than it was recorded, and the titles that the typists' office gives to tracks beside the card's.
  *
  *     day [CARD]      the card's file; without one, the sample card
  *
@@ -136,6 +136,46 @@ static void second_pedal(void)
     tell_all();
 }
 
+#define HALF_SPEED (-64) /* 2 to the power -64/64 */
+
+static void hard_passage(void)
+{
+    uint32_t while_typing;
+
+    print_heading("Half past ten: a hard passage. The typist has the tape go at half speed, and it goes half as far by the clock");
+    press(LEFT_PEDAL, GENERIC, MCS_OPCODE_FIRST_TRACK);
+    while_typing = track_end(GENERIC) / 6u;
+    let_pass(GENERIC, while_typing);
+    set_speed(LEFT_PEDAL, GENERIC, HALF_SPEED);
+    tell_all();
+    let_pass(GENERIC, while_typing);
+    let_pass(GENERIC, 5);
+
+    print_heading("The pedal is lifted in the middle of a hundredth: its half waits as the rest, and makes a whole one afterwards");
+    press(LEFT_PEDAL, GENERIC, MCS_OPCODE_PAUSE);
+    let_pass(GENERIC, 100);
+    press(LEFT_PEDAL, GENERIC, MCS_OPCODE_PLAY);
+    let_pass(GENERIC, 5);
+    let_pass(GENERIC, 1);
+    tell_all();
+
+    print_heading("A little back: the tape winds as fast as ever, whatever the speed, and a place that is wound to has no rest");
+    press(LEFT_PEDAL, GENERIC, MCS_OPCODE_FAST_REWIND);
+    let_pass(GENERIC, 25);
+    press(LEFT_PEDAL, GENERIC, MCS_OPCODE_PLAY);
+    let_pass(GENERIC, 1);
+    tell_all();
+
+    print_heading("The speed is written back: the tape goes on as it was recorded, from where it was, and nothing is lost");
+    set_speed(LEFT_PEDAL, GENERIC, 0);
+    let_pass(GENERIC, while_typing);
+    press_with(LEFT_PEDAL, GENERIC, MCS_OPCODE_GOTO_SEGMENT, 0);
+    set_speed(LEFT_PEDAL, GENERIC, HALF_SPEED);
+    let_pass(GENERIC, 1);
+    set_speed(LEFT_PEDAL, GENERIC, 0);
+    tell_all();
+}
+
 static void headset_and_screen(void)
 {
     uint32_t part;
@@ -150,6 +190,13 @@ static void headset_and_screen(void)
     tell_all();
     set_order(HEADSET, GENERIC, 3);
     press_with(LEFT_PEDAL, GENERIC, MCS_OPCODE_GOTO_TRACK, 1000);
+    tell_all();
+
+    print_heading("At that speed the decoder reports hundredth by hundredth, and then ten seconds at once: the tape gets as far");
+    press(RIGHT_PEDAL, GENERIC, MCS_OPCODE_FIRST_TRACK);
+    let_pass_singly(GENERIC, 1000);
+    press(RIGHT_PEDAL, GENERIC, MCS_OPCODE_FIRST_SEGMENT);
+    let_pass(GENERIC, 1000);
     tell_all();
 
     print_heading("The screen reads a title in parts: a track more at the generic player is nothing to it, one at its own is");
@@ -226,6 +273,8 @@ static void noon(void)
 
 static void afternoon(void)
 {
+    uint32_t left;
+
     print_heading("Left pedal and headset go off with results waiting, and come back: they are told of new presses alone");
     press(LEFT_PEDAL, GENERIC, MCS_OPCODE_PLAY);
     press(RIGHT_PEDAL, GENERIC, MCS_OPCODE_PAUSE);
@@ -246,11 +295,13 @@ static void afternoon(void)
     press(SCREEN, NAMED, MCS_OPCODE_STOP);
     tell_all();
 
-    print_heading("The tape runs to the end of its track, at one player and then at the other");
+    print_heading("The tape runs to the end of its track: the slow one takes longer by the clock; then the one at the other player");
     press(RIGHT_PEDAL, GENERIC, MCS_OPCODE_PLAY);
     press(SCREEN, NAMED, MCS_OPCODE_PLAY);
     tell_all();
-    let_pass(GENERIC, track_end(GENERIC));
+    left = time_left(GENERIC);
+    let_pass(GENERIC, left > 0 ? left - 1u : 0);
+    let_pass(GENERIC, 1);
     tell_all();
     let_pass(NAMED, track_end(NAMED));
     tell_all();
@@ -340,6 +391,7 @@ int main(int count, char **words)
     both_players();
     folders(first, last, empty);
     second_pedal();
+    hard_passage();
     headset_and_screen();
     own_titles(first);
     noon();

@@ -26,6 +26,8 @@ static const uint32_t *track_record(uint32_t service)
     return desk.catalogue.tracks + (size_t)MCS_TRACK_WORDS * current_track(service);
 }
 
+static int is_running(uint32_t service) { return is_active(service) && track_record(service)[DURATION] == MCS_RUNNING; }
+
 uint32_t track_end(uint32_t service) { return is_active(service) ? end_of_track(track_record(service)[DURATION]) : 0; }
 
 static uint32_t waiting_of(uint32_t who, uint32_t service) { return word_at(account_at(who, service) + MCS_IN_WAITING); }
@@ -190,6 +192,64 @@ static uint32_t called(uint32_t service, uint32_t number)
     return number;
 }
 
+/* ---- The tapes, by the clock of the office */
+
+/* As the player has it; but where it is, as the books do. */
+static tape tape_in(uint32_t service)
+{
+    tape t;
+    t.at = tape_booked(service);
+    t.end = track_end(service);
+    t.running = is_running(service);
+    t.media_state = player_at(service)[MCS_IN_MEDIA_STATE];
+    t.speed = signed_octet(player_at(service)[MCS_IN_SPEED]);
+    t.seeking = signed_octet(player_at(service)[MCS_IN_SEEKING]);
+    return t;
+}
+
+static tape_place place_now(uint32_t service)
+{
+    tape_place now = {word_at(player_at(service) + MCS_IN_POSITION), word_at(player_at(service) + MCS_IN_REST)};
+    return now;
+}
+
+static void print_place(tape_place place)
+{
+    print_time(place.position);
+    if (place.rest != 0) {
+        printf("+%u", place.rest);
+    }
+}
+
+/* Something else than the clock has set the position, to where the player has it. Document 02, W-211: "The rest becomes 0 whenever
+ * anything but a clock step in Playing within a track sets the position." */
+static void book_position_set(uint32_t service)
+{
+    tape_place set = {place_now(service).position, 0};
+    book_tape(service, set);
+}
+
+static void compare_place(uint32_t service)
+{
+    tape_place now = place_now(service), due = tape_booked(service);
+    if (!book_place(now.position == due.position && now.rest == due.rest)) {
+        begin_desk_line("WRONG", service);
+        printf("the tape is at ");
+        print_place(now);
+        printf(", and has to be at ");
+        print_place(due);
+        end_line();
+    }
+}
+
+/* A step of the clock. */
+static void pass(uint32_t service, uint32_t hundredths)
+{
+    tape t = tape_in(service);
+    must(AT_PLAYER(service, mcs_desk_advance(&desk, service, hundredths)), "advance");
+    book_tape(service, tape_after(&t, hundredths, player_at(service)[MCS_IN_MEDIA_STATE] == MCS_PLAYING));
+}
+
 /* ---- Where a player stands */
 
 /* Asks for the title where it stands: it has to be the very octets of the text that it comes from. */
@@ -210,13 +270,14 @@ void show_player(uint32_t service)
 {
     const uint8_t *player = player_at(service);
     struct mcs_title title = ask_title(service);
+    compare_place(service);
     begin_desk_line("player", service);
     paint(BOLD);
     printf("%-8s  ", mcs_media_state_words(player[MCS_IN_MEDIA_STATE]));
     if (is_active(service)) {
         printf("group %u  track %u  ", word_at(player + MCS_IN_GROUP), current_track(service));
-        print_time(word_at(player + MCS_IN_POSITION));
-        if (track_record(service)[DURATION] == MCS_RUNNING) {
+        print_place(place_now(service));
+        if (is_running(service)) {
             printf(", still recording  ");
         } else {
             printf(" of ");
@@ -288,12 +349,15 @@ void introduce(void)
            "'#3 Play: Success' is the result of that device's own third press at that player.\n"
            "draw: what the device shows of the objects that it asked for; tracks are numbered from 0x1000 on, groups from 0x2000.\n"
            "lend: a title of the office's own for a track, beside the card's, of which no device is told.\n"
+           "time: what passes by the clock on the wall; at speed p a tape goes 2 to the power p/64 as far, at -64 half as far.\n"
+           "'0:15.02+32768' is where a tape is: its position, and the rest behind it in 65,536ths of a hundredth of a second.\n"
            "The takes go round the devices, and within a device on from its last, through generic and then named.\n");
 }
 
 void open_group(uint32_t service, uint32_t group)
 {
     must(AT_PLAYER(service, mcs_desk_activate(&desk, service, group)), "activate");
+    book_position_set(service);
     begin_desk_line("open", service);
     printf("group %u", group);
     end_line();
@@ -303,20 +367,42 @@ void open_group(uint32_t service, uint32_t group)
 void close_group(uint32_t service)
 {
     must(AT_PLAYER(service, mcs_desk_deactivate(&desk, service)), "deactivate");
+    book_position_set(service);
     begin_desk_line("close", service);
     printf("the group");
     end_line();
     show_player(service);
 }
 
-void let_pass(uint32_t service, uint32_t hundredths)
+static void show_time(uint32_t service, uint32_t hundredths, const char *how)
 {
-    must(AT_PLAYER(service, mcs_desk_advance(&desk, service, hundredths)), "advance");
     begin_desk_line("time", service);
     print_time(hundredths);
-    printf(" pass");
+    printf(" pass%s", how);
     end_line();
     show_player(service);
+}
+
+void let_pass(uint32_t service, uint32_t hundredths)
+{
+    pass(service, hundredths);
+    show_time(service, hundredths, "");
+}
+
+void let_pass_singly(uint32_t service, uint32_t hundredths)
+{
+    uint32_t k;
+    for (k = 0; k < hundredths; k++) {
+        pass(service, 1);
+        compare_place(service);
+    }
+    show_time(service, hundredths, ", hundredth by hundredth");
+}
+
+uint32_t time_left(uint32_t service)
+{
+    tape t = tape_in(service);
+    return time_to_end(&t);
 }
 
 void rename_player(uint32_t service, const char *name)
@@ -494,10 +580,56 @@ static void compare_next(uint32_t who, uint32_t service, uint64_t left, uint64_t
     }
 }
 
+/* Whether the result of a press that was accepted is Success, also where the device has not asked for results: a copy of the desk as
+ * it was before is asked, in which no other result of the device waits. */
+static int succeeds(uint32_t who, uint32_t service, const uint8_t *value, size_t len)
+{
+    struct mcs_desk asked = desk;
+    memcpy(asked.state, before, sizeof before);
+    must(mcs_desk_unsubscribe(&asked, who, service, MCS_CONTROL_POINT), "unsubscribe");
+    must(mcs_desk_subscribe(&asked, who, service, MCS_CONTROL_POINT), "subscribe");
+    must(mcs_desk_write(&asked, who, service, MCS_CONTROL_POINT, value, len), "press");
+    return asked.state[account_at(who, service) - desk.state + MCS_IN_RESULTS + 1] == MCS_RESULT_SUCCESS;
+}
+
+/* Whether a press that was accepted sets the position, be it to where it was. */
+static int press_sets_position(uint32_t who, uint32_t service, const uint8_t *value, size_t len)
+{
+    switch (value[0]) {
+    case MCS_OPCODE_PLAY:
+    case MCS_OPCODE_PAUSE:
+    case MCS_OPCODE_FAST_REWIND:
+    case MCS_OPCODE_FAST_FORWARD:
+        return 0;
+    case MCS_OPCODE_GOTO_SEGMENT: /* document 01: "0: nothing moves" */
+        return signed_word(value + 1) != 0 && succeeds(who, service, value, len);
+    default:
+        return succeeds(who, service, value, len);
+    }
+}
+
+/* The same of any other write. Document 01: "While Inactive the write is taken and alters nothing"; document 02, W-202, of a
+ * running recording: "A negative position write is taken and moves nothing." */
+static int write_sets_position(uint32_t service, uint32_t characteristic, const uint8_t *value)
+{
+    switch (characteristic) {
+    case MCS_POSITION:
+        return is_active(service) && !(is_running(service) && signed_word(value) < 0);
+    case MCS_TRACK_OBJECT:
+    case MCS_GROUP_OBJECT:
+        return 1;
+    default:
+        return 0;
+    }
+}
+
 static void write_control(uint32_t who, uint32_t service, const uint8_t *value, size_t len)
 {
     uint64_t left = object_now(who, service, MCS_TRACK_OBJECT), next = object_now(who, service, MCS_NEXT_TRACK_OBJECT);
     uint32_t number = AT_PLAYER(service, mcs_desk_write(&desk, who, service, MCS_CONTROL_POINT, value, len));
+    if (number == MCS_OK && press_sets_position(who, service, value, len)) {
+        book_position_set(service);
+    }
     begin_line("press", service, who);
     printf("#%u ", book_press(who, service, value[0], number == MCS_OK));
     print_opcode(value[0]);
@@ -524,6 +656,9 @@ void press_with(uint32_t who, uint32_t service, uint8_t opcode, int32_t number)
 static void write_value(uint32_t who, uint32_t service, uint32_t characteristic, const uint8_t *value, uint32_t len)
 {
     uint32_t number = AT_PLAYER(service, mcs_desk_write(&desk, who, service, characteristic, value, len));
+    if (number == MCS_OK && write_sets_position(service, characteristic, value)) {
+        book_position_set(service);
+    }
     if (number == MCS_OK && wants(who, service, characteristic)) {
         book_value(who, service, characteristic, value, len);
     }

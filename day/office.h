@@ -10,12 +10,14 @@ uint32_t open_office(const struct mcs_catalogue *c, struct mcs_place *place);
 /* Who is in the office, and how to read what follows. */
 void introduce(void);
 
-/* What the desk does, each at one player. */
+/* What the desk does, each at one player. Time passes by the clock on the wall, in one step or hundredth by hundredth. */
 void open_group(uint32_t service, uint32_t group);
 void close_group(uint32_t service);
 void let_pass(uint32_t service, uint32_t hundredths);
+void let_pass_singly(uint32_t service, uint32_t hundredths);
 void rename_player(uint32_t service, const char *name);
 uint32_t track_end(uint32_t service); /* 0 where there is no track */
+uint32_t time_left(uint32_t service); /* by the clock, until a tape that plays is at that end */
 
 /* Where a player stands, when it is not it that was called; and where its title does, and in which text. */
 void show_player(uint32_t service);

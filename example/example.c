@@ -1,5 +1,6 @@
 /* The smallest use of the library: one group, one track, one pedal that presses Play on the generic player and is told so, while
- * the named player, over the same track, stays as it is; the group as the object that a screen draws; and a title of the office's own.
+ * the named player, over the same track, stays as it is; the group as the object that a screen draws; a title of the office's own; and
+ * slow playback.
  * It includes mcs_desk.h and nothing else, and is C as well as C++; its exit status is 0, or the number of the first step that did
  * not give what documents 01 and 02 say. */
 #include "mcs_desk.h"
@@ -25,7 +26,7 @@ static struct mcs_desk desk = {{groups, 3, tracks, 6, NULL, 0, text, sizeof text
 int main(void)
 {
     const uint32_t pedal = 2;
-    const uint8_t play = MCS_OPCODE_PLAY;
+    const uint8_t play = MCS_OPCODE_PLAY, half = 0xC0; /* -64, and 2 to the power -64 / 64 is a half */
     uint8_t out[MCS_OUTPUT_OCTETS];
     uint32_t words[MCS_GROUP_ENTRY_WORDS];
     struct mcs_entries entries = {words, MCS_GROUP_ENTRY_WORDS, 0};
@@ -119,5 +120,20 @@ int main(void)
         return 26;
     if (mcs_desk_title(&desk, MCS_NAMED, &title) != MCS_OK || title.text != MCS_CARD_TEXT || title.length != 0)
         return 27;
+
+    /* At half the speed the host still tells what its clock says. After 1.01 seconds the position, which was 250, is 300 hundredths,
+     * and the library keeps half a hundredth: with one more hundredth of a second the position is 301. */
+    if (mcs_desk_write(&desk, pedal, MCS_GENERIC, MCS_PLAYBACK_SPEED, &half, 1) != MCS_OK)
+        return 28;
+    if (mcs_desk_advance(&desk, MCS_GENERIC, 101) != MCS_OK ||
+        mcs_desk_read(&desk, pedal, MCS_GENERIC, MCS_POSITION, 0, out, sizeof out, &length) != MCS_OK)
+        return 29;
+    if (length != 4 || out[0] != 300 - 256 || out[1] != 1 || out[2] != 0 || out[3] != 0)
+        return 30;
+    if (mcs_desk_advance(&desk, MCS_GENERIC, 1) != MCS_OK ||
+        mcs_desk_read(&desk, pedal, MCS_GENERIC, MCS_POSITION, 0, out, sizeof out, &length) != MCS_OK)
+        return 31;
+    if (length != 4 || out[0] != 301 - 256 || out[1] != 1)
+        return 32;
     return 0;
 }

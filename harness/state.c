@@ -31,6 +31,7 @@ static void service_of_octets(const uint8_t *from, ref_service *s)
     p->track = word_at(from + MCS_IN_TRACK);
     p->position = word_at(from + MCS_IN_POSITION);
     p->next = word_at(from + MCS_IN_NEXT);
+    p->rest = word_at(from + MCS_IN_REST);
     for (uint32_t k = 0; k < REF_CLIENTS; k++) {
         account_of_octets(from + MCS_IN_ACCOUNT(k), &s->accounts[k]);
     }
@@ -82,6 +83,7 @@ static void octets_of_service(const ref_service *s, uint8_t *to)
     put_word(to + MCS_IN_TRACK, p->track);
     put_word(to + MCS_IN_POSITION, p->position);
     put_word(to + MCS_IN_NEXT, p->next);
+    put_word(to + MCS_IN_REST, p->rest);
     for (uint32_t k = 0; k < REF_CLIENTS; k++) {
         octets_of_account(&s->accounts[k], to + MCS_IN_ACCOUNT(k));
     }
@@ -154,7 +156,7 @@ static int same_account(const ref_account *library, const ref_account *second, c
 static int same_player(const ref_player *library, const ref_player *second, char *what, size_t room)
 {
     int same = SAME(name_len) && SAME(mask) && SAME(ccid) && SAME(media) && SAME(order) && SAME(speed) && SAME(seeking) &&
-               SAME(group) && SAME(track) && SAME(position) && SAME(next);
+               SAME(group) && SAME(track) && SAME(position) && SAME(next) && SAME(rest);
     if (same && library->name_len <= REF_NAME_ROOM && memcmp(library->name, second->name, library->name_len) != 0) {
         if (what != NULL) {
             snprintf(what, room, "state: the octets of the name differ");

@@ -27,13 +27,13 @@
 extern "C" {
 #endif
 
-/* MCS_VERSION moves when a function of this file is added or changes its arguments or the numbers that it returns: it is 8 since
- * an office may rename tracks, so that every call that is lent the catalogue and a state is lent the office's titles too, and one
- * more call says where the title of a current track stands.
+/* MCS_VERSION moves when a function of this file is added or changes its arguments, what they mean or the numbers that it returns: it
+ * is 9 since mcs_advance is told the time that passes, whatever the playback speed, which it reckons itself. No function has other
+ * arguments than in version 8.
  * MCS_STATE_LAYOUT moves when the octets of a state change their number, place or meaning. A state's first octet says it
  * (MCS_STATE_MARK), so a stored state of another layout is refused, and not misread. */
-#define MCS_VERSION 8u
-#define MCS_STATE_LAYOUT 3u
+#define MCS_VERSION 9u
+#define MCS_STATE_LAYOUT 4u
 
 /* ---- Numbers that a call returns ------------------------------------------------------------------------------------------ */
 
@@ -49,8 +49,8 @@ extern "C" {
 #define MCS_BAD_RENAMES 224u
 /* The lent output of a read or a take is under MCS_OUTPUT_OCTETS octets. */
 #define MCS_SMALL_OUTPUT 205u
-/* The state breaks a rule for this catalogue, in either service or for any client; or it does not begin with MCS_STATE_MARK, or
- * one of its octets that say yes or no is neither 1 nor 0. */
+/* The state breaks a rule for this catalogue, in either service or for any client, a rest over 65,535 among them; or it does not begin
+ * with MCS_STATE_MARK, or one of its octets that say yes or no is neither 1 nor 0. */
 #define MCS_BAD_STATE 201u
 /* The client's number is over 3. */
 #define MCS_NO_CLIENT 202u
@@ -157,9 +157,9 @@ extern "C" {
 #define MCS_OFFICE_TEXT 1u /* the text of the office's titles */
 
 /* A duration is in hundredths of a second, at most MCS_MOST_DURATION; or MCS_RUNNING, which says that it is not yet known, since
- * the recording is still running. Its positions are then 0 to MCS_MOST_DURATION, the clock never ends the track, a negative write
- * of the position is accepted and moves nothing, and a Next Segment with no later start, or a Goto Segment that needs one, has
- * the result MCS_RESULT_NOT_COMPLETED. */
+ * the recording is still running. Its positions are then 0 to MCS_MOST_DURATION, the clock never ends the track and stays at the last
+ * of them, a negative write of the position is accepted and moves nothing, and a Next Segment with no later start, or a Goto Segment
+ * that needs one, has the result MCS_RESULT_NOT_COMPLETED. */
 #define MCS_MOST_DURATION 8640000u
 #define MCS_RUNNING 0xFFFFFFFFu
 
@@ -194,7 +194,8 @@ extern "C" {
 #define MCS_TITLE 5u            /* Track Title: text, the office's where the track is renamed, else the card's; read, notify */
 #define MCS_DURATION 6u         /* Track Duration: 4 octets, -1 while it is not yet known and while Inactive; read, notify */
 #define MCS_POSITION 7u         /* Track Position: 4 octets; read, write, notify */
-#define MCS_PLAYBACK_SPEED 8u   /* 1 octet; read, write, notify */
+#define MCS_PLAYBACK_SPEED 8u   /* 1 octet, signed; read, write, notify. Speed p is 2 to the power p / 64: -64 plays at half the speed
+                                 * of the recording, 0 as it was recorded, 64 at twice that. mcs_advance reckons with it */
 #define MCS_SEEKING_SPEED 9u    /* 1 octet; read, notify */
 #define MCS_SEGMENTS_OBJECT 10u /* Current Track Segments Object ID: 6 octets, or none while Inactive and of a track without
                                  * segments; read */
@@ -258,7 +259,7 @@ extern "C" {
  * refused. So the octets of a state that is taken, apart from those that mean nothing, are the encoding of what they mean, and
  * a call other than mcs_start that changes nothing leaves every octet as it was.
  */
-#define MCS_STATE_OCTETS 641u
+#define MCS_STATE_OCTETS 649u
 
 /* The first octet of a state. A state of layout 1 began with a name, and no UTF-8 text begins with an octet 0x80 to 0xBF. */
 #define MCS_STATE_MARK (0x80u + MCS_STATE_LAYOUT)
@@ -266,7 +267,7 @@ extern "C" {
 #define MCS_AT_LAYOUT 0u          /* 1 octet, MCS_STATE_MARK: mcs_start writes it, and every other call leaves it */
 #define MCS_AT_TURN 1u            /* 4 octets: the client that was served last, 0 to 3 */
 #define MCS_AT_LINK(client) (5u + 10u * (client))
-#define MCS_AT_SERVICE(service) (45u + 298u * (service))
+#define MCS_AT_SERVICE(service) (45u + 302u * (service))
 
 /* In the 10 octets of a client's link, which is the same to both services. */
 #define MCS_IN_CONNECTED 0u       /* 1 octet, yes or no: 1 or 0 */
@@ -276,7 +277,7 @@ extern "C" {
                                    * slot; 27 while not connected and after connect. A take looks from the next place on, round
                                    * the twenty-eight */
 
-/* In the 298 octets of a service: its player, and an account for each client. */
+/* In the 302 octets of a service: its player, and an account for each client. */
 #define MCS_IN_NAME 0u            /* 128 octets, of which the first MCS_IN_NAME_LENGTH says are the name. Those behind it mean
                                    * nothing: mcs_start makes them 0, and every other call leaves those that no name covers as
                                    * they were */
@@ -292,7 +293,17 @@ extern "C" {
 #define MCS_IN_POSITION 146u      /* 4 octets, hundredths of a second */
 #define MCS_IN_NEXT 150u          /* 4 octets: 0 where no next track is named, else the number of the named one, a track of the
                                    * current group, plus 1 */
-#define MCS_IN_ACCOUNT(client) (154u + 36u * (client))
+#define MCS_IN_REST 154u          /* 4 octets, 0 to 65,535, also while Inactive: the rest, how far the clock is beyond the position, in
+                                   * 65,536ths of a hundredth of a second. A step of mcs_advance in Playing within a track leaves
+                                   * it. Whatever else sets the position makes it 0, also where the position comes out as it was:
+                                   * Stop, Move Relative, moves of segment, track and group, writes of 7, 11 and 14, start,
+                                   * activate, deactivate, a step while Seeking and the end of a track. What sets none keeps it:
+                                   * Play, Pause, Fast Forward, Fast Rewind, Goto Segment 0, and a command with another result than
+                                   * Success; other writes, and one of 7 that moves nothing, a negative one on a running recording
+                                   * and any while Inactive; a step while Paused, and one that holds a running recording at
+                                   * MCS_MOST_DURATION. No value that a client reads shows it: for it alone nothing is owed and no
+                                   * value counts as changed */
+#define MCS_IN_ACCOUNT(client) (158u + 36u * (client))
 
 /* In the 36 octets of a client's account in a service. Slots are the bits 0 to 13 for the characteristics 1, 4, 5, 6, 7, 8, 9, 11, 12,
  * 13, 14, 15, 17, 18. */
@@ -388,7 +399,14 @@ uint32_t mcs_activate(MCS_CATALOGUE, MCS_OFFICE_TITLES, uint8_t state[MCS_STATE_
 /* Deactivate: no current track. Refusals: 200, 224, 201, 219. */
 uint32_t mcs_deactivate(MCS_CATALOGUE, MCS_OFFICE_TITLES, uint8_t state[MCS_STATE_OCTETS], uint32_t service, MCS_PLACE);
 
-/* Advance: d hundredths of a second pass for this service. Refusals: 200, 224, 201, 219. */
+/* Advance: d hundredths of a second of wall time pass for this service. In Playing the core reckons them by the playback speed p that
+ * it has then: they are d times e 65,536ths of a hundredth, where e is the whole number nearest to 65,536 times 2 to the power p / 64;
+ * a table has it for each speed, and that table is proved. Together with the rest of the steps before (MCS_IN_REST) they move the
+ * position on by the whole hundredths in them, of which more than MCS_MOST_DURATION count as that, and what is left over is the rest
+ * from then on; so many short steps within a track lead as far as one long one. A host hands in what its own clock says has passed,
+ * whatever the speed: it must no longer multiply that by the speed, nor hand in how far its decoder has come. Where the position comes
+ * to the end of the track or beyond, the track ends, one track in a call. While Seeking d counts as often as the seeking speed says,
+ * and the playback speed plays no part; while Paused or Inactive nothing is altered. Refusals: 200, 224, 201, 219. */
 uint32_t mcs_advance(MCS_CATALOGUE, MCS_OFFICE_TITLES, uint8_t state[MCS_STATE_OCTETS], uint32_t service, uint32_t d,
                      MCS_PLACE);
 

@@ -26,6 +26,12 @@
  * - A desk is two services of the host's GATT server, MCS_GENERIC and MCS_NAMED, with the same characteristics. The host knows
  *   by the attribute's handle which of them a client reads, writes or subscribes to, and a take says whose handle to notify. Both
  *   play the same catalogue, and a call to one is nothing to the other: where time passes for both, the host advances both.
+ * - An advance is told wall time: the hundredths of a second that have passed since the service's last one, at every playback speed
+ *   alike. The core reckons the speed itself, and keeps in the state what is left over below a hundredth of the recording. A host that
+ *   multiplied its time by the speed, or told how far its decoder came, as until MCS_VERSION 8, has to stop that, or the speed counts
+ *   twice. What its own clock counts below a hundredth of wall time is the host's to keep for the next advance. Where the speed is
+ *   written in between, a host that wants it to count from that moment on advances first, since a step is reckoned by the speed that
+ *   it finds.
  * - ATT_MTU and encryption are given when a client connects, which it does to both services, and stay until it disconnects. A
  *   host connects a client here when both are settled; where one changes later, it disconnects, connects and subscribes the
  *   client again.

@@ -1,4 +1,4 @@
-/* The desk player core, written along document 01 and the requests of document 02 that have landed: W-201 to W-210, and W-212 for
+/* The desk player core, written along document 01 and the requests of document 02 that have landed: W-201 to W-211, and W-212 for
  * the cue sheet. A comment in quotation marks is a sentence of document 01; where a request is named, and in the cue sheet's
  * part, it is one of document 02. */
 #include "ref.h"
@@ -852,11 +852,19 @@ static uint32_t order_list(const catalogue *c, uint32_t order, uint32_t group, u
     return count;
 }
 
+/* W-211: "The rest becomes 0 whenever anything but a clock step in Playing within a track sets the position." So all but that step
+ * set it by this, also where it comes out as it was. */
+static void set_position(ref_player *p, uint32_t position)
+{
+    p->position = position;
+    p->rest = 0;
+}
+
 static void go_to_track(ref_player *p, uint32_t track)
 {
     p->track = track;
     /* "Position becomes 0." */
-    p->position = 0;
+    set_position(p, 0);
 }
 
 /* "Activate: the group's first track in the order" and, of orders 1 and 2, "when a group is activated or moved to, its
@@ -876,7 +884,7 @@ static void leave_group(ref_player *p)
     p->seeking = 0;
     p->group = 0;
     p->track = 0;
-    p->position = 0;
+    set_position(p, 0);
     p->next = 0;
 }
 
@@ -1054,7 +1062,7 @@ static int next_without_later_start(const catalogue *c, ref_player *p)
     if (is_running(c, p->track)) {
         return 0;
     }
-    p->position = track_d(c, p->track);
+    set_position(p, track_d(c, p->track));
     return 1;
 }
 
@@ -1075,22 +1083,22 @@ static int segment_move(const catalogue *c, ref_player *p, int move, int64_t n)
     }
     switch (move) {
     case PREVIOUS:
-        p->position = previous_start(starts, count, p->position);
+        set_position(p, previous_start(starts, count, p->position));
         return 1;
     case NEXT:
         /* "Next: the least start above it, or D." */
         for (k = 0; k < count; k++) {
             if (starts[k] > p->position) {
-                p->position = starts[k];
+                set_position(p, starts[k]);
                 return 1;
             }
         }
         return next_without_later_start(c, p);
     case FIRST:
-        p->position = starts[0];
+        set_position(p, starts[0]);
         return 1;
     case LAST:
-        p->position = starts[count - 1u];
+        set_position(p, starts[count - 1u]);
         return 1;
     default:
         break;
@@ -1106,11 +1114,11 @@ static int segment_move(const catalogue *c, ref_player *p, int move, int64_t n)
         if (steps >= count) {
             return next_without_later_start(c, p);
         }
-        p->position = starts[steps];
+        set_position(p, starts[steps]);
     } else {
-        p->position = starts[count - 1u];
+        set_position(p, starts[count - 1u]);
         for (; steps > 0 && p->position > 0; steps--) {
-            p->position = previous_start(starts, count, p->position);
+            set_position(p, previous_start(starts, count, p->position));
         }
     }
     return 1;
@@ -1202,11 +1210,11 @@ static uint8_t control(const catalogue *c, ref_player *p, uint8_t opcode, int64_
         break;
     case 0x05:
         set_media(p, REF_PAUSED);
-        p->position = 0;
+        set_position(p, 0);
         break;
     case 0x10:
         /* "Move Relative: the sum, held to 0..D." "Segment moves and Move Relative keep the state." */
-        p->position = held((int64_t)p->position + n, track_d(c, p->track));
+        set_position(p, held((int64_t)p->position + n, track_d(c, p->track)));
         break;
     case 0x20:
     case 0x21:
@@ -1237,7 +1245,7 @@ static void write_position(const catalogue *c, ref_player *p, int64_t v)
         return;
     }
     d = track_d(c, p->track);
-    p->position = held(v >= 0 ? v : (int64_t)d + v, d);
+    set_position(p, held(v >= 0 ? v : (int64_t)d + v, d));
 }
 
 /* W-209: "11, 12, 14 may be written" */
@@ -1271,6 +1279,58 @@ static void write_object(const catalogue *c, ref_player *p, uint32_t characteris
         enter_group(c, p, object_at(value, GROUP_OBJECTS));
     }
     leave_seeking(p);
+}
+
+/* W-211: "A table of 256 entries gives e for each p from −128 to 127, the whole number with (2e−1)^64 ≤ 2^(1088+p) < (2e+1)^64".
+ * factors.py makes these lines, and asks that of each of them. */
+#define LEAST_SPEED (-128)
+static const uint32_t FACTOR[256] = {
+    16384, 16562, 16743, 16925, 17109, 17296, 17484, 17674, 17867, 18061, 18258, 18457, 18658, 18861, 19066, 19274,
+    19484, 19696, 19911, 20127, 20347, 20568, 20792, 21019, 21247, 21479, 21713, 21949, 22188, 22430, 22674, 22921,
+    23170, 23423, 23678, 23936, 24196, 24460, 24726, 24995, 25268, 25543, 25821, 26102, 26386, 26674, 26964, 27258,
+    27554, 27855, 28158, 28464, 28774, 29088, 29405, 29725, 30048, 30376, 30706, 31041, 31379, 31720, 32066, 32415,
+    32768, 33125, 33486, 33850, 34219, 34591, 34968, 35349, 35734, 36123, 36516, 36914, 37316, 37722, 38133, 38548,
+    38968, 39392, 39821, 40255, 40693, 41136, 41584, 42037, 42495, 42958, 43425, 43898, 44376, 44859, 45348, 45842,
+    46341, 46846, 47356, 47871, 48393, 48920, 49452, 49991, 50535, 51085, 51642, 52204, 52773, 53347, 53928, 54515,
+    55109, 55709, 56316, 56929, 57549, 58176, 58809, 59449, 60097, 60751, 61413, 62081, 62757, 63441, 64132, 64830,
+    65536, 66250, 66971, 67700, 68438, 69183, 69936, 70698, 71468, 72246, 73032, 73828, 74632, 75444, 76266, 77096,
+    77936, 78785, 79642, 80510, 81386, 82273, 83169, 84074, 84990, 85915, 86851, 87796, 88752, 89719, 90696, 91684,
+    92682, 93691, 94711, 95743, 96785, 97839, 98905, 99982, 101070, 102171, 103283, 104408, 105545, 106694, 107856, 109031,
+    110218, 111418, 112631, 113858, 115098, 116351, 117618, 118899, 120194, 121502, 122825, 124163, 125515, 126882, 128263, 129660,
+    131072, 132499, 133942, 135401, 136875, 138366, 139872, 141395, 142935, 144491, 146065, 147655, 149263, 150889, 152532, 154193,
+    155872, 157569, 159285, 161019, 162773, 164545, 166337, 168148, 169979, 171830, 173701, 175593, 177505, 179438, 181392, 183367,
+    185364, 187382, 189423, 191485, 193571, 195678, 197809, 199963, 202141, 204342, 206567, 208816, 211090, 213389, 215712, 218061,
+    220436, 222836, 225263, 227716, 230195, 232702, 235236, 237798, 240387, 243005, 245651, 248326, 251030, 253763, 256527, 259320
+};
+
+/* W-211: "the whole 65,536ths" */
+#define HUNDREDTH 65536u
+
+/* "Playing adds d; at D or beyond, the next track at 0, or, where none, Paused at D. One move per call." W-211: "A clock step of d in
+ * Playing adds d times e to the rest, advances by the whole 65,536ths (more than 8,640,000 counts as that) and keeps the rest, 0 to
+ * 65,535." The sum fits 50 bits. Whether the step "stays below D". */
+static int clock_step(const catalogue *c, ref_player *p, uint32_t d)
+{
+    uint64_t sum = p->rest + (uint64_t)d * FACTOR[p->speed - LEAST_SPEED], whole = sum / HUNDREDTH;
+    uint32_t end = track_d(c, p->track);
+
+    if (whole > LONGEST_DURATION) {
+        whole = LONGEST_DURATION;
+    }
+    if (p->position + whole < end) {
+        p->position += (uint32_t)whole;
+        p->rest = (uint32_t)(sum % HUNDREDTH);
+        return 1;
+    }
+    if (is_running(c, p->track)) {
+        /* Request W-202: "Advance never ends such a track; at 8,640,000 it stays there in its state." Nothing but a clock step sets
+         * the position there, and nothing of it that lies behind is played: the rest stays what it was before the step. */
+        p->position = end;
+    } else if (!track_move(c, p, NEXT, 0)) {
+        set_media(p, REF_PAUSED);
+        set_position(p, end);
+    }
+    return 0;
 }
 
 /* ---- Values */
@@ -1434,6 +1494,10 @@ static int player_stands(const catalogue *c, const ref_player *p)
         return 0;
     }
     if (p->order < 1 || p->order > 8 || p->media > REF_SEEKING) {
+        return 0;
+    }
+    /* W-211: "201 also for a rest over 65,535", which is all that is asked of it, while Inactive too. */
+    if (p->rest >= HUNDREDTH) {
         return 0;
     }
     /* "Outside Seeking the speed is 0." */
@@ -1765,22 +1829,10 @@ uint32_t ref_advance(REF_CATALOGUE, REF_TITLES, ref_state *state, uint32_t servi
     p = &state->services[service].player;
     before = *p;
     if (p->media == REF_PLAYING) {
-        /* "Playing adds d; at D or beyond, the next track at 0, or, where none, Paused at D. One move per call." Request
-         * W-202, of a running recording: "Advance never ends such a track; at 8,640,000 it stays there in its state." */
-        uint64_t to = (uint64_t)p->position + d;
-        uint32_t end = track_d(&c, p->track);
-        if (to < end) {
-            p->position = (uint32_t)to;
-            quiet = 1;
-        } else if (is_running(&c, p->track)) {
-            p->position = end;
-        } else if (!track_move(&c, p, NEXT, 0)) {
-            set_media(p, REF_PAUSED);
-            p->position = end;
-        }
+        quiet = clock_step(&c, p, d);
     } else if (p->media == REF_SEEKING) {
-        /* "Seeking adds d times the seeking speed, held to 0..D." */
-        p->position = held((int64_t)p->position + (int64_t)d * p->seeking, track_d(&c, p->track));
+        /* "Seeking adds d times the seeking speed, held to 0..D." W-211: "Seeking uses d as before." */
+        set_position(p, held((int64_t)p->position + (int64_t)d * p->seeking, track_d(&c, p->track)));
     }
     end_call(&c, &before, &state->services[service], state->links, NO_CLIENT, NOTHING, quiet);
     return 0;

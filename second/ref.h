@@ -25,7 +25,7 @@
 
 /* The first octet of a state, which tells the layout of those behind it. No UTF-8 text begins with such an octet, so that octets
  * which begin with a name are not taken for a state. */
-#define REF_STATE_LAYOUT 3u
+#define REF_STATE_LAYOUT 4u
 #define REF_STATE_MARK (0x80u + REF_STATE_LAYOUT)
 
 /* "State: 0 Inactive, 1 Playing, 2 Paused, 3 Seeking." */
@@ -57,6 +57,7 @@ typedef struct {
     uint32_t track;
     uint32_t position;
     uint32_t next;     /* W-209: 12 "names a track": its number plus 1, or 0 where none is named */
+    uint32_t rest;     /* W-211: how far playback is past the position, in 65,536ths of a hundredth of a second: "0 to 65,535" */
 } ref_player;
 
 /* What is a client's in one service. */
@@ -130,6 +131,7 @@ uint32_t ref_start(REF_CATALOGUE, REF_TITLES, const uint8_t *name0, size_t name0
 uint32_t ref_set_name(REF_CATALOGUE, REF_TITLES, ref_state *state, uint32_t service, const uint8_t *name, size_t name_len, REF_PLACE);
 uint32_t ref_activate(REF_CATALOGUE, REF_TITLES, ref_state *state, uint32_t service, uint32_t group, REF_PLACE);
 uint32_t ref_deactivate(REF_CATALOGUE, REF_TITLES, ref_state *state, uint32_t service, REF_PLACE);
+/* W-211: "The decoder will report wall time instead of progress.": d is in hundredths of a second, whatever the playback speed. */
 uint32_t ref_advance(REF_CATALOGUE, REF_TITLES, ref_state *state, uint32_t service, uint32_t d, REF_PLACE);
 uint32_t ref_connect(REF_CATALOGUE, REF_TITLES, ref_state *state, uint32_t client, uint32_t mtu, uint8_t encrypted, REF_PLACE);
 uint32_t ref_disconnect(REF_CATALOGUE, REF_TITLES, ref_state *state, uint32_t client, REF_PLACE);

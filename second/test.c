@@ -1,6 +1,6 @@
 /* Tests of the second program: cases whose answers were worked out by hand from the documents, then random calls, which are
- * made for the sanitizers, and whose 200, 207, 224, order of takes, titles and object numbers are worked out a second time. That it
- * gives the library's answers is not tried here; the comparison does that.
+ * made for the sanitizers, and whose 200, 207, 224, order of takes, titles, object numbers and clock are worked out a second time. That
+ * it gives the library's answers is not tried here; the comparison does that.
  *
  * Usage: test [histories [seed]]. A comment in quotation marks is a sentence of document 01; among the cue sheets, and where it
  * names a request, one of document 02. */
@@ -988,6 +988,10 @@ static void state_cases(void)
     EACH(0, 8) { s = good; p->group = p->track = 3; p->next = k; EQUAL(disconnects(4), k == 0 || k == 4 ? 202 : 201); }
     STANDS(p->order = 1; p->next = 3); STANDS(p->track = 2; p->next = 1); BROKEN(p->next = 0x1001); BROKEN(p->next = 0xFFFFFFFFu);
     BROKEN(p->next = 257); BROKEN(p->next = 0x80000001u);
+    /* W-211: "201 also for a rest over 65,535", and for no other, wherever the position is and whatever the state. */
+    EACH(0, 17) { STANDS(p->rest = (1u << k) - 1); STANDS(p->rest = k * 4095; p->position = 6000); STANDS(p->media = 1; p->rest = 65535); }
+    EACH(16, 32) { BROKEN(p->rest = 1u << k); BROKEN(p->rest = (1u << k) + 5; p->media = 1); BROKEN(p->rest = 0xFFFFFFFFu << k); }
+    BROKEN(p->rest = 0xFFFFFFFFu); STANDS(p->media = 3; p->seeking = 8; p->rest = 65535); BROKEN(p->media = 3; p->seeking = 8; p->rest = 65536);
     /* W-202: "The position is 0 to 8,640,000" */
     lent.words[TRACKS][0] = UNKNOWN; STANDS(p->position = END); BROKEN(p->position = END + 1); lend_sample();
     /* "connected with over 8 results or a result code not 1..4": two wait, PLAY and PAUSE. The octets behind eight results are
@@ -1012,6 +1016,7 @@ static void state_cases(void)
     /* While Inactive group, track and position are those of start. */
     s = good; EQUAL(deactivate(), 0); good = s; BROKEN(p->group = 1); BROKEN(p->track = 1); BROKEN(p->position = 1);
     BROKEN(p->media = 2); BROKEN(p->next = 1); BROKEN(p->next = 4); BROKEN(p->next = 0xFFFFFFFFu); STANDS(p->next = 0);
+    STANDS(p->rest = 1); STANDS(p->rest = 65535); BROKEN(p->rest = 65536); BROKEN(p->rest = 0xFFFFFFFFu);
 }
 
 /* ---- W-208: two services */
@@ -1042,10 +1047,10 @@ static void start_cases(void)
     /* Good in both. */
     STARTS("", 0, "", 0, 0, UNTOUCHED); STARTS(x, 128, x, 128, 0, UNTOUCHED); STARTS("Desk", 4, "Player", 6, 0, UNTOUCHED);
     /* "Start leaves Inactive, order 3, speed 0"; octets behind the names are zeros; the rounds begin at client 0 and place 0. */
-    EQUAL(s.layout, 0x83); EQUAL(s.turn, 3);
+    EQUAL(s.layout, 0x84); EQUAL(s.turn, 3);
     EACH(0, 4) CHECK(starts_record(k));
     for (service = 0; service < 2; service++) {
-        IS(0, 0, 0, REF_INACTIVE, 0); EQUAL(PLAYER.order, 3); EQUAL(PLAYER.speed, 0);
+        IS(0, 0, 0, REF_INACTIVE, 0); EQUAL(PLAYER.order, 3); EQUAL(PLAYER.speed, 0); EQUAL(PLAYER.rest, 0);
         EQUAL(PLAYER.name_len, service == 0 ? 4 : 6);
         CHECK(memcmp(PLAYER.name, service == 0 ? "Desk\0" : "Player", 6) == 0 && all_are(PLAYER.name + 6, 0, 122));
     }
@@ -1080,7 +1085,7 @@ static void number_cases(void)
         service = OVER[k]; EQUAL(set_name("\xFF"), 219); EQUAL(set_name("Desk"), 219); EQUAL(activate(2), 219);
         EQUAL(activate(1), 219);
         EQUAL(deactivate(), 219); EQUAL(advance(1), 219); EQUAL(title(), 219); s.layout = 0; EQUAL(set_name("\xFF"), 201);
-        EQUAL(activate(2), 201); EQUAL(deactivate(), 201); EQUAL(advance(1), 201); EQUAL(title(), 201); s.layout = 0x83;
+        EQUAL(activate(2), 201); EQUAL(deactivate(), 201); EQUAL(advance(1), 201); EQUAL(title(), 201); s.layout = 0x84;
     }
     for (service = 0; service < 2; service++) { EQUAL(set_name("\xFF"), 207); EQUAL(activate(2), 208); }
 }
@@ -1108,13 +1113,13 @@ static void apart_cases(void)
         EQUAL(disconnects(0), 0); EQUAL(reads(0, 1, 0), 203); EQUAL(IN(first, reads(0, 1, 0)), 203);
         EQUAL(connects(0, 24), 0); EQUAL(connects(0, 24), 204);
     }
-    /* Every call to one, while the other has subscriptions, owed values, changed marks and results: its octets stay. */
+    /* Every call to one, while the other has subscriptions, owed values, changed marks, results and a rest: its octets stay. */
     for (uint32_t to = 0; to < 2; to++) {
         service = 1 - to; EQUAL(start(ALL_OPCODES) || connects(0, 23) || connects(1, 64) || activate(1), 0);
         EACH(0, SLOTS) EQUAL(subscribes(0, SLOT[k]) || subscribes(1, SLOT[k]), 0);
         EQUAL(reads(0, 1, 0) || reads(1, 7, 0) || commands(0, FORWARD, 0) || commands(1, 0x77, 0) || writes(0, 8, 3), 0);
         OWES(0, B9 | B17 | B18); OWES(1, B8 | B9 | B17 | B18); EQUAL(ACCOUNT(0).fresh, 1u << 1); EQUAL(ACCOUNT(1).fresh, 1u << 7);
-        memcpy(&kept, &s.services[service], sizeof kept); service = to;
+        PLAYER.rest = 777; memcpy(&kept, &s.services[service], sizeof kept); service = to;
 #define STAYS(call) do { EQUAL(call, 0); CHECK(memcmp(&kept, &s.services[1 - to], sizeof kept) == 0); } while (0)
         STAYS(subscribes(0, 8)); STAYS(subscribes(1, 18)); STAYS(set_name("Other")); STAYS(activate(1)); STAYS(writes(0, 8, 9));
         STAYS(writes(1, 15, 4)); STAYS(moves_to(0, 50)); STAYS(commands(1, PLAY, 0)); STAYS(advance(3)); STAYS(advance(6000));
@@ -1311,9 +1316,9 @@ static void both_states_cases(void)
     ref_service *one = &s.services[1], *zero = &s.services[0];
     lend_sample(); EQUAL(IN(0, start(ALL_OPCODES)) || connects(0, 23) || IN(0, activate(1)) || IN(1, activate(3)), 0);
     EQUAL(IN(1, subscribes(0, 17)) || subscribes(0, 18) || commands(0, PLAY, 0), 0); memcpy(&good, &s, sizeof s);
-    /* The first octet of the state is 0x80 and the layout's number, 3. */
-    EACH(0, 256) { s = good; s.layout = (uint8_t)k; EQUAL(disconnects(4), k == 0x83 ? 202 : 201); }
-    ALL_GIVE_201(s.layout = 0); ALL_GIVE_201(s.layout = 0x82); ALL_GIVE_201(s.layout = 0x84); ALL_GIVE_201(s.layout = 'D');
+    /* The first octet of the state is 0x80 and the layout's number, 4. */
+    EACH(0, 256) { s = good; s.layout = (uint8_t)k; EQUAL(disconnects(4), k == 0x84 ? 202 : 201); }
+    ALL_GIVE_201(s.layout = 0); ALL_GIVE_201(s.layout = 0x83); ALL_GIVE_201(s.layout = 0x85); ALL_GIVE_201(s.layout = 'D');
     ALL_GIVE_201(s.turn = 4);
     /* A mark of 27 stands and one of 28 does not; unconnected it is 27. */
     EACH(0, 56) {
@@ -1327,6 +1332,8 @@ static void both_states_cases(void)
     ALL_GIVE_201(zero->player.name_len = 129); ALL_GIVE_201(one->player.name_len = 129); ALL_GIVE_201(one->player.order = 0);
     ALL_GIVE_201(one->player.media = 0); ALL_GIVE_201(one->player.seeking = 4);
     ALL_GIVE_201(one->player.next = 1); STANDS(one->player.next = 4); ALL_GIVE_201(zero->player.next = 4); STANDS(zero->player.next = 1);
+    ALL_GIVE_201(one->player.rest = 65536); ALL_GIVE_201(zero->player.rest = 65536); ALL_GIVE_201(one->player.rest = 0xFFFFFFFFu);
+    ALL_GIVE_201(zero->player.rest = 0xFFFFFFFFu); STANDS(one->player.rest = 65535); STANDS(zero->player.rest = 65535);
     /* An unconnected client with a leftover in either service; the results that do not wait mean nothing. */
     ALL_GIVE_201(one->accounts[2].subscribed = 1); ALL_GIVE_201(one->accounts[2].subscribed = one->accounts[2].owed = 1);
     ALL_GIVE_201(one->accounts[2].owed = 1); ALL_GIVE_201(one->accounts[2].fresh = 2); ALL_GIVE_201(one->accounts[2].waiting = 1);
@@ -1347,7 +1354,7 @@ static void both_states_cases(void)
     BROKEN(s.links[0].encrypted = 0; memset(&one->accounts[0], 0, sizeof one->accounts[0]); one->accounts[0].subscribed = 1);
     BROKEN(s.links[0].encrypted = 0; memset(&one->accounts[0], 0, sizeof one->accounts[0]); zero->accounts[0].subscribed = 1);
     /* Every call leaves the layout's octet, and disconnecting the other client's records. */
-    s = good; EQUAL(IN(0, disconnects(0)), 0); EQUAL(s.layout, 0x83); CHECK(starts_record(0));
+    s = good; EQUAL(IN(0, disconnects(0)), 0); EQUAL(s.layout, 0x84); CHECK(starts_record(0));
 }
 
 /* ---- W-209: object numbers */
@@ -2119,6 +2126,314 @@ static void both_titles_cases(void)
     rename_nothing();
 }
 
+/* ---- W-211: the clock */
+
+/* Whether the 64th power of a number below 2^20 is above 2 to the power n. Six squarings make it, in digits of 32 bits, of which it has at
+ * most 40. */
+static int is_above(uint32_t number, uint32_t n)
+{
+    uint32_t digits[40] = {number};
+    for (uint32_t times = 0; times < 6; times++) {
+        uint32_t square[40] = {0};
+        for (uint32_t i = 0; i < 40; i++) {
+            uint64_t carried = 0;
+            for (uint32_t j = 0; i + j < 40; j++, carried >>= 32) {
+                carried += (uint64_t)digits[i] * digits[j] + square[i + j]; square[i + j] = (uint32_t)carried;
+            }
+        }
+        memcpy(digits, square, sizeof digits);
+    }
+    for (uint32_t k = 40; k-- > 0;) {
+        uint32_t digit = k == n / 32 ? 1u << n % 32 : 0;
+        if (digits[k] != digit) return digits[k] > digit;
+    }
+    return 0;
+}
+
+/* "the whole number with (2e−1)^64 ≤ 2^(1088+p) < (2e+1)^64", by the octet of p: the least with the second half of that, since the first
+ * half is that the second does not hold of e − 1. */
+static uint32_t factors[256];
+static void find_factors(void)
+{
+    EACH(0, 256) {
+        uint32_t low = 0, high = 1u << 18;
+        while (high - low > 1) {
+            uint32_t middle = (low + high) / 2;
+            if (is_above(2 * middle + 1, k < 128 ? 1088 + k : 1088 + k - 256)) high = middle; else low = middle;
+        }
+        factors[k] = high;
+    }
+    /* 1, 2, a half and a quarter are exact: of p = 0 it is (2 · 65536)^64 = 2^1088. The others are the nearest to 66249.6, 64830.04,
+     * 92681.9, 46340.95 and 259320.2. */
+    EQUAL(factors[0], 65536); EQUAL(factors[64], 131072); EQUAL(factors[256 - 64], 32768); EQUAL(factors[128], 16384);
+    EQUAL(factors[1], 66250); EQUAL(factors[255], 64830); EQUAL(factors[32], 92682); EQUAL(factors[256 - 32], 46341); EQUAL(factors[127], 259320);
+}
+
+/* Playing in group 1 on that track, at that position and that speed; the rest is 0. */
+static void play_at(uint8_t order, uint32_t track, uint32_t position, int speed)
+{
+    stand(order, track, position); EQUAL(writes(0, 8, (uint8_t)speed) || commands(0, PLAY, 0), 0); EQUAL(PLAYER.rest, 0);
+}
+/* A call that gave that was to give this, and to lead to that track, position and rest. */
+static void leads_at(int line, uint32_t gave, uint32_t gives, uint32_t track, uint32_t position, uint32_t rest)
+{
+    equal_at(line, gave, gives, "the answer"); equal_at(line, PLAYER.track, track, "the track");
+    equal_at(line, PLAYER.position, position, "the position"); equal_at(line, PLAYER.rest, rest, "the rest");
+}
+/* The step stays on track 0, in Playing, and leads to that position and that rest; or it leads there, and the rest is 0. */
+static void ticks_at(int line, uint32_t d, uint32_t position, uint32_t rest)
+{
+    leads_at(line, advance(d), 0, 0, position, rest); equal_at(line, PLAYER.media, REF_PLAYING, "the state");
+}
+#define TICKS(d, position, rest) ticks_at(__LINE__, d, position, rest)
+#define ZEROES(d, leads_to) do { EQUAL(advance(d), 0); leads_to; EQUAL(PLAYER.rest, 0); } while (0)
+
+/* W-211: "A clock step of d in Playing adds d times e to the rest, advances by the whole 65,536ths (...) and keeps the rest, 0 to 65,535." */
+static void clock_cases(void)
+{
+    lend_sample();
+    /* Half, double, and a quarter. */
+    play_at(3, 0, 100, -64); TICKS(7, 103, 32768); TICKS(1, 104, 0); TICKS(1, 104, 32768); TICKS(0, 104, 32768); TICKS(3, 106, 0);
+    TICKS(1000, 606, 0); TICKS(10787, 5999, 32768);
+    play_at(3, 0, 100, 64); TICKS(1, 102, 0); TICKS(7, 116, 0); TICKS(0, 116, 0); TICKS(2941, 5998, 0);
+    play_at(3, 0, 100, -128); TICKS(1, 100, 16384); TICKS(1, 100, 32768); TICKS(1, 100, 49152); TICKS(1, 101, 0); TICKS(7, 102, 49152);
+    /* 92682 is 1 and 27146; three of them are 278046, or 4 and 15902, and 1003 are 92960046, or 1418 and 29998. */
+    play_at(3, 0, 0, 32); TICKS(1, 1, 27146); TICKS(2, 4, 15902); TICKS(1000, 1418, 29998);
+    /* A thousand times 46341 are 707 and 7048. 259320 is 3 and 62712; twice that is 7 and 59888. */
+    play_at(3, 0, 0, -32); TICKS(1, 0, 46341); TICKS(1, 1, 27146); TICKS(998, 707, 7048);
+    play_at(3, 0, 0, 127); TICKS(1, 3, 62712); TICKS(1, 7, 59888); play_at(3, 0, 0, 1); TICKS(1, 1, 714);
+    play_at(3, 0, 0, -1); TICKS(1, 0, 64830); TICKS(1, 1, 64124);
+    /* The speed in force is that at the step, and writing it keeps the rest: 3 halves, 2, 10, and 2 quarters. */
+    play_at(3, 0, 0, -64); TICKS(3, 1, 32768); EQUAL(writes(0, 8, 64), 0); PLAYS(1, 0, 1); EQUAL(PLAYER.rest, 32768); TICKS(1, 3, 32768);
+    EQUAL(writes(0, 8, 0), 0); TICKS(10, 13, 32768); EQUAL(writes(0, 8, 0x80), 0); TICKS(2, 14, 0);
+    /* Through Pause and Play, whatever time passes between, and a speed written then. */
+    play_at(3, 0, 50, -64); TICKS(1, 50, 32768); EQUAL(commands(0, PAUSE, 0) || advance(1000) || advance(0) || advance(0xFFFFFFFFu), 0);
+    PAUSES(1, 0, 50); EQUAL(PLAYER.rest, 32768); EQUAL(commands(0, PLAY, 0), 0); TICKS(1, 51, 0); TICKS(1, 51, 32768);
+    EQUAL(commands(0, PAUSE, 0) || writes(0, 8, 0x80) || commands(0, PLAY, 0), 0); TICKS(2, 52, 0);
+    /* Seeking: it is kept until a step is made there, be it of 0. "Seeking uses d as before." */
+    play_at(3, 0, 50, -64); TICKS(1, 50, 32768); EQUAL(commands(0, FORWARD, 0) || commands(0, FORWARD, 0) || commands(0, PLAY, 0), 0);
+    TICKS(1, 51, 0); TICKS(1, 51, 32768); EQUAL(commands(0, FORWARD, 0), 0); ZEROES(0, SEEKS(51, 4)); ZEROES(10, SEEKS(91, 4));
+    EQUAL(commands(0, PLAY, 0), 0); TICKS(1, 91, 32768); EQUAL(commands(0, REWIND, 0), 0); ZEROES(1, SEEKS(87, -4)); EQUAL(writes(0, 8, 127), 0);
+    ZEROES(2, SEEKS(79, -4)); PLAYER.rest = 5; ZEROES(100, SEEKS(0, -4)); PLAYER.rest = 5; ZEROES(1, SEEKS(0, -4)); EQUAL(commands(0, PLAY, 0), 0);
+    TICKS(1, 3, 62712); EQUAL(commands(0, FORWARD, 0), 0); ZEROES(0xFFFFFFFFu, SEEKS(6000, 4)); PLAYER.rest = 5; ZEROES(1, SEEKS(6000, 4));
+    /* At speed 0 it is as without a clock, and whatever rest there is stays. */
+    for (uint32_t rest = 0; rest < 65536; rest += 21845) {
+        play_at(3, 0, 0, 0); PLAYER.rest = rest; TICKS(0, 0, rest); TICKS(1, 1, rest); TICKS(5537, 5538, rest); TICKS(461, 5999, rest);
+        TICKS(0, 5999, rest); ZEROES(1, PLAYS(1, 1, 0)); play_at(3, 0, 1, 0); PLAYER.rest = rest; ZEROES(5999, PLAYS(1, 1, 0));
+    }
+}
+
+/* "at D or beyond, the next track at 0, or, where none, Paused at D": the rest is then 0, and none of it goes over to the next track. */
+static void clock_end_cases(void)
+{
+    lend_sample();
+    /* Two halves past 5999 is D, one is below it; a step beyond D by half a hundredth; twice one to 5999, and to D. */
+    play_at(3, 0, 5999, -64); TICKS(1, 5999, 32768); ZEROES(1, PLAYS(1, 1, 0)); EQUAL(advance(1), 0); PLAYS(1, 1, 0); EQUAL(PLAYER.rest, 32768);
+    play_at(3, 0, 5998, -64); TICKS(3, 5999, 32768); play_at(3, 0, 5998, -64); ZEROES(5, PLAYS(1, 1, 0));
+    play_at(3, 0, 5997, 64); TICKS(1, 5999, 0); ZEROES(1, PLAYS(1, 1, 0)); play_at(3, 0, 5998, 64); ZEROES(1, PLAYS(1, 1, 0));
+    play_at(3, 0, 5998, 32); TICKS(1, 5999, 27146); ZEROES(1, PLAYS(1, 1, 0));
+    /* "One move per call." D of track 2 is 0. */
+    play_at(3, 0, 5999, -64); TICKS(1, 5999, 32768); ZEROES(0xFFFFFFFFu, PLAYS(1, 1, 0)); ZEROES(0xFFFFFFFFu, PLAYS(1, 2, 0)); PLAYER.rest = 9;
+    ZEROES(0, PAUSES(1, 2, 0)); play_at(4, 2, 0, -128); PLAYER.rest = 9; ZEROES(0, PLAYS(1, 0, 0)); TICKS(3, 0, 49152);
+    /* Paused at D. A step of 0 at D, or one of less than a hundredth, ends the track again, with whatever rest is handed in. */
+    play_at(1, 0, 5999, -64); TICKS(1, 5999, 32768); ZEROES(1, PAUSES(1, 0, 6000)); ZEROES(9, PAUSES(1, 0, 6000));
+    EACH(0, 4) {
+        EQUAL(commands(0, PLAY, 0), 0); PLAYS(1, 0, 6000); PLAYER.rest = k * 21845; ZEROES(k % 2, PAUSES(1, 0, 6000));
+        stand(3, 0, 6000); EQUAL(writes(0, 8, 0x80) || commands(0, PLAY, 0), 0); PLAYER.rest = k * 21845; ZEROES(k % 2, PLAYS(1, 1, 0));
+        stand(1, 0, 6000); EQUAL(writes(0, 8, 0x80), 0);
+    }
+    /* Onto itself: in order 2, alone in a repeat order, and by its name. */
+    play_at(2, 0, 5999, -64); TICKS(1, 5999, 32768); ZEROES(2, PLAYS(1, 0, 0)); TICKS(1, 0, 32768); ZEROES(12001, PLAYS(1, 0, 0));
+    play_at(4, 0, 0, -64); EQUAL(activate(3) || commands(0, PLAY, 0) || advance(1799), 0); PLAYS(3, 3, 899); EQUAL(PLAYER.rest, 32768);
+    ZEROES(1, PLAYS(3, 3, 0)); play_at(3, 0, 5999, -64); TICKS(1, 5999, 32768); EQUAL(sets(0, 12, 0x1000), 0); ZEROES(3, PLAYS(1, 0, 0));
+    EQUAL(PLAYER.next, 0);
+
+    /* W-202: "at 8,640,000 it stays there in its state". The step that leads there, and every one made there, leaves the rest as it was
+     * before it: it is 32768 and not 0, 27146 and not 15902. */
+    lent.words[TRACKS][0] = UNKNOWN;
+    for (uint8_t order = 1; order <= 8; order++) {
+        play_at(order, 0, END - 1, -64); TICKS(1, END - 1, 32768); TICKS(1, END, 32768); TICKS(0, END, 32768); TICKS(1, END, 32768);
+        TICKS(0xFFFFFFFFu, END, 32768);
+    }
+    play_at(3, 0, END - 2, 32); TICKS(1, END - 1, 27146); TICKS(2, END, 27146); TICKS(1, END, 27146); EQUAL(writes(0, 8, 0x80), 0);
+    TICKS(3, END, 27146); play_at(3, 0, END - 1, 32); TICKS(1, END, 0); TICKS(1, END, 0); play_at(3, 0, END - 3, 64); TICKS(1, END - 1, 0);
+    TICKS(1, END, 0); play_at(3, 0, 0, 127); TICKS(0xFFFFFFFFu, END, 0);
+    /* Kept by Pause, Play and time between, by a negative position write, and where no start is later; then a Seeking step that holds it
+     * there, Move Relative that does, and a position write there make it 0. */
+#define HOLDS() do { play_at(3, 0, END - 1, -64); TICKS(3, END, 0); PLAYER.rest = 32769; TICKS(1, END, 32769); } while (0)
+    HOLDS(); EQUAL(commands(0, PAUSE, 0) || advance(7) || commands(0, PLAY, 0) || moves_to(0, -1) || moves_to(0, LEAST), 0);
+    EQUAL(result(SEGMENT + NEXT, 0), 4); EQUAL(result(SEGMENT + GOTO, 4), 4); EQUAL(result(SEGMENT + GOTO, 0), 1); TICKS(1, END, 32769);
+    HOLDS(); EQUAL(commands(0, FORWARD, 0), 0); EQUAL(PLAYER.rest, 32769); ZEROES(0, SEEKS(END, 4)); PLAYER.rest = 5; ZEROES(9, SEEKS(END, 4));
+    HOLDS(); EQUAL(commands(0, RELATIVE, 5), 0); PLAYS(1, 0, END); EQUAL(PLAYER.rest, 0);
+    HOLDS(); EQUAL(moves_to(0, MOST), 0); PLAYS(1, 0, END); EQUAL(PLAYER.rest, 0);
+    HOLDS(); EQUAL(commands(0, STOP, 0), 0); PAUSES(1, 0, 0); EQUAL(PLAYER.rest, 0);
+}
+
+/* Half a hundredth past that position of track 0, in Playing or what that command gives: 0 is none. */
+static int stands_by;
+static void stand_past(uint32_t position)
+{
+    lend_sample(); play_at(3, 0, position, -64); TICKS(1, position, 32768);
+    if (stands_by != 0) EQUAL(commands(0, stands_by, 0), 0);
+    CHECK(PLAYER.position == position && PLAYER.rest == 32768);
+}
+/* From there the call gives that and leads to that position of that track. */
+#define PAST(from, call, gives, track, to, rest) do { stand_past(from); leads_at(__LINE__, (uint32_t)(call), gives, track, to, rest); } while (0)
+#define REST_GOES(from, call, track, to) PAST(from, call, 0, track, to, 0)
+#define GOES_BY(from, opcode, n, track, to) PAST(from, result(opcode, n), 1, track, to, 0)
+#define REST_STAYS(call) PAST(1500, call, 0, 0, 1500, 32768)
+#define STAYS_BY(opcode, n, code) PAST(1500, result(opcode, n), code, 0, 1500, 32768)
+
+/* W-211: "The rest becomes 0 whenever anything but a clock step in Playing within a track sets the position.": also where the position
+ * comes out the same, and nowhere else. */
+static void rest_cases(void)
+{
+    static const int STATES[4] = {0, PAUSE, FORWARD, REWIND};
+    EACH(0, 4) {
+        stands_by = STATES[k];
+        GOES_BY(1500, STOP, 0, 0, 0); GOES_BY(0, STOP, 0, 0, 0);
+        GOES_BY(1500, RELATIVE, 0, 0, 1500); GOES_BY(1500, RELATIVE, 1, 0, 1501); GOES_BY(1500, RELATIVE, -1, 0, 1499);
+        GOES_BY(0, RELATIVE, -5, 0, 0); GOES_BY(0, RELATIVE, LEAST, 0, 0); GOES_BY(5999, RELATIVE, MOST, 0, 6000);
+        GOES_BY(1500, SEGMENT + PREVIOUS, 0, 0, 0); GOES_BY(1800, SEGMENT + PREVIOUS, 0, 0, 1500); GOES_BY(0, SEGMENT + PREVIOUS, 0, 0, 0);
+        GOES_BY(1500, SEGMENT + NEXT, 0, 0, 4000); GOES_BY(4000, SEGMENT + NEXT, 0, 0, 6000); GOES_BY(5, SEGMENT + FIRST, 0, 0, 0);
+        GOES_BY(0, SEGMENT + FIRST, 0, 0, 0); GOES_BY(5, SEGMENT + LAST, 0, 0, 4000); GOES_BY(4000, SEGMENT + LAST, 0, 0, 4000);
+        GOES_BY(0, SEGMENT + GOTO, 1, 0, 0); GOES_BY(1500, SEGMENT + GOTO, 2, 0, 1500); GOES_BY(1500, SEGMENT + GOTO, 3, 0, 4000);
+        GOES_BY(1500, SEGMENT + GOTO, 4, 0, 6000); GOES_BY(1500, SEGMENT + GOTO, MOST, 0, 6000); GOES_BY(4000, SEGMENT + GOTO, -1, 0, 4000);
+        GOES_BY(1500, SEGMENT + GOTO, -2, 0, 1500); GOES_BY(0, SEGMENT + GOTO, -3, 0, 0); GOES_BY(1500, SEGMENT + GOTO, LEAST, 0, 0);
+        /* Track and group moves: to another one, and onto the same, from 1500 and from 0. */
+        GOES_BY(1500, TRACK + NEXT, 0, 1, 0); GOES_BY(1500, TRACK + LAST, 0, 2, 0); GOES_BY(1500, TRACK + GOTO, 2, 1, 0);
+        GOES_BY(1500, TRACK + GOTO, -1, 2, 0); GOES_BY(1500, GROUP + NEXT, 0, 3, 0); GOES_BY(1500, GROUP + LAST, 0, 3, 0);
+        GOES_BY(1500, GROUP + GOTO, 2, 3, 0); REST_GOES(1500, writes(0, 15, 4) || commands(0, TRACK + PREVIOUS, 0), 2, 0);
+        for (uint32_t from = 0; from <= 1500; from += 1500) {
+            GOES_BY(from, TRACK + FIRST, 0, 0, 0); GOES_BY(from, TRACK + GOTO, 0, 0, 0); GOES_BY(from, TRACK + GOTO, 1, 0, 0);
+            GOES_BY(from, TRACK + GOTO, -3, 0, 0); GOES_BY(from, GROUP + FIRST, 0, 0, 0); GOES_BY(from, GROUP + GOTO, 0, 0, 0);
+            GOES_BY(from, GROUP + GOTO, 1, 0, 0); GOES_BY(from, GROUP + GOTO, -2, 0, 0);
+            REST_GOES(from, writes(0, 15, 2) || commands(0, TRACK + NEXT, 0), 0, 0);
+            REST_GOES(from, writes(0, 15, 2) || commands(0, TRACK + PREVIOUS, 0), 0, 0);
+            REST_GOES(from, sets(0, 12, 0x1000) || commands(0, TRACK + NEXT, 0), 0, 0);
+            /* Writes of 11 and 14, Activate, Deactivate and start. */
+            REST_GOES(from, sets(0, 11, 0x1000), 0, 0); REST_GOES(from, sets(0, 11, 0x1001), 1, 0); REST_GOES(from, sets(0, 14, 0x2001), 0, 0);
+            REST_GOES(from, sets(0, 14, 0x2003), 3, 0); REST_GOES(from, activate(1), 0, 0); REST_GOES(from, activate(3), 3, 0);
+            REST_GOES(from, deactivate(), 0, 0); REST_GOES(from, start(ALL_OPCODES), 0, 0);
+        }
+        /* Writes of 7, and a Seeking step, also of 0 and held at an end; in Playing that is a clock step, and in Paused nothing. */
+        REST_GOES(1500, moves_to(0, 1500), 0, 1500); REST_GOES(1500, moves_to(0, 7), 0, 7); REST_GOES(1500, moves_to(0, MOST), 0, 6000);
+        REST_GOES(1500, moves_to(0, -4500), 0, 1500); REST_GOES(1500, moves_to(0, -1), 0, 5999); REST_GOES(0, moves_to(0, LEAST), 0, 0);
+        REST_GOES(0, moves_to(0, 0), 0, 0);
+        PAST(1500, advance(0), 0, 0, 1500, k < 2 ? 32768 : 0);
+        PAST(1500, advance(5), 0, 0, k == 0 ? 1503 : k == 1 ? 1500 : k == 2 ? 1520 : 1480, k == 1 ? 32768 : 0);
+        PAST(0, advance(0xFFFFFFFFu), 0, k == 0, k == 2 ? 6000 : 0, k == 1 ? 32768 : 0);
+
+        REST_STAYS(0); REST_STAYS(commands(0, PLAY, 0)); REST_STAYS(commands(0, PAUSE, 0)); REST_STAYS(commands(0, FORWARD, 0));
+        REST_STAYS(commands(0, REWIND, 0)); REST_STAYS(commands(0, FORWARD, 0) || commands(0, FORWARD, 0)); STAYS_BY(SEGMENT + GOTO, 0, 1);
+        REST_STAYS(writes(0, 8, 0)); REST_STAYS(writes(0, 8, 0xC0)); REST_STAYS(writes(0, 8, 127)); REST_STAYS(sets(0, 12, 0x1000));
+        REST_STAYS(sets(0, 12, 0x1002)); REST_STAYS(writes(0, 15, 3)); REST_STAYS(writes(0, 15, 2)); REST_STAYS(writes(0, 15, 5));
+        REST_STAYS(set_name("Other")); REST_STAYS(set_name("Desk")); REST_STAYS(connects(1, 64)); REST_STAYS(disconnects(0));
+        REST_STAYS(reads(0, 7, 0) || subscribes(0, 7) || makes(TAKE, 0, 0, 0, NULL, 0, ROOM) || unsubscribes(0, 7) || title());
+        /* Results 2 and 4, and refusals. */
+        STAYS_BY(0x77, 0, 2); STAYS_BY(TRACK + PREVIOUS, 0, 4); STAYS_BY(TRACK + GOTO, 4, 4); STAYS_BY(TRACK + GOTO, -4, 4);
+        STAYS_BY(GROUP + PREVIOUS, 0, 4); STAYS_BY(GROUP + GOTO, 3, 4); STAYS_BY(GROUP + GOTO, LEAST, 4);
+        REST_STAYS(writes(0, 15, 1) || commands(0, TRACK + NEXT, 0));
+        for (uint32_t j = 0; j < 21; j++) PAST(1500, (PLAYER.mask = 0, result(OPCODE[j], 1)), 2, 0, 1500, 32768);
+        REST_STAYS(activate(2) != 208); REST_STAYS(set_name("\xFF") != 207); REST_STAYS(writes(0, 15, 9) != 0x13);
+        REST_STAYS(writes(0, 7, 0) != 0x0D); REST_STAYS(sets(0, 11, 0x1003) != 0x13); REST_STAYS(sets(0, 14, 0x2002) != 0x13);
+        REST_STAYS(makes(WRITE, 0, 18, 0, numbered(STOP, 0), 5, 0) != 0x0D); REST_STAYS(moves_to(1, 0) != 203);
+        /* W-202: "A negative position write is taken and moves nothing." Without a later start Next Segment gives 4. */
+        REST_STAYS((lent.words[TRACKS][0] = UNKNOWN, moves_to(0, -1) || moves_to(0, LEAST)));
+        REST_GOES(1500, (lent.words[TRACKS][0] = UNKNOWN, moves_to(0, 1500)), 0, 1500);
+        PAST(4000, (lent.words[TRACKS][0] = UNKNOWN, result(SEGMENT + NEXT, 0)), 4, 0, 4000, 32768);
+        PAST(4000, (lent.words[TRACKS][0] = UNKNOWN, result(SEGMENT + GOTO, 4)), 4, 0, 4000, 32768);
+    }
+    stands_by = 0;
+    /* While Inactive a rest may be handed in. Result 3, writes, refusals and time keep it; Deactivate and Activate set the position. */
+    lend_sample(); EQUAL(start(ALL_OPCODES) || connects(0, 23), 0); PLAYER.rest = 65535;
+    EACH(0, 21) EQUAL(result(OPCODE[k], 0), 3);
+    EQUAL(moves_to(0, 5) || moves_to(0, -5) || writes(0, 8, 9) || writes(0, 15, 4) || advance(0) || advance(0xFFFFFFFFu) || set_name("N"), 0);
+    EQUAL(sets(0, 11, 0x1000), 0x13); EQUAL(sets(0, 14, 0x2001), 0x13); IS(0, 0, 0, REF_INACTIVE, 0); EQUAL(PLAYER.rest, 65535);
+    EQUAL(deactivate(), 0); EQUAL(PLAYER.rest, 0); PLAYER.rest = 1; EQUAL(activate(1), 0); PAUSES(1, 0, 0); EQUAL(PLAYER.rest, 0);
+}
+
+/* No value shows the rest. It alone makes nothing owed and changes no mark; 7 is owed as before, by the position that comes of it. */
+static void rest_told_cases(void)
+{
+    static const uint32_t READABLE[16] = {1, 5, 6, 7, 8, 9, 10, 11, 12, 13, 14, 15, 16, 17, 19, 22};
+    lend_sample(); play_at(3, 0, 100, -64);
+    EACH(0, 16) {
+        uint8_t octets[ROOM];
+        uint32_t len;
+        PLAYER.rest = 0; EQUAL(reads(0, READABLE[k], 0), 0); len = said.length; memcpy(octets, said.out, len);
+        PLAYER.rest = 65535; CHECK(reads_as(0, READABLE[k], 0, octets, len));
+    }
+    /* Half a hundredth changes no value, the other half 7; neither is owed, since both stay below D. */
+    stand_with_two(3, 0, 100); EQUAL(writes(0, 8, 0xC0) || commands(0, PLAY, 0), 0); FORGIVE();
+    EQUAL(reads(0, 7, 0) || reads(1, 7, 0), 0); TOLD(advance(1), 0, 0); EQUAL(PLAYER.rest, 32768); EQUAL(reads(0, 7, 1) || reads(1, 7, 4), 0);
+    TOLD(advance(1), 0, 0); PLAYS(1, 0, 101); EQUAL(reads(0, 7, 1), 0x80); EQUAL(reads(1, 7, 1), 0x80);
+    /* A rest that becomes 0 where the position is as it was. */
+    EQUAL(advance(1) || reads(0, 7, 0), 0); EQUAL(PLAYER.rest, 32768); TOLD(commands(1, RELATIVE, 0), 0, B18); EQUAL(PLAYER.rest, 0);
+    EQUAL(advance(1), 0); EQUAL(PLAYER.rest, 32768); TOLD(moves_to(0, 101), 0, 0); EQUAL(PLAYER.rest, 0); EQUAL(reads(0, 7, 1), 0);
+    /* The end by the speed: twice 2950 from 101 is 6001. Onto itself 7 is owed where it changed, and twice 3000 lead from 0 to 0. */
+    EQUAL(writes(0, 8, 64), 0); FORGIVE(); TOLD(advance(2949), 0, 0); PLAYS(1, 0, 5999);
+    TOLD(advance(1), TRACK_BITS | B5 | B6 | B12, TRACK_BITS | B5 | B6 | B12); PLAYS(1, 1, 0);
+    stand_with_two(2, 0, 0); EQUAL(writes(0, 8, 64) || commands(0, PLAY, 0), 0); FORGIVE(); TOLD(advance(3000), 0, 0); PLAYS(1, 0, 0);
+    TOLD(advance(1), 0, 0); TOLD(advance(2999), B7, B7); PLAYS(1, 0, 0);
+    /* A running recording: 7 by the step that reaches 8,640,000, and by none that is made there. */
+    lent.words[TRACKS][0] = UNKNOWN; stand_with_two(3, 0, END - 1); EQUAL(writes(0, 8, 0xC0) || commands(0, PLAY, 0), 0); FORGIVE();
+    TOLD(advance(1), 0, 0); TOLD(advance(1), B7, B7); PLAYS(1, 0, END); EQUAL(reads(0, 7, 0), 0); TOLD(advance(1), 0, 0);
+    TOLD(advance(0xFFFFFFFFu), 0, 0); EQUAL(reads(0, 7, 1), 0); TOLD(commands(0, FORWARD, 0), B9 | B17 | B18, B9 | B17); EQUAL(PLAYER.rest, 32768);
+    TOLD(advance(0), 0, 0); EQUAL(PLAYER.rest, 0); EQUAL(reads(0, 7, 1), 0);
+}
+
+/* Every speed, from a position and a rest that differ: one hundredth; the greatest d that stays below 8,640,000; one more; and the
+ * greatest d that there is. The products are below 2^50. */
+static void every_speed_cases(void)
+{
+    static const uint32_t PARTS[7] = {0, 1, 2, 63, 64, 1000, 65537};
+    lend_sample();
+    EACH(0, 512) {
+        uint32_t octet = k % 256, word = k < 256 ? UNKNOWN : END, from = 3000 * k, rest = k * 40503 % 65536;
+        uint64_t e = factors[octet], past = (uint64_t)from * 65536 + rest, most = ((uint64_t)END * 65536 - 1 - past) / e;
+        ref_state begun;
+        lent.words[TRACKS][0] = word; play_at(3, 0, from, (int)octet); PLAYER.rest = rest; memcpy(&begun, &s, sizeof s);
+        EQUAL(PLAYER.speed, octet < 128 ? (int)octet : (int)octet - 256);
+#define BEGIN() memcpy(&s, &begun, sizeof s)
+#define EXACT(d) do { PLAYS(1, 0, (past + (d) * e) / 65536); EQUAL(PLAYER.rest, (past + (d) * e) % 65536); } while (0)
+        TICKS(0, from, rest); EQUAL(advance(1), 0); EXACT(1);
+        BEGIN(); CHECK(most < 0xFFFFFFFFu); EQUAL(advance((uint32_t)most), 0); EXACT(most);
+        for (uint32_t last = 0; last < 2; last++) {
+            BEGIN();
+            EQUAL(advance(last ? 0xFFFFFFFFu : (uint32_t)most + 1), 0);
+            if (word == END) PLAYS(1, 1, 0); else PLAYS(1, 0, END);
+            EQUAL(PLAYER.rest, word == END ? 0 : rest);
+        }
+        /* Where no next track is, Paused at D; of a running recording any order does. */
+        BEGIN(); EQUAL(writes(0, 15, 1) || advance(0xFFFFFFFFu), 0); IS(1, 0, END, word == END ? REF_PAUSED : REF_PLAYING, 0);
+        EQUAL(PLAYER.rest, word == END ? 0 : rest);
+        /* A step of d1 and one of d2 are one of their sum. */
+        for (uint32_t j = 0; j < 49; j += 1 + k % 5) {
+            uint32_t d1 = PARTS[j / 7], d2 = PARTS[j % 7];
+            BEGIN(); EQUAL(advance(d1) || advance(d2), 0); EXACT(d1 + d2); BEGIN(); EQUAL(advance(d1 + d2), 0); EXACT(d1 + d2);
+        }
+    }
+}
+
+/* An hour at every speed, in 3,600 steps of 1 to 199 hundredths, 200 in two: at each the position and the rest are those of one product. */
+static void hour_cases(void)
+{
+    lend_sample(); lent.words[TRACKS][0] = END;
+    EACH(0, 256) {
+        copies t = copy_lent();
+        uint64_t time = 0;
+        play_at(3, 0, 0, (int)k);
+        for (uint32_t step = 0; step < 3600; step++) {
+            uint32_t uneven = 1 + step / 2 * 37 % 199, d = step % 2 == 0 ? uneven : 200 - uneven;
+            time += d;
+            EQUAL(ref_advance(LENT_ALL(t), &s, service, d, PLACE), 0);
+            EQUAL((uint64_t)PLAYER.position * 65536 + PLAYER.rest, time * factors[k]); CHECK(PLAYER.rest < 65536);
+        }
+        EQUAL(time, 360000); PLAYS(1, 0, 360000 * (uint64_t)factors[k] / 65536); free_copies(t);
+    }
+}
+
 /* ---- Cards */
 
 static tables got;
@@ -2543,9 +2858,9 @@ static int is_called(const ref_player *p, uint32_t offset, uint32_t most, uint32
  * went to a track and to a group by 11 and 14; was refused with 0x13 for an object number; changed the title from or to one of the
  * office's; went from one such to another track, which has the same part, or an equal one; read and took a title of the office's, and
  * read on in one; found that one had changed, and that one was too short for that; said which text it is a part of, the card's or the
- * office's; and was refused with 224. */
+ * office's; was refused with 224; stepped by the clock to a rest, was held at 8,640,000 with one, made one 0, and kept one. */
 enum { GIVEN, KEPT, BY_NEXT, BY_END, ONTO_ITSELF, DROPPED, TO_TRACK, TO_GROUP, NOT_OBJECT, RENAMED, SAME_PART, EQUAL_PART, READ_TITLE,
-       TOOK_TITLE, READ_ON, READ_CHANGED, READ_SHORT, OF_CARD, OF_OFFICE, NOT_FIT, MET };
+       TOOK_TITLE, READ_ON, READ_CHANGED, READ_SHORT, OF_CARD, OF_OFFICE, NOT_FIT, STEPPED, HELD, ZEROED, RESTED, MET };
 static unsigned long met[MET];
 
 /* W-208: "a client's slots running through the generic service and then the other": of all that is owed, the least by the clients
@@ -2609,6 +2924,46 @@ static int may_move(int call)
     return call == SET_NAME || call == ACTIVATE || call == DEACTIVATE || call == ADVANCE || call == READ || call == WRITE;
 }
 
+/* W-211 a second time: where a clock step leads a player, in 65,536ths, if no track ended. */
+static uint64_t clock_after(const ref_player *p, uint32_t d)
+{
+    return (uint64_t)p->position * 65536 + p->rest + (uint64_t)d * factors[(uint8_t)p->speed];
+}
+
+/* A call to `service` that was accepted: where a step leads, and the rest that each call leaves. Whether a command was made is known where
+ * its writer has 18. */
+static void clock_rules_hold(const ref_state *was, uint32_t call, uint32_t client, uint32_t what, uint32_t number, const uint8_t *octets)
+{
+    const ref_player *b = &was->services[service].player, *a = &PLAYER;
+    const ref_account *r = &ACCOUNT(client % 4);
+    int active = b->media != REF_INACTIVE, running = active && lent.words[TRACKS][6 * b->track] == UNKNOWN, moves = 0;
+    int64_t d = !active ? 0 : running ? END : lent.words[TRACKS][6 * b->track], sought = b->position + (int64_t)number * b->seeking;
+    if (call == ADVANCE && b->media == REF_PLAYING) {
+        uint64_t to = clock_after(b, number);
+        moves = to / 65536 >= (uint64_t)d && !running;
+        if (moves) {
+            CHECK(a->media == REF_PAUSED ? a->position == d && a->track == b->track : a->media == REF_PLAYING && a->position == 0);
+        } else {
+            int held = to / 65536 >= (uint64_t)d;
+            IS(b->group, b->track, held ? END : to / 65536, REF_PLAYING, 0); EQUAL(a->rest, held ? b->rest : to % 65536);
+            met[held ? HELD : STEPPED] += a->rest != 0;
+            return;
+        }
+    } else if (call == ADVANCE && b->media == REF_SEEKING) {
+        moves = 1; IS(b->group, b->track, sought < 0 ? 0 : sought > d ? d : sought, REF_SEEKING, b->seeking);
+    } else if (call == ACTIVATE || call == DEACTIVATE) {
+        moves = 1;
+    } else if (call == WRITE && what == 18) {
+        if ((r->subscribed & B18) == 0) return;
+        moves = r->results[r->waiting - 1].code == 1 && memchr("\x01\x02\x03\x04", octets[0], 4) == NULL;
+        if (octets[0] == SEGMENT + GOTO && all_are(octets + 1, 0, 4)) moves = 0;
+    } else if (call == WRITE) {
+        moves = what == 11 || what == 14 || (what == 7 && active && (!running || octets[3] < 128));
+    }
+    EQUAL(a->rest, moves ? 0 : b->rest); CHECK(moves || a->position == b->position);
+    met[moves ? ZEROED : RESTED] += b->rest != 0;
+}
+
 /* A call that was made to `service` and got past the rows before 0x13: the player and the name that it leaves, and what of 10 to 14 it
  * makes owed and marks. */
 static void object_rules_hold(const ref_state *was, uint32_t refusal, uint32_t call, uint32_t client, uint32_t what, uint32_t number,
@@ -2619,7 +2974,7 @@ static void object_rules_hold(const ref_state *was, uint32_t refusal, uint32_t c
     int moved = a->media == REF_INACTIVE || a->group != b->group || a->track != b->track;
     uint32_t d = active ? lent.words[TRACKS][6 * b->track] : 0, name, group, track;
     int by_next = call == WRITE && what == 18 && octets[0] == TRACK + NEXT && active && (b->mask >> 12 & 1) != 0;
-    int by_end = call == ADVANCE && b->media == REF_PLAYING && d != UNKNOWN && (uint64_t)b->position + number >= d;
+    int by_end = call == ADVANCE && b->media == REF_PLAYING && d != UNKNOWN && clock_after(b, number) / 65536 >= d;
     uint64_t object_number = 0;
     EACH(0, 6) object_number |= (uint64_t)octets[k] << (8 * k);
     if (by_object) {
@@ -2716,6 +3071,7 @@ static uint32_t tries(uint32_t call, uint32_t client, uint32_t what, uint32_t nu
     }
     met[NOT_FIT] += refusal == 224;
     if (call == TAKE && refusal == 0) take_is_next(&was);
+    if (refusal == 0 && may_move((int)call)) clock_rules_hold(&was, call, client, what, number, octets);
     if (may_move((int)call) && (refusal == 0 || (refusal == 0x13 && what != 15))) {
         object_rules_hold(&was, refusal, call, client, what, number, octets);
     }
@@ -2831,6 +3187,20 @@ static void random_title(void)
     if (HOW[how].what == 11) memcpy(octets, random_number(11), 6);
     if (one_in(4)) lend_random_titles();
     (void)tries(HOW[how].call, below(3), HOW[how].what, number, octets, HOW[how].what == 11 ? 6 : 1, ROOM);
+}
+
+/* W-211: one of the calls by which the clock goes on, at any speed, also up to 8,640,000, and the rest is kept or becomes 0; and a take. */
+static void random_clock(void)
+{
+    static const uint32_t WRITES[5] = {7, 8, 8, 18, 18};
+    uint32_t client = below(3), what = WRITES[below(5)], call, time = one_in(3) ? below(4) : one_in(6) ? any() : below(400);
+    uint8_t octets[6] = {one_in(3) ? OPCODE[below(21)] : PLAY};
+    service = below(2);
+    call = PLAYER.media == REF_INACTIVE && !one_in(4) ? ACTIVATE
+         : one_in(3) ? TAKE : one_in(2) ? ADVANCE : one_in(20) ? one_in(3) ? DEACTIVATE : ACTIVATE : WRITE;
+    put_number(octets + (what == 18), what == 8 ? (long)any() : one_in(3) ? (long)below(4) - 2 : (long)END - (long)below(400));
+    (void)tries(call, client, what, call == ACTIVATE ? below(4) : time, octets,
+                what == 7 ? 4 : what == 18 && CARRIES_NUMBER(octets[0]) ? 5 : 1, ROOM);
 }
 
 /* A call with an octet of the state, or a word, an octet and a length of the catalogue, or one of them of the titles, changed and then
@@ -2958,6 +3328,8 @@ static void history(void)
     }
     EACH(0, 100) random_name();
     EACH(0, 100) random_title();
+    if (!one_in(4)) lent.words[TRACKS][0] = UNKNOWN;
+    EACH(0, 100) random_clock();
     EACH(0, 150) { if (one_in(6)) damaged_call(); else (void)random_call(); }
     EACH(0, 30) { damaged_octets(); random_object(); }
     (void)writes_card(below(50000));
@@ -2969,12 +3341,15 @@ int main(int argc, char **argv)
     unsigned long histories = argc > 1 ? strtoul(argv[1], NULL, 10) : 300, made = 0;
     seed += (argc > 2 ? strtoul(argv[2], NULL, 10) : 0) * 0x9E3779B97F4A7C15u;
     other = OTHER;
+    find_factors();
     for (service = 0; service < REF_SERVICES; service++) {
         move_cases(); previous_segment_cases(); running_cases(); media_cases(); owed_cases(); take_cases();
         name_cases(); order_cases(); state_cases();
         value_cases(); object_mark_cases(); object_write_cases(); name_kept_cases(); name_used_cases(); told_cases();
         renamed_cases(); renamed_owed_cases(); renamed_read_cases();
+        clock_cases(); clock_end_cases(); rest_cases(); rest_told_cases();
     }
+    service = 1; every_speed_cases(); hour_cases();
     service = 0;
     catalogue_cases(); title_cases();
     start_cases(); number_cases(); apart_cases(); both_owed_cases(); mark_cases(); round_cases(); both_states_cases();

@@ -17,6 +17,8 @@ four clients in it. The state of a player is written
     media state, playing order, playback speed, seeking speed | group, track, position, next
 
 with the number of the named next track (W-209) as the last part, or '-' where none is named. In the script the last part is left out where none is.
+The position is followed at once by '+' and the rest (W-211), in 65,536ths of a hundredth of a second, where the rest is not 0: '1 0 1500+32768' is half
+a hundredth past 1500 of track 0.
 The state stays as it is where a call is refused, is one that does not touch the player, or is to the other service. The answer of a refused call is
 'refused', the number and, behind it, what 200 and 207 carry (W-207): 'refused 200 1 5' has the track and the offset of a bad title, 'refused 207 0' the
 offset within the name. A plain 200 and every other refusal carry nothing. The answer of the title call (W-210) is 'title card' or 'title office', by the
@@ -58,9 +60,9 @@ PREVIOUS_GROUP, NEXT_GROUP, FIRST_GROUP, LAST_GROUP, GOTO_GROUP = 0x40, 0x41, 0x
 ALL = 0x1FFFFF
 LONGEST = 4294967295
 
-# Parts of the state: of a service's player, the client served last, of a client's record. NEXT is 0 where no next track is named, else the number of the
-# named one plus 1. Of the record's parts CONNECTED, ENCRYPTION, MTU and MARK are the client's in both services.
-MEDIA, PLAYING_ORDER, SEEKING_SPEED, GROUP, TRACK, PLACE, NEXT, NAME_LENGTH, NAME_FIRST, TURN = range(1, 11)
+# Parts of the state: of a service's player, the client served last, of a client's record. REST is that of W-211. NEXT is 0 where no next track is named,
+# else the number of the named one plus 1. Of the record's parts CONNECTED, ENCRYPTION, MTU and MARK are the client's in both services.
+REST, MEDIA, PLAYING_ORDER, SEEKING_SPEED, GROUP, TRACK, PLACE, NEXT, NAME_LENGTH, NAME_FIRST, TURN = range(11)
 CONNECTED, ENCRYPTION, MTU, SUBSCRIBED, OWED, FRESH, MARK, WAITING, CODE = range(11, 20)
 
 FRAMES, LINES = [], []

@@ -229,6 +229,7 @@ position(100, 'done', 'Paused 4 0 0 | 3 3 100')
 speed(5, 'done', 'Paused 4 5 0 | 3 3 100')
 control(FORWARD, 'result 1', 'Seeking 4 5 4 | 3 3 100')
 go_to_track(3, 'done', 'Playing 4 5 0 | 3 3 0')
+# At a speed above 0 a step of 900 is more than the 900 of the track (W-211).
 advance(900, 'done', 'Playing 4 5 0 | 3 3 0')
 changed('Playing 4 5 0 | 3 3 0', empty=(10,))
 deactivate('done', 'Inactive 4 5 0 | 0 0 0')

@@ -10,7 +10,7 @@ from calls import (
     ALL, BAD_AND_WRONG, BAD_TITLES, CODE, CONNECTED, CUT, ENCRYPTED, ENCRYPTION, FIRST_GROUP, FIRST_SEGMENT, FIRST_TRACK, FORWARD, FRESH, GOTO_GROUP,
     GOTO_SEGMENT, GOTO_TRACK, GROUP, HEADSET, LAST_GROUP, LAST_SEGMENT, LAST_TRACK, LEFT, LONG, LONGEST, MARK, MEDIA, MTU, NAME_FIRST, NAME_LENGTH,
     NEXT, NEXT_GROUP, NEXT_SEGMENT, NEXT_TRACK, OPEN, OWED, OWN_PARENT, PAUSE, PLACE, PLAY, PLAYING_ORDER, PREVIOUS_GROUP, PREVIOUS_SEGMENT,
-    PREVIOUS_TRACK, RELATIVE, REWIND, RIGHT, RUNNING, SAMPLE, SCREEN, SEEKING_SPEED, SERVICES, STOP, SUBSCRIBED, TRACK, TURN, WAITING,
+    PREVIOUS_TRACK, RELATIVE, REST, REWIND, RIGHT, RUNNING, SAMPLE, SCREEN, SEEKING_SPEED, SERVICES, STOP, SUBSCRIBED, TRACK, TURN, WAITING,
     activate, advance, case, connect, control, damage, deactivate, disconnect, group_object, octets, read, seen, set_name, start, subscribe, take,
     track_object, unsubscribe, word, write,
 )
@@ -330,11 +330,13 @@ take('nothing')
 subscribe(HEADSET, 4, 'done')
 subscribe(HEADSET, 5, 'done')
 subscribe(HEADSET, 7, 'done')
-# Order 4 in a group of one track: the next track is the same one, at 0 as before.
-advance(900, 'done', 'Playing 4 -64 0 | 3 3 0')
-advance(100, 'done', 'Playing 4 -64 0 | 3 3 100')
+# W-211: "Speed p means 2 to the power p/64." At half speed the 900 of track 3 take 1800. Order 4 in a group of one track: the next track is the same one,
+# at 0 as before.
+advance(1800, 'done', 'Playing 4 -64 0 | 3 3 0')
+advance(201, 'done', 'Playing 4 -64 0 | 3 3 100+32768')
 take('nothing')
-advance(800, 'done', 'Playing 4 -64 0 | 3 3 0', 'headset 7; screen 7')
+# 100 and a half, and half of 1599.
+advance(1599, 'done', 'Playing 4 -64 0 | 3 3 0', 'headset 7; screen 7')
 take('headset 7 00 00 00 00')
 take('screen 7 00 00 00 00')
 take('nothing')
@@ -1591,6 +1593,8 @@ WRONG_PLAYERS = (
     (PLAYING_ORDER, 9, 'Paused 9 0 0 | 1 0 0', 3),
     # "201 also for a named next track .. not of the current group" (W-209): track 3.
     (NEXT, 4, 'Paused 3 0 0 | 1 0 0 3', 0),
+    # "201 also for a rest over 65,535" (W-211)
+    (REST, 65536, 'Paused 3 0 0 | 1 0 0+65536', 0),
     (NAME_LENGTH, 129, 'Paused 3 0 0 | 1 0 0', 4),
 )
 

@@ -670,7 +670,8 @@ order(8, 'done', 'Inactive 8 -1 0 | 0 0 0')
 order(5, 'done', 'Inactive 5 -1 0 | 0 0 0')
 activate(1, 'done', 'Paused 5 -1 0 | 1 1 0')
 control(PLAY, 'result 1', 'Playing 5 -1 0 | 1 1 0')
-advance(10, 'done', 'Playing 5 -1 0 | 1 1 10')
+# W-211: e of -1 is 64830, as vectors/clock.py tells. Ten times that is 648300, which is 9 times 65536 and 58476.
+advance(10, 'done', 'Playing 5 -1 0 | 1 1 9+58476')
 deactivate('done', 'Inactive 5 -1 0 | 0 0 0')
 deactivate('done', 'Inactive 5 -1 0 | 0 0 0')
 start(b'Radio', ALL, 7, 'done', 'Inactive 3 0 0 | 0 0 0')
@@ -823,14 +824,14 @@ stand_in_3(4, 899)
 control(PLAY, 'result 1', 'Playing 4 0 0 | 3 3 899')
 advance(2, 'done', 'Playing 4 0 0 | 3 3 0')
 
-# "Playing adds d", whatever the playback speed.
+# W-211: "Speed p means 2 to the power p/64.": double and half. vectors/clock.py has the cases of the clock.
 case('playback speed and advance')
 stand(3, 0, 0)
 speed(64, 'done', 'Paused 3 64 0 | 1 0 0')
 control(PLAY, 'result 1', 'Playing 3 64 0 | 1 0 0')
-advance(100, 'done', 'Playing 3 64 0 | 1 0 100')
-speed(-64, 'done', 'Playing 3 -64 0 | 1 0 100')
-advance(100, 'done', 'Playing 3 -64 0 | 1 0 200')
+advance(100, 'done', 'Playing 3 64 0 | 1 0 200')
+speed(-64, 'done', 'Playing 3 -64 0 | 1 0 200')
+advance(100, 'done', 'Playing 3 -64 0 | 1 0 250')
 
 # "Seeking adds d times the seeking speed, held to 0..D."
 case('advance while Seeking forward')

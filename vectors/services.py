@@ -803,6 +803,7 @@ control(LEFT, PLAY, 'Playing 3 0 0 | 1 0 0', 'left 17 18', service=GENERIC)
 write(SCREEN, 8, [0x20], 'done', 'Playing 3 32 0 | 1 0 0', 'right 8', service=GENERIC)
 write(RIGHT, 7, word(-1), 'done', 'Playing 3 32 0 | 1 0 5999', 'headset 7', service=GENERIC)
 set_name(b'G', 'done', 'screen 1', service=GENERIC)
+# At a speed above 0 a step of 1 is more than 1 (W-211).
 advance(1, 'done', 'Playing 3 32 0 | 1 1 0', 'headset 7; screen 4', service=GENERIC)
 advance(4500, 'done', 'Paused 5 0 0 | 1 0 6000', 'left 17; headset 7', service=NAMED)
 set_name(b'P', 'done', 'screen 1', service=NAMED)

@@ -1,4 +1,4 @@
-"""The cases of the office's own titles (document 02, W-210), which vectors/script.py puts last.
+"""The cases of the office's own titles (document 02, W-210), which vectors/script.py puts behind the object numbers'.
 
 Each call has its answer, the state of the player that it leaves and what falls due by it to whom beside it, worked out by hand from documents 01 and
 02. vectors/calls.py says how they are written, and where the card's own titles stand. The calls are to the generic service where they name none. Titles

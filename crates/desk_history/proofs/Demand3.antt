@@ -16,13 +16,18 @@ use Rattle.ground.specs.Cases.{pick, has}
 use Rattle.ground.specs.Limits.{leastOutput}
 use Rattle.ground.specs.Refusals.{row, accepted}
 use Rattle.catalogue_titles.specs.Lent.{Lent, lentRule}
+use Rattle.player_clock.specs.Clock.{parts}
+use Rattle.player_clock.proofs.Steps.{rest-below}
 use Rattle.player_check.specs.Standing.{textRule}
+use Rattle.player_check.proofs.Laws.{rest-kept}
 use Rattle.desk_slots.specs.Slots.{slotCount, serviceCount, placeCount, clientCount, placeOf, serviceOf, slotAt}
 use Rattle.desk_slots.proofs.NextLaws.{next-nearest}
 use Rattle.desk_slots.proofs.PlaceLaws.{place-there}
 use Rattle.desk_client.specs.Client.{controlSlot}
 use Rattle.desk_slots.specs.Characteristics.{everyOne, readables, isIn}
 use Rattle.player_values.specs.Values.{sourceOf, valueOf}
+use Rattle.desk_state.specs.Desk.{serviceAt}
+use Rattle.desk_state.proofs.Laws.{player-stands}
 use Rattle.desk_replies.specs.Replies.{stateRight, ofCaller, ofCharacteristic, accountOf}
 use Rattle.desk_console.specs.Console.{Beginning}
 use Rattle.desk_exchange.specs.Read.{readCall}
@@ -77,6 +82,12 @@ module _ (k : Lent) (right : lentRule k ≡ true) (gen nam : Beginning) (gt : te
   -- every state that a history reaches passes 201, so no call of it is refused for its state
   pub stands-always : (h : List Call) → stateRight k (deskAt k gen nam h) ≡ true
   stands-always h = ok k right gen nam gt nt h .1
+
+  -- "keeps the rest, 0 to 65,535" (document 02, W-211): whatever the history, of either service
+  pub rest-always : (h : List Call) (v : ℕ) → v < serviceCount → serviceAt (deskAt k gen nam h) v .player .place .rest < parts
+  rest-always h v service =
+      let d = deskAt k gen nam h in
+      rest-below _ (rest-kept (k .groups) (k .tracks) (serviceAt d v .player) (player-stands (k .groups) (k .tracks) d (stands-always h) v service))
 
   -- "while a client stays connected and subscribed, a value owed to it is handed out by the 112th answered take from when it fell due"
   pub value-by-the-112th : (who v s : ℕ) → who < clientCount → v < serviceCount → s < slotCount → (h ks : List Call) → Stays k gen nam who v s h ks

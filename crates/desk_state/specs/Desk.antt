@@ -26,7 +26,7 @@ noPlayer =
       name = record { octets = []; len = 0 };
       offer = record { mask = 0; ccid = 0 };
       mode = record { media = 0; order = 0; speed = 0; seeking = 0 };
-      place = record { group = record { 0 = 0 }; track = record { 0 = 0 }; position = record { 0 = 0 } };
+      place = record { group = record { 0 = 0 }; track = record { 0 = 0 }; position = record { 0 = 0 }; rest = 0 };
       upcoming = 0;
     }
 

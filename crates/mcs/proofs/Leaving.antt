@@ -45,7 +45,7 @@ stood k small d rows work e = go (accepted all) refl (sym (ap (λ (s : Said). s 
 
 -- Every call on a state has this form (`asked`). Where it leaves the state that the octets were, it leaves every octet as it was, those that mean nothing
 -- too; a refusal does so anyway.
-pub unchanged : (k : Lent) (small : Bool) (rows : List Row) (work : Left Desk) (old : List ℕ) → 641 ≤ length old → Octets old
+pub unchanged : (k : Lent) (small : Bool) (rows : List Row) (work : Left Desk) (old : List ℕ) → 649 ≤ length old → Octets old
     → asked k small (deskOf old) rows work .state ≡ deskOf old → stateAfter (asked k small (deskOf old) rows work) old ≡ old
 unchanged k small rows work old long octets same = go (l .said .isGranted) refl
   where
@@ -53,6 +53,6 @@ unchanged k small rows work old long octets same = go (l .said .isGranted) refl
     l = asked k small (deskOf old) rows work
 
     go : (t : Bool) → asked k small (deskOf old) rows work .said .isGranted ≡ t
-        → pick t (deskOctets (asked k small (deskOf old) rows work .state) ++ drop 641 old) old ≡ old
-    go true e = ap (λ (d : Desk). deskOctets d ++ drop 641 old) same ∙ plain (k .groups) (k .tracks) old long octets (stood k small (deskOf old) rows work e)
+        → pick t (deskOctets (asked k small (deskOf old) rows work .state) ++ drop 649 old) old ≡ old
+    go true e = ap (λ (d : Desk). deskOctets d ++ drop 649 old) same ∙ plain (k .groups) (k .tracks) old long octets (stood k small (deskOf old) rows work e)
     go false e = refl

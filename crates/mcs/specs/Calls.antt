@@ -73,7 +73,7 @@ partAfter l old = toldAfter (l .said .isGranted) (partValues (l .state)) old
 
 -- the octets of the next state, or as they were
 abbrev pub stateAfter : Left Desk → List ℕ → List ℕ
-stateAfter l old = pick (l .said .isGranted) (deskOctets (l .state) ++ drop 641 old) old
+stateAfter l old = pick (l .said .isGranted) (deskOctets (l .state) ++ drop 649 old) old
 
 -- the number, the octets afterwards, and the state that they are
 pub record Leaves (l : Left Desk) (old : List ℕ) (number : ℕ) (new : List ℕ) : Type 0 where

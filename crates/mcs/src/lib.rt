@@ -1,4 +1,4 @@
-// What C calls (include/mcs.h). The state is 641 octets that the caller keeps (`mcs_state`); each call reads it out of them, makes its call, and writes it back
+// What C calls (include/mcs.h). The state is 649 octets that the caller keeps (`mcs_state`); each call reads it out of them, makes its call, and writes it back
 // where that is accepted. A call returns 0, or the number of the refusal: then nothing that was lent is altered, but for the words that are lent for what a
 // refusal carries.
 ghost use mathlib.Core.Path.{_≡_};
@@ -234,7 +234,7 @@ fn tell_part(on: bool, title: catalogue_titles::Part, part: &mut [u32])
 
 // What every call on the state does at its end.
 fn finish(o: Outcome, state: &mut [u8], track: &mut [u32], octet: &mut [u32]) -> u32
-    requires { ⌜ 641 ≤ len (now state) ⌝ }
+    requires { ⌜ 649 ≤ len (now state) ⌝ }
     requires { ⌜ len (now track) ≡ 1 ⌝ }
     requires { ⌜ len (now octet) ≡ 1 ⌝ }
     requires { ⌜ AllWords (leftBy o .said .values) ⌝ }
@@ -437,7 +437,7 @@ pub extern "C" fn mcs_start(
     name1: &[u8],
     mask1: u32,
     ccid1: u8,
-    state: &mut [u8; 641],
+    state: &mut [u8; 649],
     track: &mut [u32; 1],
     octet: &mut [u32; 1],
 ) -> u32
@@ -469,7 +469,7 @@ pub extern "C" fn mcs_set_name<'a>(
     text: &'a [u8],
     renames: &[u32],
     office: &'a [u8],
-    state: &mut [u8; 641],
+    state: &mut [u8; 649],
     service: u32,
     name: &[u8],
     track: &mut [u32; 1],
@@ -501,7 +501,7 @@ pub extern "C" fn mcs_activate<'a>(
     text: &'a [u8],
     renames: &[u32],
     office: &'a [u8],
-    state: &mut [u8; 641],
+    state: &mut [u8; 649],
     service: u32,
     group: u32,
     track: &mut [u32; 1],
@@ -534,7 +534,7 @@ pub extern "C" fn mcs_deactivate<'a>(
     text: &'a [u8],
     renames: &[u32],
     office: &'a [u8],
-    state: &mut [u8; 641],
+    state: &mut [u8; 649],
     service: u32,
     track: &mut [u32; 1],
     octet: &mut [u32; 1],
@@ -555,7 +555,7 @@ pub extern "C" fn mcs_advance<'a>(
     text: &'a [u8],
     renames: &[u32],
     office: &'a [u8],
-    state: &mut [u8; 641],
+    state: &mut [u8; 649],
     service: u32,
     step: u32,
     track: &mut [u32; 1],
@@ -587,7 +587,7 @@ pub extern "C" fn mcs_connect(
     text: &[u8],
     renames: &[u32],
     office: &[u8],
-    state: &mut [u8; 641],
+    state: &mut [u8; 649],
     client: u32,
     mtu: u32,
     encrypted: u8,
@@ -621,7 +621,7 @@ pub extern "C" fn mcs_disconnect(
     text: &[u8],
     renames: &[u32],
     office: &[u8],
-    state: &mut [u8; 641],
+    state: &mut [u8; 649],
     client: u32,
     track: &mut [u32; 1],
     octet: &mut [u32; 1],
@@ -642,7 +642,7 @@ pub extern "C" fn mcs_subscribe(
     text: &[u8],
     renames: &[u32],
     office: &[u8],
-    state: &mut [u8; 641],
+    state: &mut [u8; 649],
     client: u32,
     service: u32,
     characteristic: u32,
@@ -676,7 +676,7 @@ pub extern "C" fn mcs_unsubscribe(
     text: &[u8],
     renames: &[u32],
     office: &[u8],
-    state: &mut [u8; 641],
+    state: &mut [u8; 649],
     client: u32,
     service: u32,
     characteristic: u32,
@@ -710,7 +710,7 @@ pub extern "C" fn mcs_read<'a>(
     text: &'a [u8],
     renames: &[u32],
     office: &'a [u8],
-    state: &mut [u8; 641],
+    state: &mut [u8; 649],
     client: u32,
     service: u32,
     characteristic: u32,
@@ -755,7 +755,7 @@ pub extern "C" fn mcs_take<'a>(
     text: &'a [u8],
     renames: &[u32],
     office: &'a [u8],
-    state: &mut [u8; 641],
+    state: &mut [u8; 649],
     out: &mut [u8],
     served: &mut [u32; 4],
     track: &mut [u32; 1],
@@ -783,7 +783,7 @@ pub extern "C" fn mcs_write<'a>(
     text: &'a [u8],
     renames: &[u32],
     office: &'a [u8],
-    state: &mut [u8; 641],
+    state: &mut [u8; 649],
     client: u32,
     service: u32,
     characteristic: u32,
@@ -819,7 +819,7 @@ pub extern "C" fn mcs_title(
     text: &[u8],
     renames: &[u32],
     office: &[u8],
-    state: &[u8; 641],
+    state: &[u8; 649],
     service: u32,
     part: &mut [u32; 3],
     track: &mut [u32; 1],

@@ -10,6 +10,7 @@ use lib.ListN.{length, take as firsts}
 use Rattle.ground.proofs.Cases.{clash}
 use Rattle.ground.specs.Lists.{tableAfter}
 use Rattle.catalogue_titles.specs.Lent.{Lent, lentRule}
+use Rattle.player_clock.specs.Clock.{parts}
 use Rattle.player_check.specs.Standing.{textRule}
 use Rattle.desk_slots.specs.Slots.{slotCount, serviceCount, clientCount, placeOf, serviceOf, slotAt}
 use Rattle.desk_client.specs.Client.{controlSlot}
@@ -86,6 +87,11 @@ module _ (k : Lent) (gen nam : Beginning) where
 
     abbrev ledger : Ledger
     ledger = ledgerAt k gen nam h
+
+    -- "keeps the rest, 0 to 65,535" (document 02, W-211): in the octets that C keeps
+    pub rest-always : (v : ℕ) → v < serviceCount → serviceAt (deskOf state) v .player .place .rest < parts
+    rest-always v service =
+        subst (λ (d : Desk). serviceAt d v .player .place .rest < parts) (sym (means k gen nam run)) (desk.rest-always k right gen nam gt nt h v service)
 
     module _ (who v : ℕ) (client : who < clientCount) (service : v < serviceCount) {ks : List Call} {l : List Handout} (on : Onward k state ks l) where
       -- "while a client stays connected and subscribed, a value owed to it is handed out by the 112th answered take from when it fell due"

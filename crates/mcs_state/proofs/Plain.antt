@@ -116,12 +116,12 @@ module _ (s : List ℕ) (octets : Octets s) where
   unfolding accountOctets accountFrom
   account-plain l = word-then 0 _ ∙ ap (four 0) (word-then 4 _ ∙ ap (four 4) (word-then 8 _ ∙ ap (four 8) (wide-then 12 _))) ∙ spelled 0 s 0 36 l
 
-  player-plain : (name : List ℕ) → length s ≡ 26 → playerOctets (playerFrom name s) ≡ s
+  player-plain : (name : List ℕ) → length s ≡ 30 → playerOctets (playerFrom name s) ≡ s
   unfolding playerOctets playerFrom
   player-plain name l =
       ap (λ (t : List ℕ). getD s 0 0 ∷ getD s 1 0 ∷ getD s 2 0 ∷ getD s 3 0 ∷ getD s 4 0 ∷ getD s 5 0 ∷ t)
-      (word-then 6 _ ∙ ap (four 6) (word-then 10 _ ∙ ap (four 10) (word-then 14 _ ∙ ap (four 14) (word-then 18 _ ∙ ap (four 18) (word-then 22 [])))))
-      ∙ spelled 0 s 0 26 l
+      (word-then 6 _ ∙ ap (four 6) (word-then 10 _ ∙ ap (four 10) (word-then 14 _ ∙ ap (four 14) (word-then 18 _ ∙ ap (four 18) (word-then 22 _ ∙ ap (four 22) (word-then 26 []))))))
+      ∙ spelled 0 s 0 30 l
 
 octets-drop : (a : ℕ) (s : List ℕ) → Octets s → Octets (drop a s)
 octets-drop zero s h = h
@@ -148,16 +148,16 @@ module _ (s : List ℕ) (octets : Octets s) where
   account-at : (a : ℕ) → a + 36 ≤ length s → accountOctets (accountFrom (take 36 (drop a s))) ≡ take 36 (drop a s)
   account-at a h = account-plain (take 36 (drop a s)) (cut a 36) (piece a 36 h)
 
-  service-plain : length s ≡ 298 → serviceOctets (serviceFrom s) ≡ s
+  service-plain : length s ≡ 302 → serviceOctets (serviceFrom s) ≡ s
   unfolding serviceOctets serviceFrom playerFrom
   service-plain l =
-      let accounts : eachOctets accountOctets (eachFrom accountFrom 36 s 154 4) ≡ take 144 (drop 154 s) =
-      each-plain accountFrom accountOctets 36 s 154 4
-      (onward (account-at 154 (omega arith)) (onward (account-at 190 (omega arith)) (onward (account-at 226 (omega arith)) (onward (account-at 262 (omega arith)) over)))) in
-      (λ i. take 128 s ++ player-plain (take 26 (drop 128 s)) (cut 128 26) (take 128 s) (piece 128 26 (omega arith)) i ++ accounts i)
-      ∙ (λ i. sym (take-add 128 26 s) i ++ take 144 (drop 154 s))
-      ∙ sym (take-add 154 144 s)
-      ∙ take-all 298 s (omega arith)
+      let accounts : eachOctets accountOctets (eachFrom accountFrom 36 s 158 4) ≡ take 144 (drop 158 s) =
+      each-plain accountFrom accountOctets 36 s 158 4
+      (onward (account-at 158 (omega arith)) (onward (account-at 194 (omega arith)) (onward (account-at 230 (omega arith)) (onward (account-at 266 (omega arith)) over)))) in
+      (λ i. take 128 s ++ player-plain (take 30 (drop 128 s)) (cut 128 30) (take 128 s) (piece 128 30 (omega arith)) i ++ accounts i)
+      ∙ (λ i. sym (take-add 128 30 s) i ++ take 144 (drop 158 s))
+      ∙ sym (take-add 158 144 s)
+      ∙ take-all 302 s (omega arith)
 
 -- a link that keeps 201 has yes-or-no octets that are 0 or 1
 bits : (s : List ℕ) → linkRule (linkFrom s) ≡ true → (isBit (getD s 0 0) && isBit (getD s 1 0)) ≡ true
@@ -183,20 +183,20 @@ unfolding deskOf
 layout-named groups tracks s stands = sym (getD-take 5 s 0 0 (omega arith)) ∙ laid-out (take 5 s) (turn-there groups tracks (deskOf s) stands)
 
 -- "201 .. a client record is wrong": an accepted state's octets are the encoding of the state that they are
-module _ (groups tracks s : List ℕ) (long : 641 ≤ length s) (octets : Octets s) (stands : deskRule groups tracks (deskOf s) ≡ true) where
-  link-at : (a : ℕ) → a + 10 ≤ 641 → linkRule (linkFrom (take 10 (drop a s))) ≡ true → linkOctets (linkFrom (take 10 (drop a s))) ≡ take 10 (drop a s)
+module _ (groups tracks s : List ℕ) (long : 649 ≤ length s) (octets : Octets s) (stands : deskRule groups tracks (deskOf s) ≡ true) where
+  link-at : (a : ℕ) → a + 10 ≤ 649 → linkRule (linkFrom (take 10 (drop a s))) ≡ true → linkOctets (linkFrom (take 10 (drop a s))) ≡ take 10 (drop a s)
   link-at a h rule =
       let r = take 10 (drop a s) in
       let both = bits r rule in
       link-plain r (cut s octets a 10) (piece s octets a 10 (omega arith)) (and-left (isBit (getD r 0 0)) (isBit (getD r 1 0)) both) (and-right (isBit (getD r 0 0)) (isBit (getD r 1 0)) both)
 
-  service-at : (a : ℕ) → a + 298 ≤ 641 → serviceOctets (serviceFrom (take 298 (drop a s))) ≡ take 298 (drop a s)
-  service-at a h = service-plain (take 298 (drop a s)) (cut s octets a 298) (piece s octets a 298 (omega arith))
+  service-at : (a : ℕ) → a + 302 ≤ 649 → serviceOctets (serviceFrom (take 302 (drop a s))) ≡ take 302 (drop a s)
+  service-at a h = service-plain (take 302 (drop a s)) (cut s octets a 302) (piece s octets a 302 (omega arith))
 
   rule-of : (who : ℕ) → who < 4 → linkRule (linkAt (deskOf s .links) who) ≡ true
   rule-of who h = link-stands groups tracks (deskOf s) stands who h
 
-  pub plain : deskOctets (deskOf s) ++ drop 641 s ≡ s
+  pub plain : deskOctets (deskOf s) ++ drop 649 s ≡ s
   unfolding deskOctets deskOf
   plain =
       let turn : turnOctets (turnFrom (take 5 s)) ≡ take 5 s =
@@ -207,9 +207,9 @@ module _ (groups tracks s : List ℕ) (long : 641 ≤ length s) (octets : Octets
       (onward (link-at 15 (omega arith) (rule-of 1 (omega arith)))
       (onward (link-at 25 (omega arith) (rule-of 2 (omega arith)))
       (onward (link-at 35 (omega arith) (rule-of 3 (omega arith))) over)))) in
-      let services : eachOctets serviceOctets (eachFrom serviceFrom 298 s 45 2) ≡ take 596 (drop 45 s) =
-      each-plain serviceFrom serviceOctets 298 s 45 2 (onward (service-at 45 (omega arith)) (onward (service-at 343 (omega arith)) over)) in
-      (λ i. turn i ++ links i ++ services i ++ drop 641 s)
-      ∙ (λ i. sym (take-add 5 40 s) i ++ take 596 (drop 45 s) ++ drop 641 s)
-      ∙ (λ i. sym (take-add 45 596 s) i ++ drop 641 s)
-      ∙ take-append-drop 641 s
+      let services : eachOctets serviceOctets (eachFrom serviceFrom 302 s 45 2) ≡ take 604 (drop 45 s) =
+      each-plain serviceFrom serviceOctets 302 s 45 2 (onward (service-at 45 (omega arith)) (onward (service-at 347 (omega arith)) over)) in
+      (λ i. turn i ++ links i ++ services i ++ drop 649 s)
+      ∙ (λ i. sym (take-add 5 40 s) i ++ take 604 (drop 45 s) ++ drop 649 s)
+      ∙ (λ i. sym (take-add 45 604 s) i ++ drop 649 s)
+      ∙ take-append-drop 649 s

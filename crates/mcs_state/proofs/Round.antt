@@ -114,17 +114,18 @@ player-again p =
             group = record { 0 = word (p .place .group .0) i };
             track = record { 0 = word (p .place .track .0) i };
             position = record { 0 = word (p .place .position .0) i };
+            rest = word (p .place .rest) i;
           };
       upcoming = word (p .upcoming) i;
     }
 
-pub player-long : (p : Player) → length (playerOctets p) ≡ 26
+pub player-long : (p : Player) → length (playerOctets p) ≡ 30
 unfolding playerOctets
 player-long p = refl
 
 -- a service: its arrays are as long as they are, and each account is read again
 pub service-kept : (v : Service) → length (v .player .name .octets) ≡ 128 → length (v .accounts) ≡ 4 → AllKept accountFrom accountOctets 36 (v .accounts)
-    → Kept serviceFrom serviceOctets 298 v
+    → Kept serviceFrom serviceOctets 302 v
 unfolding serviceFrom serviceOctets
 service-kept v name four kept =
     let n = v .player .name .octets in
@@ -132,12 +133,12 @@ service-kept v name four kept =
     let e = eachOctets accountOctets (v .accounts) in
     let grouped = append-assoc n h e in
     let tail : length e ≡ 144 = each-long accountFrom accountOctets 36 kept ∙ ap (λ (k : ℕ). k * 36) four in
-    let front : length (n ++ h) ≡ 154 = length-append n h ∙ (λ i. name i + player-long (v .player) i) in
+    let front : length (n ++ h) ≡ 158 = length-append n h ∙ (λ i. name i + player-long (v .player) i) in
     let named : part (n ++ h ++ e) 0 128 ≡ n = ap (take 128) grouped ∙ take-at n (h ++ e) 128 name in
-    let rest : part (n ++ h ++ e) 128 154 ≡ h =
-    ap (λ (l : List ℕ). take 26 (drop 128 l)) grouped ∙ ap (take 26) (drop-at n (h ++ e) 128 name) ∙ take-at h e 26 (player-long (v .player)) in
-    let accounts : eachFrom accountFrom 36 (n ++ h ++ e) 154 4 ≡ v .accounts =
-    (λ i. eachFrom accountFrom 36 (n ++ h ++ sym (append-nil e) i) 154 (sym four i)) ∙ each-again accountFrom accountOctets 36 kept (n ++ h) [] 154 front in
+    let rest : part (n ++ h ++ e) 128 158 ≡ h =
+    ap (λ (l : List ℕ). take 30 (drop 128 l)) grouped ∙ ap (take 30) (drop-at n (h ++ e) 128 name) ∙ take-at h e 30 (player-long (v .player)) in
+    let accounts : eachFrom accountFrom 36 (n ++ h ++ e) 158 4 ≡ v .accounts =
+    (λ i. eachFrom accountFrom 36 (n ++ h ++ sym (append-nil e) i) 158 (sym four i)) ∙ each-again accountFrom accountOctets 36 kept (n ++ h) [] 158 front in
     record {
       long = length-append (n ++ h) e ∙ (λ i. front i + tail i);
       back = λ i. record { player = ((λ j. playerFrom (named j) (rest j)) ∙ player-again (v .player)) i; accounts = accounts i };
@@ -148,7 +149,7 @@ unfolding turnOctets
 turn-long turn = refl
 
 -- the state that is read out of what was written is the state
-pub again : (d : Desk) (t : List ℕ) → length (d .links) ≡ 4 → length (d .services) ≡ 2 → AllKept serviceFrom serviceOctets 298 (d .services)
+pub again : (d : Desk) (t : List ℕ) → length (d .links) ≡ 4 → length (d .services) ≡ 2 → AllKept serviceFrom serviceOctets 302 (d .services)
     → deskOf (deskOctets d ++ t) ≡ d
 unfolding deskOf deskOctets turnFrom turnOctets wordAt
 again d t four two kept =
@@ -160,6 +161,6 @@ again d t four two kept =
     length-append h l ∙ ap (λ (k : ℕ). 5 + k) (each-long linkFrom linkOctets 10 (links-kept (d .links)) ∙ ap (λ (k : ℕ). k * 10) four) in
     let links : eachFrom linkFrom 10 (h ++ l ++ e ++ t) 5 4 ≡ d .links =
     (λ i. eachFrom linkFrom 10 ((behind ∙ append-assoc h l (e ++ t)) i) 5 (sym four i)) ∙ each-again linkFrom linkOctets 10 (links-kept (d .links)) h (e ++ t) 5 refl in
-    let services : eachFrom serviceFrom 298 (h ++ l ++ e ++ t) 45 2 ≡ d .services =
-    (λ i. eachFrom serviceFrom 298 (behind i) 45 (sym two i)) ∙ each-again serviceFrom serviceOctets 298 kept (h ++ l) t 45 front in
+    let services : eachFrom serviceFrom 302 (h ++ l ++ e ++ t) 45 2 ≡ d .services =
+    (λ i. eachFrom serviceFrom 302 (behind i) 45 (sym two i)) ∙ each-again serviceFrom serviceOctets 302 kept (h ++ l) t 45 front in
     λ i. record { services = services i; links = links i; turn = word (d .turn) i }

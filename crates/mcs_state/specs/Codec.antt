@@ -53,9 +53,9 @@ pub record Kept {A : Type 0} (read : List ℕ → A) (write : A → List ℕ) (s
   pub long : length (write x) ≡ size
   pub back : read (write x) ≡ x
 
--- The octet that names the layout, 0x80 + 3. A state of layout 1 began with its player's name, and no UTF-8 text begins with an octet from 0x80 to 0xBF.
+-- The octet that names the layout, 0x80 + 4. A state of layout 1 began with its player's name, and no UTF-8 text begins with an octet from 0x80 to 0xBF.
 abbrev pub layout : ℕ
-layout = 131
+layout = 132
 
 -- the turn of a state of another layout: there is no such client, so that 201 refuses the state and it is not misread
 abbrev pub noTurn : ℕ
@@ -97,15 +97,15 @@ unfoldable pub accountOctets : Account → List ℕ
 accountOctets a =
     wordThen (a .subscribed) (wordThen (a .owed) (wordThen (a .fresh) (wideThen (a .waiting) (entryOctets (a .results) 0 8))))
 
--- a player, of its name's octets and the 26 behind them: 0 the name's length, 1 Content Control ID, 2 state, 3 order, 4 playback speed, 5 seeking speed,
--- 6 the mask, 10 group, 14 track, 18 position, 22 the named next track; and those 26
+-- a player, of its name's octets and the 30 behind them: 0 the name's length, 1 Content Control ID, 2 state, 3 order, 4 playback speed, 5 seeking speed,
+-- 6 the mask, 10 group, 14 track, 18 position, 22 the named next track, 26 the rest of the clock; and those 30
 unfoldable pub playerFrom : List ℕ → List ℕ → Player
 playerFrom name s =
     record {
       name = record { octets = name; len = getD s 0 0 };
       offer = record { mask = wordAt s 6; ccid = getD s 1 0 };
       mode = record { media = getD s 2 0; order = getD s 3 0; speed = getD s 4 0; seeking = getD s 5 0 };
-      place = record { group = record { 0 = wordAt s 10 }; track = record { 0 = wordAt s 14 }; position = record { 0 = wordAt s 18 } };
+      place = record { group = record { 0 = wordAt s 10 }; track = record { 0 = wordAt s 14 }; position = record { 0 = wordAt s 18 }; rest = wordAt s 26 };
       upcoming = wordAt s 22;
     }
 
@@ -117,20 +117,20 @@ playerOctets p =
     ∷ p .mode .order
     ∷ p .mode .speed
     ∷ p .mode .seeking
-    ∷ wordThen (p .offer .mask) (wordThen (p .place .group .0) (wordThen (p .place .track .0) (wordThen (p .place .position .0) (wordThen (p .upcoming) []))))
+    ∷ wordThen (p .offer .mask) (wordThen (p .place .group .0) (wordThen (p .place .track .0) (wordThen (p .place .position .0) (wordThen (p .upcoming) (wordThen (p .place .rest) [])))))
 
--- a service, of 298 octets: 0 the name's octets, 128 the rest of the player, 154 the accounts of the clients
+-- a service, of 302 octets: 0 the name's octets, 128 the rest of the player, 158 the accounts of the clients
 unfoldable pub serviceFrom : List ℕ → Service
-serviceFrom s = record { player = playerFrom (part s 0 128) (part s 128 154); accounts = eachFrom accountFrom 36 s 154 clientCount }
+serviceFrom s = record { player = playerFrom (part s 0 128) (part s 128 158); accounts = eachFrom accountFrom 36 s 158 clientCount }
 
 unfoldable pub serviceOctets : Service → List ℕ
 serviceOctets v = v .player .name .octets ++ playerOctets (v .player) ++ eachOctets accountOctets (v .accounts)
 
--- the state, of 641 octets or more: 0 the layout and the turn, 5 the links, 45 the services
+-- the state, of 649 octets or more: 0 the layout and the turn, 5 the links, 45 the services
 unfoldable pub deskOf : List ℕ → Desk
 deskOf s =
     record {
-      services = eachFrom serviceFrom 298 s 45 serviceCount;
+      services = eachFrom serviceFrom 302 s 45 serviceCount;
       links = eachFrom linkFrom 10 s 5 clientCount;
       turn = turnFrom (part s 0 5);
     }

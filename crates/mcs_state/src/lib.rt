@@ -1,5 +1,5 @@
 // The state as octets at fixed places, lowest octet first: the octet that names the layout at 0, the turn at 1, the links at 5, 10 octets each, and the
-// services at 45, 298 octets each; 641 in all. A state of another layout, and one with a yes-or-no octet that is neither 0 nor 1, is read as a state that
+// services at 45, 302 octets each; 649 in all. A state of another layout, and one with a yes-or-no octet that is neither 0 nor 1, is read as a state that
 // 201 refuses.
 ghost use mathlib.Core.Path.{_≡_};
 ghost use mathlib.Core.List.{_++_};
@@ -20,7 +20,7 @@ use player_state::Place;
 use player_state::Player;
 
 // The octet that names the layout.
-const LAYOUT: u8 = 0x83;
+const LAYOUT: u8 = 0x84;
 
 // The turn of a state of another layout: there is no client 4, and 201 refuses it.
 const NO_TURN: u32 = desk_slots::CLIENTS;
@@ -33,7 +33,7 @@ const LINK: usize = 10;
 // In a service, where the rest of the player begins behind its name, and where the accounts begin; and the octets of each account.
 const PLAYER: usize = 128;
 
-const ACCOUNTS: usize = PLAYER + 26;
+const ACCOUNTS: usize = PLAYER + 30;
 
 const ACCOUNT: usize = 36;
 
@@ -89,7 +89,7 @@ fn mtu_from(s: &[u8]) -> u32
 
 // The link of a client, out of a state's octets.
 fn link_from(s: &[u8], who: usize) -> Link
-    requires { ⌜ (who < 4) × (641 ≤ length (now s)) ⌝ }
+    requires { ⌜ (who < 4) × (649 ≤ length (now s)) ⌝ }
     ensures { λ r. ⌜ r ≡ linkFrom (part (now (s .entry)) (5 + who * 10) (5 + who * 10 + 10)) ⌝ }
 {
     let at = LINKS + who * LINK;
@@ -124,8 +124,8 @@ fn link_octets(l: Link) -> [u8; 10]
 
 // The account of a client, out of a service's octets.
 fn account_from(s: &[u8], who: usize) -> Account
-    requires { ⌜ (who < 4) × (298 ≤ length (now s)) ⌝ }
-    ensures { λ r. ⌜ r ≡ accountFrom (part (now (s .entry)) (154 + who * 36) (154 + who * 36 + 36)) ⌝ }
+    requires { ⌜ (who < 4) × (302 ≤ length (now s)) ⌝ }
+    ensures { λ r. ⌜ r ≡ accountFrom (part (now (s .entry)) (158 + who * 36) (158 + who * 36 + 36)) ⌝ }
 {
     let at = ACCOUNTS + who * ACCOUNT;
     let end = at + ACCOUNT;
@@ -219,9 +219,9 @@ fn account_octets(a: Account) -> [u8; 36]
     ]
 }
 
-// The player, out of the octets of its name and the 26 octets behind them.
+// The player, out of the octets of its name and the 30 octets behind them.
 fn player_from(name: &[u8], s: &[u8]) -> Player
-    requires { ⌜ (length (now name) ≡ 128) × (26 ≤ length (now s)) ⌝ }
+    requires { ⌜ (length (now name) ≡ 128) × (30 ≤ length (now s)) ⌝ }
     ensures { λ r. ⌜ r ≡ playerFrom (now (name .entry)) (now (s .entry)) ⌝ }
 {
     let octets = player_state::fill([0u8; 128], name);
@@ -246,6 +246,7 @@ fn player_from(name: &[u8], s: &[u8]) -> Player
         group: group,
         track: track,
         position: position,
+        rest: ground::word_at(s, 26),
     };
     Player {
         name: called,
@@ -256,8 +257,8 @@ fn player_from(name: &[u8], s: &[u8]) -> Player
     }
 }
 
-// The 26 octets behind the name's.
-fn player_octets(p: Player) -> [u8; 26]
+// The 30 octets behind the name's.
+fn player_octets(p: Player) -> [u8; 30]
     ensures { λ r. ⌜ r ≡ playerOctets p ⌝ }
 {
     let mask = p.offer.mask;
@@ -265,6 +266,7 @@ fn player_octets(p: Player) -> [u8; 26]
     let track = p.place.track.0;
     let position = p.place.position.0;
     let upcoming = p.upcoming;
+    let rest = p.place.rest;
     [
         p.name.len,
         p.offer.ccid,
@@ -292,13 +294,17 @@ fn player_octets(p: Player) -> [u8; 26]
         (upcoming / 256 % 256) as u8,
         (upcoming / 65536 % 256) as u8,
         (upcoming / 16777216) as u8,
+        (rest % 256) as u8,
+        (rest / 256 % 256) as u8,
+        (rest / 65536 % 256) as u8,
+        (rest / 16777216) as u8,
     ]
 }
 
 // A service, out of a state's octets.
 fn service_from(s: &[u8], service: usize) -> Service
-    requires { ⌜ (service < 2) × (641 ≤ length (now s)) ⌝ }
-    ensures { λ r. ⌜ r ≡ serviceFrom (part (now (s .entry)) (45 + service * 298) (45 + service * 298 + 298)) ⌝ }
+    requires { ⌜ (service < 2) × (649 ≤ length (now s)) ⌝ }
+    ensures { λ r. ⌜ r ≡ serviceFrom (part (now (s .entry)) (45 + service * 302) (45 + service * 302 + 302)) ⌝ }
 {
     let at = SERVICES + service * SERVICE;
     let end = at + SERVICE;
@@ -315,9 +321,9 @@ fn service_from(s: &[u8], service: usize) -> Service
     }
 }
 
-// The state of 641 octets or more.
+// The state of 649 octets or more.
 pub fn decode(s: &[u8]) -> Desk
-    requires { ⌜ 641 ≤ length (now s) ⌝ }
+    requires { ⌜ 649 ≤ length (now s) ⌝ }
     ensures { λ r. ⌜ r ≡ deskOf (now (s .entry)) ⌝ }
 {
     let turn = turn_from(&s[0..LINKS]);
@@ -365,7 +371,7 @@ fn two_services(services: [Service; 2])
 {}
 
 fn put_turn(s: &mut [u8], turn: u32)
-    requires { ⌜ 641 ≤ length (now s) ⌝ }
+    requires { ⌜ 649 ≤ length (now s) ⌝ }
     ensures { λ _. ⌜ now (s .exit) ≡ paste (now (s .entry)) 0 (turnOctets turn) 5 ⌝ }
 {
     let octets = turn_octets(turn);
@@ -373,7 +379,7 @@ fn put_turn(s: &mut [u8], turn: u32)
 }
 
 fn put_link(s: &mut [u8], who: usize, l: Link)
-    requires { ⌜ (who < 4) × (641 ≤ length (now s)) ⌝ }
+    requires { ⌜ (who < 4) × (649 ≤ length (now s)) ⌝ }
     ensures { λ _. ⌜ now (s .exit) ≡ paste (now (s .entry)) (5 + who * 10) (linkOctets l) 10 ⌝ }
 {
     let octets = link_octets(l);
@@ -382,15 +388,15 @@ fn put_link(s: &mut [u8], who: usize, l: Link)
 
 // A player's name, and what is behind it, at a service's place.
 fn put_name(s: &mut [u8], at: usize, name: [u8; 128])
-    requires { ⌜ at + 298 ≤ length (now s) ⌝ }
+    requires { ⌜ at + 302 ≤ length (now s) ⌝ }
     ensures { λ _. ⌜ (now (s .exit) ≡ paste (now (s .entry)) at name 128) × (length name ≡ 128) ⌝ }
 {
     put(s, at, &name);
 }
 
 fn put_player(s: &mut [u8], at: usize, p: Player)
-    requires { ⌜ at + 298 ≤ length (now s) ⌝ }
-    ensures { λ _. ⌜ now (s .exit) ≡ paste (now (s .entry)) (at + 128) (playerOctets p) 26 ⌝ }
+    requires { ⌜ at + 302 ≤ length (now s) ⌝ }
+    ensures { λ _. ⌜ now (s .exit) ≡ paste (now (s .entry)) (at + 128) (playerOctets p) 30 ⌝ }
 {
     let octets = player_octets(p);
     put(s, at + PLAYER, &octets);
@@ -398,8 +404,8 @@ fn put_player(s: &mut [u8], at: usize, p: Player)
 
 // A client's account with the service at a place.
 fn put_account(s: &mut [u8], at: usize, who: usize, a: Account)
-    requires { ⌜ (who < 4) × (at + 298 ≤ length (now s)) ⌝ }
-    ensures { λ _. ⌜ now (s .exit) ≡ paste (now (s .entry)) (at + (154 + who * 36)) (accountOctets a) 36 ⌝ }
+    requires { ⌜ (who < 4) × (at + 302 ≤ length (now s)) ⌝ }
+    ensures { λ _. ⌜ now (s .exit) ≡ paste (now (s .entry)) (at + (158 + who * 36)) (accountOctets a) 36 ⌝ }
     ensures { λ _. ⌜ Kept accountFrom accountOctets 36 a ⌝ }
 {
     let rs = a.results;
@@ -409,9 +415,9 @@ fn put_account(s: &mut [u8], at: usize, who: usize, a: Account)
 }
 
 fn put_service(s: &mut [u8], service: usize, v: Service)
-    requires { ⌜ (service < 2) × (641 ≤ length (now s)) ⌝ }
-    ensures { λ _. ⌜ now (s .exit) ≡ paste (now (s .entry)) (45 + service * 298) (serviceOctets v) 298 ⌝ }
-    ensures { λ _. ⌜ Kept serviceFrom serviceOctets 298 v ⌝ }
+    requires { ⌜ (service < 2) × (649 ≤ length (now s)) ⌝ }
+    ensures { λ _. ⌜ now (s .exit) ≡ paste (now (s .entry)) (45 + service * 302) (serviceOctets v) 302 ⌝ }
+    ensures { λ _. ⌜ Kept serviceFrom serviceOctets 302 v ⌝ }
 {
     let at = SERVICES + service * SERVICE;
     let p = v.player;
@@ -428,8 +434,8 @@ fn put_service(s: &mut [u8], service: usize, v: Service)
 
 // The octets of a state over the front of s; read again they give the state back.
 pub fn encode(d: Desk, s: &mut [u8])
-    requires { ⌜ 641 ≤ length (now s) ⌝ }
-    ensures { λ _. ⌜ now (s .exit) ≡ deskOctets d ++ drop 641 (now (s .entry)) ⌝ }
+    requires { ⌜ 649 ≤ length (now s) ⌝ }
+    ensures { λ _. ⌜ now (s .exit) ≡ deskOctets d ++ drop 649 (now (s .entry)) ⌝ }
     ensures { λ _. ⌜ deskOf (now (s .exit)) ≡ d ⌝ }
 {
     let links = d.links;

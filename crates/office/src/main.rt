@@ -1,6 +1,6 @@
 // Plays a script of the thirteen calls on the whole from standard input, over the sample catalogue of document 01, and writes a line for each call: its
-// answer; and for each of the two services the media state, order and both speeds; the group, track and position and the named next track, or - where
-// none is named; and each of the four clients, as ATT_MTU: subscribed; owed; waiting results, or - while it is unconnected. A ! ends the line where lent
+// answer; and for each of the two services the media state, order and both speeds; the group, track and position, with + and the rest of the clock where
+// there is one, and the named next track, or - where none is named; and each of the four clients, as ATT_MTU: subscribed; owed; waiting results, or - while it is unconnected. A ! ends the line where lent
 // octets behind the answer did not stay.
 // A frame of the script: an octet for the catalogue (0 the sample, 1 the sample with long titles, 2 and 3 wrong ones, 4 the sample with segments close
 // to each other, 5 the sample with recordings that are still running, 6 the sample with two titles that are not UTF-8, 7 the same with wrong groups, 8 the
@@ -284,6 +284,14 @@ fn write_upcoming(upcoming: u32) {
     write_number(upcoming - 1);
 }
 
+// What the clock has kept of a hundredth of a second, directly behind the position.
+fn write_rest(rest: u32) {
+    if rest != 0 {
+        io::write_all(1, b"+");
+        io::print_decimal(1, rest as u64);
+    }
+}
+
 fn write_player(p: player_state::Player) {
     write_media(p.mode.media);
     write_number(ground::wide_octet(p.mode.order));
@@ -293,6 +301,7 @@ fn write_player(p: player_state::Player) {
     write_number(p.place.group.0);
     write_number(p.place.track.0);
     write_number(p.place.position.0);
+    write_rest(p.place.rest);
     write_upcoming(p.upcoming);
 }
 
@@ -614,9 +623,16 @@ fn with_place(
         group: catalogue_tables::GroupNo(group),
         track: catalogue_tables::TrackNo(track),
         position: catalogue_tables::Position(position),
+        rest: p.place.rest,
     };
     let mut q = p;
     q.place = place;
+    q
+}
+
+fn with_rest(p: player_state::Player, rest: u32) -> player_state::Player {
+    let mut q = p;
+    q.place.rest = rest;
     q
 }
 
@@ -652,6 +668,7 @@ fn with_first_octet(p: player_state::Player, first: u8) -> player_state::Player 
 // Sets one part of the player to anything.
 fn damage_player(p: player_state::Player, part: u8, number: u32) -> player_state::Player {
     match part {
+        0 => with_rest(p, number),
         1 => player_state::in_mode(p, low(number), p.mode.seeking),
         2 => player_state::with_order(p, low(number)),
         3 => player_state::in_mode(p, p.mode.media, low(number)),

@@ -14,6 +14,7 @@ use Rattle.ground.proofs.Cases.{past, here, and-left, and-right, and-both}
 use Rattle.text.specs.Utf8.{textSaid}
 use Rattle.text.proofs.Law.{offset-within}
 use Rattle.catalogue_tables.specs.Tables.{groupCount, firstTrackOf, tracksIn, endOf}
+use Rattle.player_clock.specs.Clock.{restRule}
 use Rattle.player_state.specs.declared.Mode.{Mode}
 use Rattle.player_state.specs.declared.Player.{Player}
 use Rattle.player_state.specs.Player.{inactive, seeking, named}
@@ -106,10 +107,13 @@ module _ (groups tracks : List ℕ) (p : Player) where
   abbrev nextRule : Bool
   nextRule = upcomingRule groups (ltb inactive media) group (p .upcoming)
 
+  abbrev forepart : Bool
+  forepart = nameRule (p .name) && modeRule (p .mode) && placeRule groups tracks (ltb inactive media) (p .place)
+
   pub stands : nameRule (p .name) ≡ true → modeRule (p .mode) ≡ true → placeRule groups tracks (ltb inactive media) (p .place) ≡ true
-      → upcomingRule groups (ltb inactive media) group (p .upcoming) ≡ true → playerRule groups tracks p ≡ true
+      → upcomingRule groups (ltb inactive media) group (p .upcoming) ≡ true → restRule (p .place .rest) ≡ true → playerRule groups tracks p ≡ true
   unfolding playerRule
-  stands name mode place next = and-both (and-both (and-both name mode) place) next
+  stands name mode place next rest = and-both (and-both (and-both (and-both name mode) place) next) rest
 
   -- no track is named; or one of the current group is
   pub none-stands : p .upcoming ≡ 0 → upcomingRule groups (ltb inactive media) group (p .upcoming) ≡ true
@@ -135,9 +139,12 @@ module _ (groups tracks : List ℕ) (p : Player) where
       sym (past _ (le-ltb inactive media (omega arith)) (sym (and-both (and-both (eq-eqb _ _ g) (eq-eqb _ _ t)) (eq-eqb _ _ at))))
 
   module _ (right : playerRule groups tracks p ≡ true) where
-    all-but-next : (nameRule (p .name) && modeRule (p .mode) && placeRule groups tracks (ltb inactive media) (p .place)) ≡ true
+    all-but-rest : (forepart && nextRule) ≡ true
     unfolding playerRule
-    all-but-next = and-left (nameRule (p .name) && modeRule (p .mode) && placeRule groups tracks (ltb inactive media) (p .place)) nextRule right
+    all-but-rest = and-left (forepart && nextRule) (restRule (p .place .rest)) right
+
+    all-but-next : forepart ≡ true
+    all-but-next = and-left forepart nextRule all-but-rest
 
     name-and-mode : (nameRule (p .name) && modeRule (p .mode)) ≡ true
     name-and-mode = and-left (nameRule (p .name) && modeRule (p .mode)) (placeRule groups tracks (ltb inactive media) (p .place)) all-but-next
@@ -152,8 +159,11 @@ module _ (groups tracks : List ℕ) (p : Player) where
     place-kept = and-right (nameRule (p .name) && modeRule (p .mode)) (placeRule groups tracks (ltb inactive media) (p .place)) all-but-next
 
     pub next-kept : upcomingRule groups (ltb inactive media) group (p .upcoming) ≡ true
+    next-kept = and-right forepart nextRule all-but-rest
+
+    pub rest-kept : restRule (p .place .rest) ≡ true
     unfolding playerRule
-    next-kept = and-right (nameRule (p .name) && modeRule (p .mode) && placeRule groups tracks (ltb inactive media) (p .place)) nextRule right
+    rest-kept = and-right (forepart && nextRule) (restRule (p .place .rest)) right
 
     -- a track that is named is one of the current group, and there is one
     named-right : (p .upcoming ≡ 0 → ⊥) → (ltb inactive media && inGroup groups group (p .upcoming - 1)) ≡ true

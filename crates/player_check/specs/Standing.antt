@@ -1,5 +1,5 @@
 -- The player's part of 201 (document 01, "Refusal numbers"): "the state breaks a player rule above for this catalogue (group, track in it, position,
--- state, seeking speed, order), its name breaks 207"; and the track that is named to come next (document 02, W-209).
+-- state, seeking speed, order), its name breaks 207"; the track that is named to come next (document 02, W-209); and the rest of the clock (W-211).
 -- Assumes nothing.
 use mathlib.Core.Bool.{Bool, true, false, _&&_, not}
 use mathlib.Core.List.{List, [], _∷_}
@@ -11,6 +11,7 @@ use Rattle.ground.specs.Refusals.{Row, row, rowWith}
 use Rattle.ground.specs.Limits.{mostTitle}
 use Rattle.text.specs.Utf8.{textOf, textSaid, isFine}
 use Rattle.catalogue_tables.specs.Tables.{groupCount, firstTrackOf, tracksIn, endOf}
+use Rattle.player_clock.specs.Clock.{restRule}
 use Rattle.player_state.specs.declared.Name.{Name}
 use Rattle.player_state.specs.declared.Mode.{Mode}
 use Rattle.player_state.specs.declared.Place.{Place}
@@ -70,9 +71,11 @@ placeRule groups tracks active l = pick active (somePlace groups tracks l) (noPl
 unfoldable pub upcomingRule : List ℕ → Bool → ℕ → ℕ → Bool
 upcomingRule groups active g upcoming = pick (eqb upcoming 0) true (active && inGroup groups g (upcoming - 1))
 
+-- "201 also for a rest over 65,535", in every state
 unfoldable pub playerRule : List ℕ → List ℕ → Player → Bool
 playerRule groups tracks p =
     nameRule (p .name)
     && modeRule (p .mode)
     && placeRule groups tracks (ltb inactive (p .mode .media)) (p .place)
     && upcomingRule groups (ltb inactive (p .mode .media)) (p .place .group .0) (p .upcoming)
+    && restRule (p .place .rest)

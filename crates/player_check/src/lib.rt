@@ -97,7 +97,8 @@ pub fn player_right(groups: &[u32], tracks: &[u32], p: player_state::Player) -> 
     let mode = mode_right(p.mode);
     let place = place_right(groups, tracks, active, p.place);
     let named = upcoming_right(groups, active, p.place.group, p.upcoming);
-    name & mode & place & named
+    let rest = player_clock::rest_right(p.place.rest);
+    name & mode & place & named & rest
 }
 
 // 208: whether a group is there and has tracks.

@@ -7,7 +7,7 @@ use Prim.Native.Nat.{ℕ, _+_, min}
 use native.Mathlib.Omega.{arith}
 use borrow.Author.Tests.{eq-eqb, ne-eqb, eqb-true, eqb-false, ltb-true, ltb-false, not-true, not-false}
 use lib.Dec.{eqb, ltb}
-use Rattle.ground.specs.Cases.{has}
+use Rattle.ground.specs.Cases.{has, pick}
 use Rattle.ground.proofs.Cases.{past, here, and-left, clash, true-or}
 use Rattle.player_walk.specs.Signed.{signedWord, isNegative}
 use Rattle.player_walk.specs.declared.Near.{Near}
@@ -19,13 +19,13 @@ use Rattle.player_opcodes.proofs.Laws.{action-known}
 use Rattle.player_state.specs.declared.Name.{Name}
 use Rattle.player_state.specs.declared.Offer.{Offer}
 use Rattle.player_state.specs.declared.Player.{Player}
-use Rattle.player_state.specs.Player.{inactive, playing, seeking, isActive, inMode, withName, withUpcoming, atPosition, atPlace, renamed, deactivated, withOrder, withSpeed}
+use Rattle.player_state.specs.Player.{inactive, playing, seeking, isActive, inMode, withName, withUpcoming, clockedTo, atPlace, renamed, deactivated, withOrder, withSpeed}
 use Rattle.player_state.specs.Modes.{forwarded, rewound, movedTo}
-use Rattle.player_moves.specs.Moves.{endNow, runningNow, segmentAfter, nextTrack, groupAfter, entryOf}
+use Rattle.player_moves.specs.Moves.{endNow, runningNow, nextTrack, groupAfter, entryOf}
 use Rattle.player_moves.specs.Control.{failed, entered, trackReached, leftNamed, trackMoved, acted, controlled}
-use Rattle.player_moves.specs.Clock.{staysBelow, afterEnd, playedOn, soughtOn, advanced, positioned, activatedOn, activated}
+use Rattle.player_moves.specs.Clock.{clockStep, staysBelow, afterEnd, playedOn, soughtOn, advanced, positioned, activatedOn, activated}
 use Rattle.player_moves.specs.declared.Controlled.{Controlled}
-use Rattle.player_moves.proofs.Choices.{by-test, by-found, by-control}
+use Rattle.player_moves.proofs.Choices.{by-test, by-found, by-segment, by-control}
 
 -- what only a call of its own alters: the name, what is offered, the order and the playback speed
 pub record Setting : Type 0 where
@@ -65,11 +65,11 @@ module _ (p : Player) where
       by-test (λ q. Alike (atPlace g t 0 q)) (eqb (p .mode .media) seeking) (inMode playing 0 (withUpcoming n p)) (withUpcoming n p) (λ e. refl) (λ e. refl)
 
   -- what was changed, put back as it was, gives the player as before
-  pub positioned-alone : (tracks : List ℕ) (number : ℕ) → atPosition (p .place .position .0) (positioned tracks number p) ≡ p
+  pub positioned-alone : (tracks : List ℕ) (number : ℕ) → clockedTo (p .place .position .0) (p .place .rest) (positioned tracks number p) ≡ p
   unfolding positioned
   positioned-alone tracks number =
-      by-test (λ q. atPosition (p .place .position .0) q ≡ p) (isActive p) _ p
-      (λ a. by-test (λ q. atPosition (p .place .position .0) q ≡ p) (runningNow tracks p && isNegative (signedWord number)) p _ (λ t. refl) (λ t. refl))
+      by-test (λ q. clockedTo (p .place .position .0) (p .place .rest) q ≡ p) (isActive p) _ p
+      (λ a. by-test (λ q. clockedTo (p .place .position .0) (p .place .rest) q ≡ p) (runningNow tracks p && isNegative (signedWord number)) p _ (λ t. refl) (λ t. refl))
       (λ a. refl)
 
   pub positioned-idle : (tracks : List ℕ) (number : ℕ) → p .mode .media ≡ inactive → positioned tracks number p ≡ p
@@ -112,25 +112,35 @@ module _ (p : Player) where
         (λ n. by-test Alike (eqb (p .mode .media) seeking) _ _ (λ e. refl) (λ m. refl))
 
     pub advanced-within : (d : ℕ) → p .mode .media ≡ playing → staysBelow tracks d p ≡ true
-        → advanced groups tracks d p ≡ atPosition (p .place .position .0 + d) p
+        → advanced groups tracks d p ≡ clockedTo (p .place .position .0 + clockStep d p .whole) (clockStep d p .rest) p
     unfolding advanced playedOn
     advanced-within d e h = sym (here _ (eq-eqb _ _ e) (here _ h refl))
 
-    -- a running recording does not end: its position runs, is held, and nothing else changes
+    -- a running recording does not end: its position runs and is held; below the end the step's rest is kept, at it the one that there was; and nothing
+    -- else changes
     pub advanced-running : (d : ℕ) → p .mode .media ≡ playing → runningNow tracks p ≡ true
-        → advanced groups tracks d p ≡ atPosition (min (p .place .position .0 + d) (endNow tracks p)) p
+        → advanced groups tracks d p
+        ≡ clockedTo (min (p .place .position .0 + clockStep d p .whole) (endNow tracks p)) (pick (staysBelow tracks d p) (clockStep d p .rest) (p .place .rest)) p
     unfolding advanced playedOn
     advanced-running d e r = sym (here _ (eq-eqb _ _ e) (⊎-elim before at (true-or (staysBelow tracks d p))))
       where
-        before : staysBelow tracks d p ≡ true → atPosition (min (p .place .position .0 + d) (endNow tracks p)) p ≡ playedOn groups tracks d p
-        before t =
-            let m : min (p .place .position .0 + d) (endNow tracks p) ≡ p .place .position .0 + d = omega (arith, ltb-true (p .place .position .0 + d) (endNow tracks p) t) in
-            here _ t (ap (λ (x : ℕ). atPosition x p) m)
+        to : ℕ
+        to = p .place .position .0 + clockStep d p .whole
 
-        at : staysBelow tracks d p ≡ false → atPosition (min (p .place .position .0 + d) (endNow tracks p)) p ≡ playedOn groups tracks d p
+        runs : Player
+        runs = clockedTo (min to (endNow tracks p)) (pick (staysBelow tracks d p) (clockStep d p .rest) (p .place .rest)) p
+
+        before : staysBelow tracks d p ≡ true → runs ≡ playedOn groups tracks d p
+        before t =
+            let m : min to (endNow tracks p) ≡ to = omega (arith, ltb-true to (endNow tracks p) t) in
+            let r : pick (staysBelow tracks d p) (clockStep d p .rest) (p .place .rest) ≡ clockStep d p .rest = sym (here _ t refl) in
+            here _ t (λ i. clockedTo (m i) (r i) p)
+
+        at : staysBelow tracks d p ≡ false → runs ≡ playedOn groups tracks d p
         at t =
-            let m : min (p .place .position .0 + d) (endNow tracks p) ≡ endNow tracks p = omega (arith, ltb-false (p .place .position .0 + d) (endNow tracks p) t) in
-            past _ t (here _ r (ap (λ (x : ℕ). atPosition x p) m))
+            let m : min to (endNow tracks p) ≡ endNow tracks p = omega (arith, ltb-false to (endNow tracks p) t) in
+            let k : pick (staysBelow tracks d p) (clockStep d p .rest) (p .place .rest) ≡ p .place .rest = sym (past _ t refl) in
+            past _ t (here _ r (λ i. clockedTo (m i) (k i) p))
 
     pub advanced-idle : (d : ℕ) → (p .mode .media ≡ playing → ⊥) → (p .mode .media ≡ seeking → ⊥) → advanced groups tracks d p ≡ p
     unfolding advanced
@@ -146,7 +156,7 @@ module _ (p : Player) where
       acted-setting Stop = refl
       acted-setting (Relative n) = refl
       acted-setting (Segment step) =
-          by-found (λ c. Alike (c .player)) (segmentAfter tracks segments step p) _ p (λ x e. refl) refl
+          by-segment (λ c. Alike (c .player)) tracks segments step p refl (λ x e. refl) refl
       acted-setting (Track step) =
           by-found (λ c. Alike (c .player)) (trackReached groups tracks step p) _ p (λ t e. moved-setting (leftNamed step (p .upcoming)) (p .place .group .0) t) refl
       acted-setting (Group step) =
@@ -163,7 +173,7 @@ module _ (p : Player) where
       acted-ends Forward known = inl refl
       acted-ends Stop known = inl refl
       acted-ends (Relative n) known = inl refl
-      acted-ends (Segment step) known = by-found (Ends p) (segmentAfter tracks segments step p) _ p (λ x e. inl refl) (inr refl)
+      acted-ends (Segment step) known = by-segment (Ends p) tracks segments step p (inl refl) (λ x e. inl refl) (inr refl)
       acted-ends (Track step) known = by-found (Ends p) (trackReached groups tracks step p) _ p (λ t e. inl refl) (inr refl)
       acted-ends (Group step) known =
           by-found (Ends p) (groupAfter groups step p) (entered groups tracks p) p

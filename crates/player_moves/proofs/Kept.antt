@@ -23,17 +23,19 @@ use Rattle.player_segments.proofs.Laws.{move-within}
 use Rattle.player_opcodes.specs.Opcodes.{actionOf}
 use Rattle.player_opcodes.specs.declared.Action.{Action}
 use Rattle.player_opcodes.specs.declared.Action.the-variants.{Play, Pause, Rewind, Forward, Stop, Relative, Segment, Track, Group, Unknown}
+use Rattle.player_clock.specs.Clock.{restRule}
+use Rattle.player_clock.proofs.Steps.{step-leaves}
 use Rattle.player_state.specs.declared.Mode.{Mode}
 use Rattle.player_state.specs.declared.Player.{Player}
-use Rattle.player_state.specs.Player.{inactive, playing, paused, seeking, isActive, withMode, unnamed, naming, isOn, atPosition, atPlace, inMode, startedPlayer, renamed, deactivated, withOrder, withSpeed}
+use Rattle.player_state.specs.Player.{inactive, playing, paused, seeking, isActive, withMode, unnamed, naming, isOn, clockedTo, atPosition, atPlace, inMode, startedPlayer, renamed, deactivated, withOrder, withSpeed}
 use Rattle.player_state.specs.Modes.{rungs, rungUp, rungDown, forwarded, rewound, movedTo}
 use Rattle.player_check.specs.Standing.{textRule, modeRule, member, inGroup, upcomingRule, playerRule}
 use Rattle.player_check.proofs.Laws as laws
 use Rattle.player_moves.specs.Moves.{endNow, runningNow, pastLast, segmentAfter, trackAfter, nextTrack, groupAfter, entryOf, Shaped}
 use Rattle.player_moves.specs.Control.{entered, trackReached, used, trackMoved, acted, controlled}
-use Rattle.player_moves.specs.Clock.{staysBelow, afterEnd, playedOn, soughtOn, advanced, positioned, trackWritten, groupWritten, activatedOn, activated}
+use Rattle.player_moves.specs.Clock.{clockStep, staysBelow, afterEnd, playedOn, soughtOn, advanced, positioned, trackWritten, groupWritten, activatedOn, activated}
 use Rattle.player_moves.proofs.Ready as ready
-use Rattle.player_moves.proofs.Choices.{by-test, by-found, by-control, active-above}
+use Rattle.player_moves.proofs.Choices.{by-test, by-found, by-segment, by-control, active-above}
 use Rattle.player_moves.proofs.Named.{next-named, next-ordered}
 use Rattle.player_moves.proofs.Past.{past-end}
 use Rattle.player_moves.proofs.Held.{held-within, written-within, sought-within, up-rung, down-rung}
@@ -56,7 +58,7 @@ started groups tracks name mask ccid h =
     laws.stands groups tracks q (laws.name-stands name (replicate mostTitle 0) h)
     (laws.mode-stands (q .mode) (omega arith) (omega arith) (omega arith) (λ e. omega arith) refl)
     (laws.no-place-stands groups tracks q refl refl refl refl)
-    (laws.none-stands groups tracks q refl)
+    (laws.none-stands groups tracks q refl) refl
 
 module _ (groups tracks : List ℕ) where
   abbrev Stands : Player → Type 0
@@ -114,57 +116,61 @@ module _ (groups tracks : List ℕ) where
         laws.stands groups tracks q (laws.name-kept groups tracks p right) h (laws.place-stands groups tracks q active (f .exists) (f .from) (f .to) held)
         (by-test (λ n. upcomingRule groups (ltb inactive (m .media)) g n ≡ true) (isOn g t p) (p .upcoming) 0
         (λ e. next-stands (ltb inactive (m .media)) (lt-ltb inactive (m .media) active) g (sym (eqb-true _ _ (and-left (eqb (p .place .group .0) g) _ e))))
-        (λ e. laws.none-stands groups tracks (unnamed q) refl))
+        (λ e. laws.none-stands groups tracks (unnamed q) refl)) refl
 
-    -- where it is, in an active mode, at a position up to the end
-    stay-stands : 0 < p .mode .media → (m : Mode) → modeRule m ≡ true → 0 < m .media → (x : ℕ) → x ≤ endNow tracks p → Stands (atPosition x (withMode m p))
-    stay-stands was m h active x held =
-        let q = atPosition x (withMode m p) in
+    -- where it is, in an active mode, at a position up to the end and with a rest of the clock
+    stay-stands : 0 < p .mode .media → (m : Mode) → modeRule m ≡ true → 0 < m .media → (x r : ℕ) → x ≤ endNow tracks p → restRule r ≡ true
+        → Stands (clockedTo x r (withMode m p))
+    stay-stands was m h active x r held rests =
+        let q = clockedTo x r (withMode m p) in
         laws.stands groups tracks q (laws.name-kept groups tracks p right) h
         (laws.place-stands groups tracks q active (laws.group-exists groups tracks p right was) (laws.track-from groups tracks p right was) (laws.track-to groups tracks p right was) held)
-        (next-stands (ltb inactive (m .media)) (lt-ltb inactive (m .media) active) _ refl)
+        (next-stands (ltb inactive (m .media)) (lt-ltb inactive (m .media) active) _ refl) rests
 
     -- no track is named
     pub kept-unnamed : Stands (unnamed p)
     kept-unnamed =
         laws.stands groups tracks (unnamed p) (laws.name-kept groups tracks p right) (laws.mode-kept groups tracks p right) (laws.place-kept groups tracks p right)
-        (laws.none-stands groups tracks (unnamed p) refl)
+        (laws.none-stands groups tracks (unnamed p) refl) (laws.rest-kept groups tracks p right)
 
     pub kept-deactivated : Stands (deactivated p)
     kept-deactivated =
         laws.stands groups tracks (deactivated p) (laws.name-kept groups tracks p right) (calm 0 (omega arith))
         (laws.no-place-stands groups tracks (deactivated p) refl refl refl refl)
-        (laws.none-stands groups tracks (deactivated p) refl)
+        (laws.none-stands groups tracks (deactivated p) refl) refl
 
     -- a track of the current group is named
     pub kept-naming : (t : ℕ) → 0 < p .mode .media → inGroup groups (p .place .group .0) t ≡ true → Stands (naming t p)
     kept-naming t active within =
         laws.stands groups tracks (naming t p) (laws.name-kept groups tracks p right) (laws.mode-kept groups tracks p right) (laws.place-kept groups tracks p right)
-        (laws.named-stands groups tracks (naming t p) active (λ e. omega arith) (rw (add-one-less t) within))
+        (laws.named-stands groups tracks (naming t p) active (λ e. omega arith) (rw (add-one-less t) within)) (laws.rest-kept groups tracks p right)
 
     pub kept-order : (order : ℕ) → 1 ≤ order → order ≤ 8 → Stands (withOrder order p)
     kept-order order low high =
         laws.stands groups tracks (withOrder order p) (laws.name-kept groups tracks p right) (set-by order (p .mode .speed) low high)
-        (laws.place-kept groups tracks p right) (laws.next-kept groups tracks p right)
+        (laws.place-kept groups tracks p right) (laws.next-kept groups tracks p right) (laws.rest-kept groups tracks p right)
 
     pub kept-speed : (speed : ℕ) → Stands (withSpeed speed p)
     kept-speed speed =
         laws.stands groups tracks (withSpeed speed p) (laws.name-kept groups tracks p right)
         (set-by (p .mode .order) speed (laws.order-from groups tracks p right) (laws.order-to groups tracks p right))
-        (laws.place-kept groups tracks p right) (laws.next-kept groups tracks p right)
+        (laws.place-kept groups tracks p right) (laws.next-kept groups tracks p right) (laws.rest-kept groups tracks p right)
 
     pub kept-renamed : (name : List ℕ) → textRule name ≡ true → Stands (renamed name p)
     unfolding renamed
     kept-renamed name h =
         laws.stands groups tracks (renamed name p) (laws.name-stands name (p .name .octets) h) (laws.mode-kept groups tracks p right)
-        (laws.place-kept groups tracks p right) (laws.next-kept groups tracks p right)
+        (laws.place-kept groups tracks p right) (laws.next-kept groups tracks p right) (laws.rest-kept groups tracks p right)
 
     module _ (active : 0 < p .mode .media) where
       in-stands : (m : Mode) → modeRule m ≡ true → 0 < m .media → Stands (withMode m p)
-      in-stands m h above = stay-stands active m h above (p .place .position .0) (laws.position-held groups tracks p right active)
+      in-stands m h above = stay-stands active m h above (p .place .position .0) (p .place .rest) (laws.position-held groups tracks p right active) (laws.rest-kept groups tracks p right)
+
+      clocked-stands : (x r : ℕ) → x ≤ endNow tracks p → restRule r ≡ true → Stands (clockedTo x r p)
+      clocked-stands x r h rests = stay-stands active (p .mode) (laws.mode-kept groups tracks p right) active x r h rests
 
       position-stands : (x : ℕ) → x ≤ endNow tracks p → Stands (atPosition x p)
-      position-stands x h = stay-stands active (p .mode) (laws.mode-kept groups tracks p right) active x h
+      position-stands x h = clocked-stands x 0 h refl
 
       moved-stands : (g t : ℕ) → Found g t → Stands (movedTo g t p)
       unfolding movedTo
@@ -261,11 +267,10 @@ module _ (groups tracks : List ℕ) where
         kept-acted Pause = in-stands p right active _ (calm p right 2 (omega arith)) (omega arith)
         kept-acted Rewind = rewind-stands p right active
         kept-acted Forward = forward-stands p right active
-        kept-acted Stop = stay-stands p right active (inMode paused 0 p .mode) (calm p right 2 (omega arith)) (omega arith) 0 (omega arith)
+        kept-acted Stop = stay-stands p right active (inMode paused 0 p .mode) (calm p right 2 (omega arith)) (omega arith) 0 0 (omega arith) refl
         kept-acted (Relative n) = position-stands p right active _ (held-within (endNow tracks p) (p .place .position .0) (signedWord n))
         kept-acted (Segment step) =
-            by-found (λ c. Stands (c .player)) (segmentAfter tracks segments step p) _ p
-            (λ x e. position-stands p right active x (segment-within step x e)) right
+            by-segment (λ c. Stands (c .player)) tracks segments step p right (λ x e. position-stands p right active x (segment-within step x e)) right
         kept-acted (Track step) =
             by-found (λ c. Stands (c .player)) (trackReached groups tracks step p) _ p
             (λ t e. moved-stands (used step p) (used-stands step) active _ t (reached-found step t e)) right
@@ -279,15 +284,16 @@ module _ (groups tracks : List ℕ) where
         kept-after (At t) e =
             at-stands (unnamed p) (kept-unnamed p right) (p .mode) (laws.mode-kept groups tracks p right) active _ t 0 (reached-found Next t e) (omega arith)
         kept-after Nothing e =
-            stay-stands p right active (inMode paused 0 p .mode) (calm p right 2 (omega arith)) (omega arith) (endNow tracks p) (omega arith)
+            stay-stands p right active (inMode paused 0 p .mode) (calm p right 2 (omega arith)) (omega arith) (endNow tracks p) 0 (omega arith) refl
 
         kept-played-on : (d : ℕ) → Stands (playedOn groups tracks d p)
         unfolding playedOn
         kept-played-on d =
             by-test Stands (staysBelow tracks d p) _ _
-            (λ t. position-stands p right active _ (omega (arith, ltb-true (p .place .position .0 + d) (endNow tracks p) t)))
+            (λ t. clocked-stands p right active _ _ (omega (arith, ltb-true (p .place .position .0 + clockStep d p .whole) (endNow tracks p) t))
+            (step-leaves (p .place .rest) d (p .mode .speed)))
             (λ t. by-test Stands (runningNow tracks p) _ _
-            (λ r. position-stands p right active _ (omega arith))
+            (λ r. clocked-stands p right active _ _ (omega arith) (laws.rest-kept groups tracks p right))
             (λ r. kept-after (nextTrack groups tracks p) refl))
 
         kept-sought-on : (d : ℕ) → Stands (soughtOn tracks d p)

@@ -8,4 +8,5 @@ pub mod Kept
 pub mod Names
 pub mod Alone
 pub mod Tracks
+pub mod Clocked
 pub mod Cases01

@@ -20,11 +20,11 @@ use Rattle.player_opcodes.specs.declared.Action.the-variants.{Play, Pause, Rewi
 use Rattle.player_state.specs.declared.Player.{Player}
 use Rattle.player_state.specs.Player.{playing, seeking, isActive, inMode, unnamed, isOn, keptOn, atPlace, renamed, withOrder, withSpeed}
 use Rattle.player_state.specs.Modes.{forwarded, rewound, movedTo}
-use Rattle.player_moves.specs.Moves.{runningNow, segmentAfter, groupAfter, entryOf, nextTrack}
+use Rattle.player_moves.specs.Moves.{runningNow, groupAfter, entryOf, nextTrack}
 use Rattle.player_moves.specs.Control.{success, onward, entered, trackReached, isNext, trackMoved, isNextTrack, acted, controlled}
 use Rattle.player_moves.specs.Clock.{staysBelow, afterEnd, playedOn, soughtOn, advanced, positioned, trackWritten, groupWritten, activatedOn, activated}
 use Rattle.player_moves.specs.declared.Controlled.{Controlled}
-use Rattle.player_moves.proofs.Choices.{by-test, by-found, by-control}
+use Rattle.player_moves.proofs.Choices.{by-test, by-found, by-segment, by-control}
 use Rattle.player_moves.proofs.Named.{next-named}
 
 -- of a call that finds the player p and leaves q: the name is kept where it ends on the track of the group on which it began, and there is none elsewhere
@@ -173,7 +173,7 @@ module _ (p : Player) where
       acted-keeps Stop n = stays
       acted-keeps (Relative k) n = stays
       acted-keeps (Segment step) n =
-          by-found (λ c. Keeps p (c .player)) (segmentAfter tracks segments step p) _ p (λ x e. stays) stays
+          by-segment (λ c. Keeps p (c .player)) tracks segments step p stays (λ x e. stays) stays
       acted-keeps (Track step) n = track-moved-keeps step n
       acted-keeps (Group step) n =
           by-found (λ c. Keeps p (c .player)) (groupAfter groups step p) (entered groups tracks p) p (λ g e. entered-keeps g) stays

@@ -16,10 +16,10 @@ use Rattle.player_opcodes.specs.declared.Action.the-variants.{Play, Pause, Rewi
 use Rattle.player_state.specs.declared.Player.{Player}
 use Rattle.player_state.specs.Player.{playing, seeking, isActive, inMode, withUpcoming, atPlace, renamed, withOrder, withSpeed}
 use Rattle.player_state.specs.Modes.{forwarded, rewound, movedTo}
-use Rattle.player_moves.specs.Moves.{runningNow, segmentAfter, nextTrack, groupAfter, entryOf}
+use Rattle.player_moves.specs.Moves.{runningNow, nextTrack, groupAfter, entryOf}
 use Rattle.player_moves.specs.Control.{entered, trackReached, leftNamed, trackMoved, acted, controlled}
 use Rattle.player_moves.specs.Clock.{staysBelow, afterEnd, playedOn, soughtOn, advanced, positioned}
-use Rattle.player_moves.proofs.Choices.{by-test, by-found, by-control}
+use Rattle.player_moves.proofs.Choices.{by-test, by-found, by-segment, by-control}
 use Rattle.player_moves.proofs.Alone.{refused-alone, advanced-running}
 
 -- the track number, and whether there is a track
@@ -102,7 +102,7 @@ module _ (p : Player) where
         acted-stays Stop n m = rw active
         acted-stays (Relative k) n m = refl
         acted-stays (Segment step) n m =
-            by-found (λ c. Stays (c .player)) (segmentAfter tracks segments step p) _ p (λ x e. refl) refl
+            by-segment (λ c. Stays (c .player)) tracks segments step p refl (λ x e. refl) refl
         acted-stays (Track step) n m = absurd (n step refl)
         acted-stays (Group step) n m = absurd (m step refl)
         acted-stays Unknown n m = refl
@@ -116,7 +116,7 @@ module _ (p : Player) where
         acted-active Stop = sym active
         acted-active (Relative k) = refl
         acted-active (Segment step) =
-            by-found (λ c. Same (c .player)) (segmentAfter tracks segments step p) _ p (λ x e. refl) refl
+            by-segment (λ c. Same (c .player)) tracks segments step p refl (λ x e. refl) refl
         acted-active (Track step) =
             by-found (λ c. Same (c .player)) (trackReached groups tracks step p) _ p (λ t e. moved-active (leftNamed step (p .upcoming)) (p .place .group .0) t) refl
         acted-active (Group step) =

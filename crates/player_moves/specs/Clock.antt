@@ -1,5 +1,5 @@
--- Advance, what is written of the position, the track, the next track and the group, and activation (document 01, "Player rules"; document 02, W-202 and
--- W-209).
+-- Advance, what is written of the position, the track, the next track and the group, and activation (document 01, "Player rules"; document 02, W-202,
+-- W-209 and W-211).
 -- Assumes nothing.
 use mathlib.Core.Bool.{Bool, _&&_}
 use mathlib.Core.List.{List}
@@ -9,32 +9,42 @@ use Rattle.ground.specs.Cases.{pick}
 use Rattle.player_walk.specs.Signed.{signedWord, isNegative}
 use Rattle.player_walk.specs.declared.Near.{Near}
 use Rattle.player_walk.specs.declared.Near.the-variants.{At, Nothing}
+use Rattle.player_clock.specs.declared.Stepped.{Stepped}
+use Rattle.player_clock.specs.Clock.{stepped}
 use Rattle.player_state.specs.declared.Player.{Player}
-use Rattle.player_state.specs.Player.{playing, seeking, isActive, unnamed, atPlace, atPosition}
+use Rattle.player_state.specs.Player.{playing, seeking, isActive, unnamed, clockedTo, atPlace, atPosition}
 use Rattle.player_state.specs.Modes.{pausedAt, movedTo, activatedAt}
 use Rattle.player_state.specs.Positions.{written, sought}
 use Rattle.player_moves.specs.Control.{entered}
 use Rattle.player_moves.specs.Moves.{endNow, runningNow, nextTrack, entryOf}
 
--- an advance by d "stays below D"
+-- "A clock step of d in Playing", on from the rest that was kept and at the speed in force (W-211)
+abbrev pub clockStep : ℕ → Player → Stepped
+clockStep d p = stepped (p .place .rest) d (p .mode .speed)
+
+-- so many hundredths on, the position "stays below D"; and so it does in an advance by d
+abbrev pub isBelow : List ℕ → ℕ → Player → Bool
+isBelow tracks whole p = ltb (p .place .position .0 + whole) (endNow tracks p)
+
 abbrev pub staysBelow : List ℕ → ℕ → Player → Bool
-staysBelow tracks d p = ltb (p .place .position .0 + d) (endNow tracks p)
+staysBelow tracks d p = isBelow tracks (clockStep d p .whole) p
 
 -- "at D or beyond, the next track at 0, or, where none, Paused at D"; a name is then used (W-209)
 abbrev pub afterEnd : List ℕ → Near → Player → Player
 afterEnd tracks (At t) p = atPlace (p .place .group .0) t 0 (unnamed p)
 afterEnd tracks Nothing p = pausedAt (endNow tracks p) p
 
--- at D or beyond: a running recording never ends, "at 8,640,000 it stays there in its state"
+-- at D or beyond: a running recording never ends, "at 8,640,000 it stays there in its state", and the rest that it had stays
 abbrev pub atEnd : List ℕ → List ℕ → Player → Player
 atEnd groups tracks p =
-    pick (runningNow tracks p) (atPosition (endNow tracks p) p) (afterEnd tracks (nextTrack groups tracks p) p)
+    pick (runningNow tracks p) (clockedTo (endNow tracks p) (p .place .rest) p) (afterEnd tracks (nextTrack groups tracks p) p)
 
--- "Playing adds d"
+-- "adds d times e to the rest, advances by the whole 65,536ths .. and keeps the rest" (W-211)
 unfoldable pub playedOn : List ℕ → List ℕ → ℕ → Player → Player
-playedOn groups tracks d p = pick (staysBelow tracks d p) (atPosition (p .place .position .0 + d) p) (atEnd groups tracks p)
+playedOn groups tracks d p =
+    pick (staysBelow tracks d p) (clockedTo (p .place .position .0 + clockStep d p .whole) (clockStep d p .rest) p) (atEnd groups tracks p)
 
--- "Seeking adds d times the seeking speed, held to 0..D."
+-- "Seeking uses d as before.": it "adds d times the seeking speed, held to 0..D"
 unfoldable pub soughtOn : List ℕ → ℕ → Player → Player
 soughtOn tracks d p =
     atPosition (sought (endNow tracks p) (p .place .position .0) (p .mode .seeking) d) p

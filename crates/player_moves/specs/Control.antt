@@ -3,6 +3,7 @@
 use mathlib.Core.Bool.{Bool, true, false, not}
 use mathlib.Core.List.{List}
 use Prim.Native.Nat.{ℕ}
+use lib.Dec.{eqb}
 use Rattle.ground.specs.Cases.{pick}
 use Rattle.player_walk.specs.Signed.{signedWord}
 use Rattle.player_walk.specs.declared.Near.{Near}
@@ -62,6 +63,18 @@ unfoldable pub trackMoved : List ℕ → List ℕ → Step → Player → Contro
 trackMoved groups tracks step p =
     onward (trackReached groups tracks step p) (λ t. success (movedTo (p .place .group .0) t (used step p))) p
 
+-- "0: nothing moves": Goto 0 of the segments sets no position (document 02, W-211, asks what does)
+abbrev pub movesNothing : Step → Bool
+movesNothing Previous = false
+movesNothing Next = false
+movesNothing First = false
+movesNothing Last = false
+movesNothing (Goto n) = eqb n 0
+
+abbrev pub segmentMoved : List ℕ → List ℕ → Step → Player → Controlled
+segmentMoved tracks segments step p =
+    pick (movesNothing step) (success p) (onward (segmentAfter tracks segments step p) (λ x. success (atPosition x p)) p)
+
 abbrev pub isNextTrack : Action → Bool
 isNextTrack Play = false
 isNextTrack Pause = false
@@ -83,8 +96,7 @@ acted groups tracks segments Forward p = success (forwarded p)
 acted groups tracks segments Stop p = success (pausedAt 0 p)
 acted groups tracks segments (Relative n) p =
     success (atPosition (heldSum (endNow tracks p) (p .place .position .0) (signedWord n)) p)
-acted groups tracks segments (Segment step) p =
-    onward (segmentAfter tracks segments step p) (λ x. success (atPosition x p)) p
+acted groups tracks segments (Segment step) p = segmentMoved tracks segments step p
 acted groups tracks segments (Track step) p = trackMoved groups tracks step p
 acted groups tracks segments (Group step) p = onward (groupAfter groups step p) (entered groups tracks p) p
 acted groups tracks segments Unknown p = failed 2 p

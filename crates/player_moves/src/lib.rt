@@ -12,8 +12,8 @@ ghost use Rattle.player_segments.specs.Segments.{nearPosition, Rising, Below};
 ghost use Rattle.player_check.specs.Standing.{playerRule};
 ghost use Rattle.catalogue_tables.specs.Tables.{startsOf, endOf};
 ghost use Rattle.player_moves.specs.Moves.{endNow, pastLast, segmentAfter, trackAfter, nextTrack, groupAfter, entryOf, Shaped, Seated, Sits, RunOf};
-ghost use Rattle.player_moves.specs.Control.{success, failed, onward, entered, trackMoved, acted, controlled};
-ghost use Rattle.player_moves.specs.Clock.{staysBelow, playedOn, soughtOn, advanced, positioned, groupWritten, activated};
+ghost use Rattle.player_moves.specs.Control.{success, failed, onward, entered, movesNothing, segmentMoved, trackMoved, acted, controlled};
+ghost use Rattle.player_moves.specs.Clock.{isBelow, staysBelow, playedOn, soughtOn, advanced, positioned, groupWritten, activated};
 
 // The result codes of the control point (document 01, "Player rules").
 const SUCCESS: u8 = 1;
@@ -59,6 +59,19 @@ fn past_last(tracks: &[u32], t: catalogue_tables::TrackNo) -> player_segments::N
     player_segments::NearPosition::Found(end)
 }
 
+// Goto 0 of the segments sets no position.
+fn moves_nothing(step: player_walk::Step) -> bool
+    ensures { λ r. ⌜ r ≡ movesNothing step ⌝ }
+{
+    match step {
+        player_walk::Step::Previous => false,
+        player_walk::Step::Next => false,
+        player_walk::Step::First => false,
+        player_walk::Step::Last => false,
+        player_walk::Step::Goto(n) => n == 0,
+    }
+}
+
 fn move_segment(
     tracks: &[u32],
     segments: &[u32],
@@ -67,8 +80,12 @@ fn move_segment(
 ) -> Controlled
     requires { ⌜ Rising (startsOf (now tracks) (now segments) (p .place .track .0)) ⌝ }
     requires { ⌜ Below (startsOf (now tracks) (now segments) (p .place .track .0)) (endOf (now tracks) (p .place .track .0)) ⌝ }
-    ensures { λ r. ⌜ r ≡ onward (segmentAfter (now (tracks .entry)) (now (segments .entry)) step p) (λ (x : ℕ). success (atPosition x p)) p ⌝ }
+    ensures { λ r. ⌜ r ≡ segmentMoved (now (tracks .entry)) (now (segments .entry)) step p ⌝ }
 {
+    let nothing = moves_nothing(step);
+    if nothing {
+        return done(p);
+    }
     let t = p.place.track;
     let from = p.place.position;
     let past = past_last(tracks, t);
@@ -294,30 +311,41 @@ pub fn control(
     act(groups, tracks, segments, p, action)
 }
 
+// Whether the position, so many hundredths on, is below the current track's end.
+fn is_below(tracks: &[u32], p: player_state::Player, whole: u32) -> bool
+    ensures { λ r. ⌜ r ≡ isBelow (now (tracks .entry)) whole p ⌝ }
+{
+    let end = catalogue_tables::end(tracks, p.place.track);
+    let to = (p.place.position.0 as u64) + (whole as u64);
+    to < (end.0 as u64)
+}
+
 // Whether an advance by d stays below the current track's end.
 pub fn stays_below(tracks: &[u32], p: player_state::Player, d: u32) -> bool
     ensures { λ r. ⌜ r ≡ staysBelow (now (tracks .entry)) d p ⌝ }
 {
-    let end = catalogue_tables::end(tracks, p.place.track);
-    let to = (p.place.position.0 as u64) + (d as u64);
-    to < (end.0 as u64)
+    let on = player_clock::step(p.place.rest, d, p.mode.speed);
+    is_below(tracks, p, on.whole)
 }
 
-// Playing: on by d; at the end a running recording stays there, any other goes to the next track, which may be a named one, or is Paused at the end.
+// Playing: on by a step of the clock; at the end a running recording stays there, any other goes to the next track, which may be a named one, or is Paused
+// at the end.
 fn play_on(groups: &[u32], tracks: &[u32], p: player_state::Player, d: u32) -> player_state::Player
     requires { ⌜ Seated (now groups) (now tracks) p ⌝ }
     ensures { λ r. ⌜ r ≡ playedOn (now (groups .entry)) (now (tracks .entry)) d p ⌝ }
 {
-    if stays_below(tracks, p, d) {
-        let sum = p.place.position.0 + d;
+    let step = player_clock::step(p.place.rest, d, p.mode.speed);
+    let below = is_below(tracks, p, step.whole);
+    if below {
+        let sum = p.place.position.0 + step.whole;
         let to = catalogue_tables::Position(sum);
-        return player_state::at_position(p, to);
+        return player_state::clocked_to(p, to, step.rest);
     }
     let t = p.place.track;
     let running = catalogue_tables::is_running(tracks, t);
     if running {
         let last = catalogue_tables::end(tracks, t);
-        return player_state::at_position(p, last);
+        return player_state::clocked_to(p, last, p.place.rest);
     }
     let near = next_track(groups, tracks, p);
     match near {

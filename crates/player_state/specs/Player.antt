@@ -49,14 +49,21 @@ naming t p = withUpcoming (t + 1) p
 abbrev pub unnamed : Player → Player
 unnamed p = withUpcoming 0 p
 
--- a place, by its numbers
-abbrev pub placeAt : ℕ → ℕ → ℕ → Place
-placeAt group track position =
-    record { group = record { 0 = group }; track = record { 0 = track }; position = record { 0 = position } }
+-- a place, by its numbers, and what the clock has kept there (document 02, W-211)
+abbrev pub placeWith : ℕ → ℕ → ℕ → ℕ → Place
+placeWith rest group track position =
+    record { group = record { 0 = group }; track = record { 0 = track }; position = record { 0 = position }; rest = rest }
 
--- a position in the current track
+-- a position in the current track to which the clock has brought the player, and "keeps the rest"
+abbrev pub clockedTo : ℕ → ℕ → Player → Player
+clockedTo position rest p = withPlace (placeWith rest (p .place .group .0) (p .place .track .0) position) p
+
+-- "The rest becomes 0 whenever anything but a clock step in Playing within a track sets the position.": to any place, and in the current track
+abbrev pub placeAt : ℕ → ℕ → ℕ → Place
+placeAt group track position = placeWith 0 group track position
+
 abbrev pub atPosition : ℕ → Player → Player
-atPosition position p = withPlace (placeAt (p .place .group .0) (p .place .track .0) position) p
+atPosition position p = clockedTo position 0 p
 
 -- a stored name is an array of 128 octets and a length; octets behind the length are dead and stay
 abbrev pub named : List ℕ → List ℕ → Name

@@ -5,7 +5,7 @@ ghost use lib.ListN.{length};
 ghost use Rattle.ground.specs.Limits.{mostTitle};
 ghost use Rattle.ground.specs.Lists.{filled};
 ghost use Rattle.player_walk.specs.Signed.{signedWord};
-ghost use Rattle.player_state.specs.Player.{startedPlayer, renamed, inMode, keptOn, atPlace, naming, unnamed, deactivated, atPosition, withOrder, withSpeed};
+ghost use Rattle.player_state.specs.Player.{startedPlayer, renamed, inMode, keptOn, atPlace, naming, unnamed, deactivated, clockedTo, atPosition, withOrder, withSpeed};
 ghost use Rattle.player_state.specs.Modes.{rungUp, rungDown, forwarded, rewound, movedTo};
 ghost use Rattle.player_state.specs.Positions.{heldSum, written, sought};
 
@@ -38,11 +38,12 @@ pub struct Mode {
     pub seeking: u8,
 }
 
-// While Inactive all three are 0.
+// While Inactive the first three are 0. rest: what the clock has kept of a hundredth of a second, in 65,536ths.
 pub struct Place {
     pub group: catalogue_tables::GroupNo,
     pub track: catalogue_tables::TrackNo,
     pub position: catalogue_tables::Position,
+    pub rest: u32,
 }
 
 // upcoming: 0, or the number and one of the track that a client named to come next.
@@ -95,6 +96,7 @@ pub fn start(name: &[u8], mask: u32, ccid: u8) -> Player
         group: group,
         track: track,
         position: position,
+        rest: 0,
     };
     Player {
         name: name,
@@ -154,6 +156,7 @@ pub fn at_place(
     q.place.group.0 = group.0;
     q.place.track.0 = track.0;
     q.place.position.0 = position.0;
+    q.place.rest = 0;
     q.upcoming = kept;
     q
 }
@@ -185,16 +188,26 @@ pub fn deactivate(p: Player) -> Player
     q.place.group.0 = 0;
     q.place.track.0 = 0;
     q.place.position.0 = 0;
+    q.place.rest = 0;
     q.upcoming = 0;
     q
 }
 
-pub fn at_position(p: Player, position: catalogue_tables::Position) -> Player
-    ensures { λ r. ⌜ r ≡ atPosition (position .0) p ⌝ }
+// Where the clock has brought the position in the current track, and what it keeps.
+pub fn clocked_to(p: Player, position: catalogue_tables::Position, rest: u32) -> Player
+    ensures { λ r. ⌜ r ≡ clockedTo (position .0) rest p ⌝ }
 {
     let mut q = p;
     q.place.position.0 = position.0;
+    q.place.rest = rest;
     q
+}
+
+// Anything else that sets the position leaves no rest.
+pub fn at_position(p: Player, position: catalogue_tables::Position) -> Player
+    ensures { λ r. ⌜ r ≡ atPosition (position .0) p ⌝ }
+{
+    clocked_to(p, position, 0)
 }
 
 pub fn with_order(p: Player, order: u8) -> Player

@@ -91,7 +91,7 @@ returns c =
     let after-word-at2 = after-word-at3 .before in
     let after-word-at = after-word-at2 .before in
     let a = after-word-at .before .before .before .before .before .before .before .before .before .before .before .before .before .before .before .before .before .before .before .args in
-    let o = part (a .s .now) (154 + a .who * 36) (154 + a .who * 36 + 36) in
+    let o = part (a .s .now) (158 + a .who * 36) (158 + a .who * 36 + 36) in
     λ i.
     record {
       subscribed = after-word-at .word-at .ensures i;

@@ -90,19 +90,19 @@ returns c =
     let l3 = lay _ (linkOctets (linkAt (d .links) 1)) 10 fits l2 (link-kept (linkAt (d .links) 1) .long) (after-two .put-link2 .ensures) in
     let l4 = lay _ (linkOctets (linkAt (d .links) 2)) 10 fits l3 (link-kept (linkAt (d .links) 2) .long) (after-three .put-link3 .ensures) in
     let l5 = lay _ (linkOctets (linkAt (d .links) 3)) 10 fits l4 (link-kept (linkAt (d .links) 3) .long) (after-four .put-link4 .ensures) in
-    let l6 = lay _ (serviceOctets (serviceAt d 0)) 298 fits l5 (p0 .1 .long) (p0 .0) in
-    let l7 = lay _ (serviceOctets (serviceAt d 1)) 298 fits l6 (p1 .1 .long) (p1 .0) in
+    let l6 = lay _ (serviceOctets (serviceAt d 0)) 302 fits l5 (p0 .1 .long) (p0 .0) in
+    let l7 = lay _ (serviceOctets (serviceAt d 1)) 302 fits l6 (p1 .1 .long) (p1 .0) in
     let all-links : links ≡ d .links = spelled noLink (d .links) 0 4 four in
     let all-services : services ≡ d .services = spelled noService (d .services) 0 2 two in
-    let kept : AllKept serviceFrom serviceOctets 298 (d .services) = subst (AllKept serviceFrom serviceOctets 298) all-services (more (p0 .1) (more (p1 .1) none)) in
+    let kept : AllKept serviceFrom serviceOctets 302 (d .services) = subst (AllKept serviceFrom serviceOctets 302) all-services (more (p0 .1) (more (p1 .1) none)) in
     let front = behind linkOctets t links in
     let octets : behind serviceOctets front services ≡ deskOctets d =
     behind-is serviceOctets front services
     ∙ (λ i. behind-is linkOctets t links i ++ eachOctets serviceOctets services)
     ∙ (λ i. t ++ eachOctets linkOctets (all-links i) ++ eachOctets serviceOctets (all-services i)) in
-    let is : after-named .put-service2 .last .0 ≡ deskOctets d ++ drop 641 old =
-    l7 .is ∙ (λ i. (take-all 641 (behind serviceOctets front services) (omega (arith, l7 .long)) ∙ octets) i ++ drop 641 old) in
-    (is, ap deskOf is ∙ again d (drop 641 old) four two kept)
+    let is : after-named .put-service2 .last .0 ≡ deskOctets d ++ drop 649 old =
+    l7 .is ∙ (λ i. (take-all 649 (behind serviceOctets front services) (omega (arith, l7 .long)) ∙ octets) i ++ drop 649 old) in
+    (is, ap deskOf is ∙ again d (drop 649 old) four two kept)
 
 pub encode-spec : {M : Type 1} → statement M
 encode-spec =

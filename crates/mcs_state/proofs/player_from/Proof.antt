@@ -45,10 +45,14 @@ word-at-requires-4 c κs = search needs
 word-at-requires-5 : tie.Need-word-at-requires-5
 word-at-requires-5 c κs = search needs
 
+word-at-requires-6 : tie.Need-word-at-requires-6
+word-at-requires-6 c κs = search needs
+
 returns : tie.Need-returns
 unfolding playerFrom
 returns c =
-    let after-word-at4 = c .before in
+    let after-word-at5 = c .before in
+    let after-word-at4 = after-word-at5 .before in
     let after-word-at3 = after-word-at4 .before in
     let after-word-at2 = after-word-at3 .before in
     let after-word-at = after-word-at2 .before .before .before .before .before .before in
@@ -68,8 +72,9 @@ returns c =
             group = record { 0 = after-word-at2 .word-at2 .ensures i };
             track = record { 0 = after-word-at3 .word-at3 .ensures i };
             position = record { 0 = after-word-at4 .word-at4 .ensures i };
+            rest = after-word-at5 .word-at5 .ensures i;
           };
-      upcoming = c .word-at5 .ensures i;
+      upcoming = c .word-at6 .ensures i;
     }
 
 pub player-from-spec : {M : Type 1} → statement M
@@ -88,4 +93,5 @@ player-from-spec =
     word-at-requires-3
     word-at-requires-4
     word-at-requires-5
+    word-at-requires-6
     returns)

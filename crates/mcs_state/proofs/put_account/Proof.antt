@@ -41,7 +41,7 @@ returns c =
     let after-eight-results = after-account-octets .before in
     let a = after-eight-results .before .before .before .args in
     let e = after-account-octets .account-octets .ensures in
-    (after-put .put .ensures ∙ (λ i. paste (a .s .now) (a .at + (154 + a .who * 36)) (e i) (length (e i))), account-kept (a .a) (after-eight-results .eight-results .ensures))
+    (after-put .put .ensures ∙ (λ i. paste (a .s .now) (a .at + (158 + a .who * 36)) (e i) (length (e i))), account-kept (a .a) (after-eight-results .eight-results .ensures))
 
 pub put-account-spec : {M : Type 1} → statement M
 put-account-spec =

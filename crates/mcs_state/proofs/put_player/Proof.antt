@@ -1,4 +1,4 @@
--- `mcs_state::put_player`: 26 octets behind the name.
+-- `mcs_state::put_player`: 30 octets behind the name.
 use mathlib.Core.Path.{_∙_}
 use Prim.Native.Nat.{_+_}
 use lib.ListN.{length}

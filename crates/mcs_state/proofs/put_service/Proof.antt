@@ -73,7 +73,7 @@ returns c =
     let a = start .args in
     let v = a .v in
     let old = a .s .now in
-    let at = 45 + a .service * 298 in
+    let at = 45 + a .service * 302 in
     let fits : at ≤ length old = omega (arith, start .pre .0, start .pre .1) in
     let name = after-name .put-name .ensures in
     let p0 = after-one .put-account .ensures in
@@ -81,7 +81,7 @@ returns c =
     let p2 = after-three .put-account3 .ensures in
     let p3 = after-four .put-account4 .ensures in
     let l1 : Laid old at (v .player .name .octets) (after-name .put-name .last .0) 128 = record { is = name .0; long = name .1 } in
-    let l2 = lay _ (playerOctets (v .player)) 26 fits l1 (player-long (v .player)) (after-player .put-player .ensures) in
+    let l2 = lay _ (playerOctets (v .player)) 30 fits l1 (player-long (v .player)) (after-player .put-player .ensures) in
     let l3 = lay _ (accountOctets (accountIn v 0)) 36 fits l2 (p0 .1 .long) (p0 .0) in
     let l4 = lay _ (accountOctets (accountIn v 1)) 36 fits l3 (p1 .1 .long) (p1 .0) in
     let l5 = lay _ (accountOctets (accountIn v 2)) 36 fits l4 (p2 .1 .long) (p2 .0) in
@@ -92,7 +92,7 @@ returns c =
     let front = v .player .name .octets ++ playerOctets (v .player) in
     let octets : behind accountOctets front (spell noAccount (v .accounts) 0 4) ≡ serviceOctets v =
     behind-is accountOctets front (spell noAccount (v .accounts) 0 4) ∙ ap (λ (l : List Account). front ++ eachOctets accountOctets l) all in
-    (l6 .is ∙ ap (λ (l : List ℕ). paste old at l 298) octets, service-kept v (name .1) (counted .four-accounts .ensures) kept)
+    (l6 .is ∙ ap (λ (l : List ℕ). paste old at l 302) octets, service-kept v (name .1) (counted .four-accounts .ensures) kept)
 
 pub put-service-spec : {M : Type 1} → statement M
 put-service-spec =

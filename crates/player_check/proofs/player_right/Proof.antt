@@ -1,4 +1,4 @@
--- `player_check::player_right`: the four rules together.
+-- `player_check::player_right`: the five rules together.
 use mathlib.Core.Bool.{_&&_}
 use borrow.Author.Needs.{needs}
 use Rattle.player_check.specs.Standing.{playerRule}
@@ -17,11 +17,15 @@ place-right-requires c κs = search needs
 upcoming-right-requires : tie.Need-upcoming-right-requires
 upcoming-right-requires c κs = search needs
 
+rest-right-requires : tie.Need-rest-right-requires
+rest-right-requires c κs = search needs
+
 returns : tie.Need-returns
 unfolding playerRule
 returns c =
-    let m = c .before .before in
-    λ k. m .before .name-right .ensures k && m .mode-right .ensures k && c .before .place-right .ensures k && c .upcoming-right .ensures k
+    let n = c .before in
+    let m = n .before .before in
+    λ k. m .before .name-right .ensures k && m .mode-right .ensures k && n .before .place-right .ensures k && n .upcoming-right .ensures k && c .rest-right .ensures k
 
 pub player-right-spec : {M : Type 1} → statement M
 player-right-spec =
@@ -31,4 +35,5 @@ player-right-spec =
     mode-right-requires
     place-right-requires
     upcoming-right-requires
+    rest-right-requires
     returns)

@@ -1,28 +1,22 @@
--- `player_moves::stays_below`: the sum, compared with the current track's end.
-use mathlib.Core.Path.{ap}
-use Prim.Native.Nat.{ℕ, _+_}
-use lib.Dec.{ltb}
+-- `player_moves::stays_below`: the whole hundredths of the step.
+use mathlib.Core.Path.{ap, _∙_}
+use Rattle.player_clock.specs.declared.Stepped.{Stepped}
 use borrow.Author.Needs.{needs}
+use Rattle.player_moves.specs.Clock.{isBelow}
 use Rattle.player_moves.proofs.stays_below.Statement.{statement}
 use Rattle.player_moves.proofs.stays_below.Tie as tie
 
-end-requires : tie.Need-end-requires
-end-requires c κs = search needs
+step-requires : tie.Need-step-requires
+step-requires c κs = search needs
 
-cast-to : tie.Need-cast-to
-cast-to c = search needs
-
-add-to : tie.Need-add-to
-add-to c = search needs
-
-cast-result : tie.Need-cast-result
-cast-result c = search needs
+is-below-requires : tie.Need-is-below-requires
+is-below-requires c κs = search needs
 
 returns : tie.Need-returns
 returns c =
-    let e = c .before .before in
-    let a = e .before .before .args in
-    ap (λ (end : ℕ). ltb (a .p .place .position .0 + a .d) end) (e .end .ensures)
+    let s = c .before in
+    let a = s .before .before .args in
+    c .is-below .ensures ∙ ap (λ (t : Stepped). isBelow (a .tracks .now) (t .whole) (a .p)) (s .step .ensures)
 
 pub stays-below-spec : {M : Type 1} → statement M
-stays-below-spec = tie.close (tie.spec end-requires cast-to add-to cast-result returns)
+stays-below-spec = tie.close (tie.spec step-requires is-below-requires returns)

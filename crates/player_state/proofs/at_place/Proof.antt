@@ -11,8 +11,8 @@ kept-on-requires c κs = search needs
 
 returns : tie.Need-returns
 returns c =
-    let a = c .before .before .before .before .args in
-    ap (λ (n : ℕ). withUpcoming n (withPlace (placeAt (a .group .0) (a .track .0) (a .position .0)) (a .p))) (c .before .before .before .kept-on .ensures)
+    let a = c .before .before .before .before .before .args in
+    ap (λ (n : ℕ). withUpcoming n (withPlace (placeAt (a .group .0) (a .track .0) (a .position .0)) (a .p))) (c .before .before .before .before .kept-on .ensures)
 
 pub at-place-spec : {M : Type 1} → statement M
 at-place-spec = tie.close (tie.spec kept-on-requires returns)

@@ -10,7 +10,7 @@ in-mode-requires : tie.Need-in-mode-requires
 in-mode-requires c κs = search needs
 
 returns : tie.Need-returns
-returns c = ap (λ (q : Player). unnamed (withPlace (placeAt 0 0 0) q)) (c .before .before .before .in-mode .ensures)
+returns c = ap (λ (q : Player). unnamed (withPlace (placeAt 0 0 0) q)) (c .before .before .before .before .in-mode .ensures)
 
 pub deactivate-spec : {M : Type 1} → statement M
 deactivate-spec = tie.close (tie.spec in-mode-requires returns)

@@ -19,7 +19,7 @@ returns c =
       name = record { octets = c .fill .ensures k; len = length (a .name .now) };
       offer = record { mask = a .mask; ccid = a .ccid };
       mode = record { media = 0; order = 3; speed = 0; seeking = 0 };
-      place = record { group = record { 0 = 0 }; track = record { 0 = 0 }; position = record { 0 = 0 } };
+      place = record { group = record { 0 = 0 }; track = record { 0 = 0 }; position = record { 0 = 0 }; rest = 0 };
       upcoming = 0;
     }
 
