@@ -194,8 +194,10 @@ pub fn deactivate<'a>(
 fn is_quiet(tracks: &[u32], p: player_state::Player, step: u32) -> bool
     ensures { λ r. ⌜ r ≡ quietAdvance (now (tracks .entry)) step p ⌝ }
 {
-    let below = player_moves::stays_below(tracks, p, step);
-    (p.mode.media == player_state::PLAYING) & below
+    if p.mode.media == player_state::PLAYING {
+        return player_moves::stays_below(tracks, p, step);
+    }
+    false
 }
 
 // A step of time.

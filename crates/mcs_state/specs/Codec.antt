@@ -119,7 +119,7 @@ playerOctets p =
     ∷ p .mode .seeking
     ∷ wordThen (p .offer .mask) (wordThen (p .place .group .0) (wordThen (p .place .track .0) (wordThen (p .place .position .0) (wordThen (p .upcoming) (wordThen (p .place .rest) [])))))
 
--- a service, of 302 octets: 0 the name's octets, 128 the rest of the player, 158 the accounts of the clients
+-- a service, of 302 octets: 0 the name's octets, 128 the player's other parts, 158 the accounts of the clients
 unfoldable pub serviceFrom : List ℕ → Service
 serviceFrom s = record { player = playerFrom (part s 0 128) (part s 128 158); accounts = eachFrom accountFrom 36 s 158 clientCount }
 

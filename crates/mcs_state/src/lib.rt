@@ -30,7 +30,7 @@ const LINKS: usize = 5;
 
 const LINK: usize = 10;
 
-// In a service, where the rest of the player begins behind its name, and where the accounts begin; and the octets of each account.
+// In a service, where the player's other parts begin behind its name, and where the accounts begin; and the octets of each account.
 const PLAYER: usize = 128;
 
 const ACCOUNTS: usize = PLAYER + 30;

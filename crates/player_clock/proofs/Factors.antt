@@ -1,11 +1,11 @@
 -- The factor of a speed: a test that computes, and what a list tells whose every entry passes it; a speed has one factor only.
 -- Assumes nothing.
-use mathlib.Core.Path.{_≡_, refl, sym, ap, _∙_}
-use mathlib.Core.Bool.{Bool, true, false, _&&_}
+use mathlib.Core.Path.{_≡_, refl}
+use mathlib.Core.Bool.{Bool, true, false}
 use mathlib.Core.List.{List, [], _∷_}
 use mathlib.Core.Logic.{⊎-elim}
 use Prim.Native.Nat.{ℕ, zero, suc, _+_, _*_, _-_, _^_, _≤_, _<_, zero-le}
-use native.Mathlib.Nat.{pow-le-pow-left, pow-le-pow-right, pow-suc, pow-zero, one-mul, add-zero, zero-add, le-of-suc-le-suc, not-suc-le-zero, le-antisymm, le-trans}
+use native.Mathlib.Nat.{pow-le-pow-left, pow-le-pow-right, pow-suc, pow-zero, one-mul, add-zero, zero-add, le-of-suc-le-suc, not-suc-le-zero, le-antisymm}
 use native.Mathlib.Decide.{decLe}
 use native.Mathlib.Omega.{arith}
 use borrow.Author.Tests.{leb-true, ltb-true, ltb-false, lt-ltb}

@@ -6,7 +6,6 @@ use native.Mathlib.Nat.{mul-le-mul, add-mul}
 use native.Mathlib.Omega.{arith}
 use borrow.Author.Tests.{ltb-true, lt-ltb}
 use Rattle.ground.specs.Limits.{mostDuration}
-use Rattle.player_clock.specs.declared.Stepped.{Stepped}
 use Rattle.player_clock.specs.Clock.{factorOf, placeOf, parts, steppedBy, stepped, restRule}
 use Rattle.player_clock.proofs.Factors.{factor-of, factor-is}
 
@@ -54,7 +53,3 @@ step-leaves rest d speed =
 
 pub rest-below : (rest : ℕ) → restRule rest ≡ true → rest < parts
 rest-below rest h = ltb-true _ _ h
-
--- and 0 is one
-pub no-rest : restRule 0 ≡ true
-no-rest = refl

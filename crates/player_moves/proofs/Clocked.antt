@@ -10,7 +10,7 @@ use borrow.Author.Tests.{eq-eqb, eqb-true, ltb-true, ltb-false, lt-ltb, le-ltb}
 use lib.Dec.{eqb, ltb}
 use Rattle.ground.specs.Cases.{pick}
 use Rattle.ground.specs.Limits.{mostDuration}
-use Rattle.ground.proofs.Cases.{past, here, true-or}
+use Rattle.ground.proofs.Cases.{past, here}
 use Rattle.player_clock.specs.declared.Stepped.{Stepped}
 use Rattle.player_clock.specs.Clock.{parts, stepped}
 use Rattle.player_clock.proofs.Steps.{step-at-zero, steps-join}
@@ -64,7 +64,7 @@ module _ (groups tracks : List ℕ) (p : Player) (short : endNow tracks p ≤ mo
       let q = clockedTo (position + clockStep d₁ p .whole) (clockStep d₁ p .rest) p in
       let first : advanced groups tracks d₁ p ≡ q = advanced-within p groups tracks d₁ plays (lt-ltb (position + clockStep d₁ p .whole) (endNow tracks p) (omega (arith, j .0))) in
       let second : advanced groups tracks d₂ q ≡ clockedTo (position + clockStep d₁ p .whole + clockStep d₂ q .whole) (clockStep d₂ q .rest) q =
-          advanced-within q groups tracks d₂ plays (lt-ltb (position + clockStep d₁ p .whole + clockStep d₂ q .whole) (endNow tracks p) (omega (arith, j .0))) in
+      advanced-within q groups tracks d₂ plays (lt-ltb (position + clockStep d₁ p .whole + clockStep d₂ q .whole) (endNow tracks p) (omega (arith, j .0))) in
       let sum : position + clockStep d₁ p .whole + clockStep d₂ q .whole ≡ position + clockStep (d₁ + d₂) p .whole = omega (arith, j .0) in
       ap (advanced groups tracks d₂) first
       ∙ second

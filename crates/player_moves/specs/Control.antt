@@ -63,7 +63,7 @@ unfoldable pub trackMoved : List ℕ → List ℕ → Step → Player → Contro
 trackMoved groups tracks step p =
     onward (trackReached groups tracks step p) (λ t. success (movedTo (p .place .group .0) t (used step p))) p
 
--- "0: nothing moves": Goto 0 of the segments sets no position (document 02, W-211, asks what does)
+-- "0: nothing moves": Goto 0 of the segments sets no position, so that the rest of the clock stays (document 02, W-211)
 abbrev pub movesNothing : Step → Bool
 movesNothing Previous = false
 movesNothing Next = false

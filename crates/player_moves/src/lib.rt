@@ -11,7 +11,7 @@ ghost use Rattle.player_groups.specs.Family.{Current};
 ghost use Rattle.player_segments.specs.Segments.{nearPosition, Rising, Below};
 ghost use Rattle.player_check.specs.Standing.{playerRule};
 ghost use Rattle.catalogue_tables.specs.Tables.{startsOf, endOf};
-ghost use Rattle.player_moves.specs.Moves.{endNow, pastLast, segmentAfter, trackAfter, nextTrack, groupAfter, entryOf, Shaped, Seated, Sits, RunOf};
+ghost use Rattle.player_moves.specs.Moves.{endNow, pastLast, trackAfter, nextTrack, groupAfter, entryOf, Shaped, Seated, Sits, RunOf};
 ghost use Rattle.player_moves.specs.Control.{success, failed, onward, entered, movesNothing, segmentMoved, trackMoved, acted, controlled};
 ghost use Rattle.player_moves.specs.Clock.{isBelow, staysBelow, playedOn, soughtOn, advanced, positioned, groupWritten, activated};
 
