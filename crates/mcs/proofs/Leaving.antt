@@ -14,7 +14,7 @@ use Rattle.desk_state.specs.declared.Desk.{Desk}
 use Rattle.desk_replies.specs.Replies.{stateRight, fronted, asked}
 use Rattle.mcs_state.specs.Codec.{deskOf, deskOctets}
 use Rattle.mcs_state.proofs.Plain.{Octets, plain}
-use Rattle.mcs.specs.Calls.{AllWords, stateAfter, Ends}
+use Rattle.mcs_told.specs.Calls.{AllWords, stateAfter, Ends}
 
 pub follow : {l m : Left Desk} {old track offset new track′ offset′ : List ℕ} {number : ℕ} → l ≡ m
     → Ends l old track offset number new track′ offset′ → Ends m old track offset number new track′ offset′

@@ -1,14 +1,13 @@
 -- What a call says fits words of 32 bits, so C is told the numbers themselves. Assumes nothing.
-use mathlib.Core.Path.{_≡_, refl, sym, ap, _∙_, subst}
+use mathlib.Core.Path.{_≡_, refl, sym, subst}
 use mathlib.Core.Bool.{Bool, true, false, _&&_, not}
 use mathlib.Core.List.{List, [], _∷_, _++_}
-use Prim.Native.Nat.{ℕ, zero, suc, _+_, _-_, _/_, _%_, _≤_, _<_}
+use Prim.Native.Nat.{ℕ, suc, _+_, _-_, _/_, _%_, _≤_, _<_}
 use native.Mathlib.Omega.{arith}
 use borrow.Author.Tests.{eqb-true, not-false, ltb-true, leb-true, leb-false}
 use lib.Dec.{eqb, leb, ltb, lit≤}
-use lib.ListN.{length, take, drop, getD, set, length-take}
+use lib.ListN.{length, take, drop, getD, length-take}
 use Rattle.ground.specs.Cases.{pick, has}
-use Rattle.ground.specs.Lists.{tableAfter}
 use Rattle.ground.specs.Refusals.{Said, granted, refusedWith, Row, row, answered, saidThrough, Left, leaves, keeping}
 use Rattle.ground.specs.Limits.{mostGroups, mostTracks, mostSegments, mostText, groupWords, trackWords, leastOutput}
 use Rattle.ground.proofs.Cases.{and-left, and-right}
@@ -50,49 +49,8 @@ use Rattle.desk_exchange.specs.Read.{valueNow, readerRows, readOctets, readCall
 use Rattle.desk_title.specs.Title.{titleRows, titleCall}
 use Rattle.desk_take.specs.Serving.{placesOwed, nextPlace, handedOctets, handedValues, afterServing}
 use Rattle.desk_take.specs.Take.{nextClient, playersOf, withServed, takeCall}
-use Rattle.mcs.specs.declared.Told.{Told}
-use Rattle.mcs.specs.Calls.{AllWords, lowWord, carries, carriesTwo, toldOf, toldAfter, saidWords, wordsAfter, carriedAfter, trackAfter, offsetAfter}
-
-at-word : (xs : List ℕ) (i : ℕ) → AllWords xs → getD xs i 0 < 4294967296
-at-word [] i h = lit≤ tt
-at-word (x ∷ xs) zero h = h .0
-at-word (x ∷ xs) (suc i) h = at-word xs i (h .1)
-
-pub low : (n : ℕ) → n < 4294967296 → lowWord n ≡ n
-low n h = omega arith
-
--- what is told is what is said
-pub told-by-places : (on : Bool) (said : Said) (old : List ℕ) → ((i : ℕ) → getD (said .values) i 0 < 4294967296)
-    → toldAfter on (toldOf said .values) old ≡ toldAfter on (saidWords said) old
-told-by-places on said old h =
-    let v : List ℕ = said .values in
-    λ k. toldAfter on (low (getD v 0 0) (h 0) k ∷ low (getD v 1 0) (h 1) k ∷ low (getD v 2 0) (h 2) k ∷ low (getD v 3 0) (h 3) k ∷ []) old
-
-pub track-as-said : (said : Said) (old : List ℕ) → AllWords (said .values) → toldAfter (toldOf said .titled) (toldOf said .values) old ≡ trackAfter said old
-track-as-said said old h = told-by-places (carriesTwo said) said old (λ i. at-word (said .values) i h)
-
-pub offset-as-said : (said : Said) (old : List ℕ) → AllWords (said .values)
-    → toldAfter (toldOf said .carries) (pick (toldOf said .titled) (getD (toldOf said .values) 1 0) (getD (toldOf said .values) 0 0) ∷ []) old ≡ offsetAfter said old
-offset-as-said said old h =
-    let v : List ℕ = said .values in
-    λ k. toldAfter (carries said) (pick (carriesTwo said) (low (getD v 1 0) (at-word v 1 h) k) (low (getD v 0 0) (at-word v 0 h) k) ∷ []) old
-
--- the words for where a title is wrong, of what is told
-pub place-as-said : (t : Told) (said : Said) → t ≡ toldOf said → AllWords (said .values) → (track octet track′ octet′ : List ℕ)
-    → (track′ ≡ toldAfter (t .titled) (t .values) track) × (octet′ ≡ toldAfter (t .carries) (pick (t .titled) (getD (t .values) 1 0) (getD (t .values) 0 0) ∷ []) octet)
-    → (track′ ≡ trackAfter said track) × (octet′ ≡ offsetAfter said octet)
-place-as-said t said told small track octet track′ octet′ e = (
-  e .0 ∙ ap (λ (x : Told). toldAfter (x .titled) (x .values) track) told ∙ track-as-said said track small,
-  e .1
-      ∙ ap (λ (x : Told). toldAfter (x .carries) (pick (x .titled) (getD (x .values) 1 0) (getD (x .values) 0 0) ∷ []) octet) told
-      ∙ offset-as-said said octet small,
-)
-
-pub carried-as-said : (said : Said) (old : List ℕ) → AllWords (said .values) → toldAfter (toldOf said .carries) (toldOf said .values) old ≡ carriedAfter said old
-carried-as-said said old h = told-by-places (carries said) said old (λ i. at-word (said .values) i h)
-
-pub told-as-said : (said : Said) (old : List ℕ) → AllWords (said .values) → toldAfter (toldOf said .granted) (toldOf said .values) old ≡ wordsAfter said old
-told-as-said said old h = told-by-places (said .isGranted) said old (λ i. at-word (said .values) i h)
+use Rattle.mcs_told.specs.Calls.{AllWords}
+use Rattle.mcs_told.proofs.Words.{at-word}
 
 -- a cue sheet's line and its number of starts are small
 pub cue-words : (sheet : List ℕ) (room i : ℕ) → getD (cueSaid sheet room .values) i 0 < 4294967296
@@ -179,20 +137,6 @@ unfolding writeSaid SmallRows
 write-words k room =
     behind-rows (λ said. said) (λ said. said) (λ said. refl) (writeRows k room) (title-words k, (tt, tt)) _
     (λ n. (omega (arith, most-blocks k (is-right k (not-false _ (n .0)))), tt))
-
--- what is said of an answer is said of the call
-pub front-as-said : (of said : Said) → of ≡ said → (front out out′ count count′ : List ℕ) (n : ℕ) → out′ ≡ tableAfter of front out
-    → (n ≡ of .number) × (count′ ≡ wordsAfter of count) → (n ≡ said .number) × ((out′ ≡ tableAfter said front out) × (count′ ≡ wordsAfter said count))
-front-as-said of said told front out out′ count count′ n put e = (
-  e .0 ∙ ap (λ (x : Said). x .number) told,
-  (put ∙ ap (λ (x : Said). tableAfter x front out) told, e .1 ∙ ap (λ (x : Said). wordsAfter x count) told),
-)
-
--- one word for the number of entries
-pub one-count : (n : ℕ) (old : List ℕ) → length old ≡ 1 → set old 0 n ≡ wordsAfter (granted (n ∷ [])) old
-one-count n [] e = absurd (let z : ⊥ = omega arith in z)
-one-count n (x ∷ []) e = refl
-one-count n (x ∷ y ∷ old) e = absurd (let z : ⊥ = omega arith in z)
 
 -- an object of a right catalogue has few octets
 object-words : (k : Tables) (there : Bool) (octets : List ℕ) (room : ℕ) → (Right k → there ≡ true → length octets < 4294967296)

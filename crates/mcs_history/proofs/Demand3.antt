@@ -26,7 +26,7 @@ use Rattle.desk_history.specs.Apart.{To}
 use Rattle.desk_history.proofs.Apart as apart
 use Rattle.desk_history.proofs.Demand3 as desk
 use Rattle.mcs_state.specs.Codec.{deskOf}
-use Rattle.mcs.specs.Calls.{Leaves, wordsAfter}
+use Rattle.mcs_told.specs.Calls.{Leaves, wordsAfter}
 use Rattle.mcs_history.specs.Library.{Shown, isTake, heard, Made, other, taken, Run, started, then, heardBy, Onward, done, and}
 use Rattle.mcs_history.proofs.Meaning.{began-right, made-means, means}
 use Rattle.mcs_history.proofs.Hearing.{heard-is}

@@ -32,7 +32,7 @@ use Rattle.desk_take.specs.Take.{nextClient, playersOf, withServed, takenBy, ta
 use Rattle.desk_history.specs.Calls.{Call, take}
 use Rattle.desk_history.specs.Rounds.{Handout}
 use Rattle.desk_history.specs.History.{deskAt, spoken, handedOut}
-use Rattle.mcs.specs.Calls.{wordsAfter}
+use Rattle.mcs_told.specs.Calls.{wordsAfter}
 use Rattle.mcs_history.specs.Library.{heard}
 
 -- no slot has the characteristic 0

@@ -21,7 +21,7 @@ use Rattle.desk_history.specs.Calls.{Call, setName, activate, deactivate, advan
 use Rattle.desk_history.specs.Rounds.{Handout, prepend}
 use Rattle.desk_history.specs.History.{handoutsTo, Handed, handedBy}
 use Rattle.mcs_state.specs.Codec.{deskOf}
-use Rattle.mcs.specs.Calls.{Leaves, wordsAfter}
+use Rattle.mcs_told.specs.Calls.{Leaves, wordsAfter}
 
 -- what a read of this desk gives in the lent output and in the word for the length
 pub record Shown (k : Lent) (d : Desk) (who v characteristic offset : ℕ) (out told out′ told′ : List ℕ) : Type 0 where

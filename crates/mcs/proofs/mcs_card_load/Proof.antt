@@ -6,9 +6,10 @@ use Rattle.ground.specs.Lists.{tableAfter}
 use Rattle.ground.specs.Words.{words}
 use Rattle.card_load.specs.Card.{blocksOf, gather, octets}
 use Rattle.card_load.specs.Load.{loadSaid}
-use Rattle.mcs.specs.declared.Told.{Told}
-use Rattle.mcs.specs.Calls.{toldOf, toldAfter}
-use Rattle.mcs.proofs.Short.{load-words, told-as-said, carried-as-said}
+use Rattle.mcs_told.specs.declared.Told.{Told}
+use Rattle.mcs_told.specs.Calls.{toldOf, toldAfter}
+use Rattle.mcs_told.proofs.Words.{told-as-said, carried-as-said}
+use Rattle.mcs.proofs.Short.{load-words}
 use borrow.Author.Needs.{needs}
 use Rattle.mcs.proofs.mcs_card_load.Statement.{statement}
 use Rattle.mcs.proofs.mcs_card_load.Tie as tie

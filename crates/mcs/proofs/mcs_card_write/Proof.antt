@@ -6,9 +6,10 @@ use Rattle.ground.specs.Lists.{tableAfter}
 use Rattle.catalogue_tables.specs.Tables.{tables}
 use Rattle.card_write.specs.Card.{cardOf}
 use Rattle.card_write.specs.Write.{writeSaid}
-use Rattle.mcs.specs.declared.Told.{Told}
-use Rattle.mcs.specs.Calls.{toldOf, toldAfter}
-use Rattle.mcs.proofs.Short.{write-words, told-as-said, place-as-said}
+use Rattle.mcs_told.specs.declared.Told.{Told}
+use Rattle.mcs_told.specs.Calls.{toldOf, toldAfter}
+use Rattle.mcs_told.proofs.Words.{told-as-said, place-as-said}
+use Rattle.mcs.proofs.Short.{write-words}
 use borrow.Author.Needs.{needs}
 use Rattle.mcs.proofs.mcs_card_write.Statement.{statement}
 use Rattle.mcs.proofs.mcs_card_write.Tie as tie

@@ -4,9 +4,10 @@ use lib.ListN.{length}
 use Rattle.ground.specs.Refusals.{Said}
 use Rattle.ground.specs.Lists.{tableAfter}
 use Rattle.catalogue_cue.specs.Sheet.{cueSaid, sheetLines, startsOf}
-use Rattle.mcs.specs.declared.Told.{Told}
-use Rattle.mcs.specs.Calls.{carries, toldOf, toldAfter}
-use Rattle.mcs.proofs.Short.{cue-words, told-by-places}
+use Rattle.mcs_told.specs.declared.Told.{Told}
+use Rattle.mcs_told.specs.Calls.{carries, toldOf, toldAfter}
+use Rattle.mcs_told.proofs.Words.{told-by-places}
+use Rattle.mcs.proofs.Short.{cue-words}
 use borrow.Author.Needs.{needs}
 use Rattle.mcs.proofs.mcs_cue_sheet.Statement.{statement}
 use Rattle.mcs.proofs.mcs_cue_sheet.Tie as tie

@@ -5,9 +5,10 @@ use Rattle.ground.specs.Refusals.{Said}
 use Rattle.ground.specs.Lists.{tableAfter}
 use Rattle.catalogue_tables.specs.Tables.{tables}
 use Rattle.catalogue_objects.specs.Objects.{groupOctets, hasGroup, writeSaid}
-use Rattle.mcs.specs.declared.Told.{Told}
-use Rattle.mcs.specs.Calls.{toldOf, toldAfter}
-use Rattle.mcs.proofs.Short.{group-words, told-as-said, place-as-said}
+use Rattle.mcs_told.specs.declared.Told.{Told}
+use Rattle.mcs_told.specs.Calls.{toldOf, toldAfter}
+use Rattle.mcs_told.proofs.Words.{told-as-said, place-as-said}
+use Rattle.mcs.proofs.Short.{group-words}
 use borrow.Author.Needs.{needs}
 use Rattle.mcs.proofs.mcs_group_object_write.Statement.{statement}
 use Rattle.mcs.proofs.mcs_group_object_write.Tie as tie

@@ -7,10 +7,11 @@ use Rattle.desk_state.specs.declared.Desk.{Desk}
 use Rattle.ground.specs.Lists.{tableAfter}
 use Rattle.desk_exchange.specs.Read.{readCall, readOctets}
 use Rattle.mcs_state.specs.Codec.{deskOf}
-use Rattle.mcs.specs.declared.Told.{Told}
-use Rattle.mcs.specs.Calls.{toldOf, toldAfter}
+use Rattle.mcs_told.specs.declared.Told.{Told}
+use Rattle.mcs_told.specs.Calls.{toldOf, toldAfter}
 use Rattle.mcs.proofs.Leaving.{follow, small-left}
-use Rattle.mcs.proofs.Short.{read-words, told-as-said}
+use Rattle.mcs_told.proofs.Words.{told-as-said}
+use Rattle.mcs.proofs.Short.{read-words}
 use borrow.Author.Needs.{needs}
 use Rattle.mcs.proofs.mcs_read.Statement.{statement}
 use Rattle.mcs.proofs.mcs_read.Tie as tie

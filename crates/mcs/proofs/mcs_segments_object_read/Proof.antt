@@ -2,7 +2,7 @@
 use lib.ListN.{length}
 use Rattle.catalogue_objects.specs.declared.Kind.the-variants.{Segments}
 use Rattle.catalogue_objects.specs.Reading.{entriesOf, readSaid}
-use Rattle.mcs.proofs.Short.{front-as-said}
+use Rattle.mcs_told.proofs.Words.{front-as-said}
 use borrow.Author.Needs.{needs}
 use Rattle.mcs.proofs.mcs_segments_object_read.Statement.{statement}
 use Rattle.mcs.proofs.mcs_segments_object_read.Tie as tie

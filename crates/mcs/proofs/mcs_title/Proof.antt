@@ -9,9 +9,10 @@ use Rattle.catalogue_titles.specs.Lent.{Lent, lending}
 use Rattle.desk_state.specs.declared.Desk.{Desk}
 use Rattle.desk_title.specs.Title.{titledBy, titleCall}
 use Rattle.mcs_state.specs.Codec.{deskOf}
-use Rattle.mcs.specs.declared.Told.{Told}
-use Rattle.mcs.specs.Calls.{toldOf, toldAfter, partAfter}
-use Rattle.mcs.proofs.Short.{titled-words, place-as-said}
+use Rattle.mcs_told.specs.declared.Told.{Told}
+use Rattle.mcs_told.specs.Calls.{toldOf, toldAfter, partAfter}
+use Rattle.mcs_told.proofs.Words.{place-as-said}
+use Rattle.mcs.proofs.Short.{titled-words}
 use borrow.Author.Needs.{needs}
 use Rattle.mcs.proofs.mcs_title.Statement.{statement}
 use Rattle.mcs.proofs.mcs_title.Tie as tie

@@ -1,4 +1,4 @@
--- `mcs::tell_place`: the track by `tell`, and the offset, which is the last of what is carried.
+-- `mcs_told::tell_place`: the track by `tell`, and the offset, which is the last of what is carried.
 use mathlib.Core.Path.{_≡_, refl, ap, _∙_}
 use mathlib.Core.List.{List, [], _∷_}
 use Prim.Native.Nat.{ℕ}
@@ -6,8 +6,8 @@ use native.Mathlib.Omega.{arith}
 use lib.ListN.{length, take, getD, set}
 use Rattle.ground.proofs.Cases.{past, here}
 use borrow.Author.Needs.{needs}
-use Rattle.mcs.proofs.tell_place.Statement.{statement}
-use Rattle.mcs.proofs.tell_place.Tie as tie
+use Rattle.mcs_told.proofs.tell_place.Statement.{statement}
+use Rattle.mcs_told.proofs.tell_place.Tie as tie
 
 -- one word written
 one-word : (old : List ℕ) (v : ℕ) {w : ℕ} → length old ≡ 1 → v ≡ w → set old 0 v ≡ take (length old) (w ∷ [])

@@ -1,12 +1,12 @@
--- `mcs::refused`: by what the refusal carries.
+-- `mcs_told::refused`: by what the refusal carries.
 use mathlib.Core.Path.{_≡_, sym, ap}
 use Prim.Native.Nat.{ℕ}
 use Rattle.ground.specs.declared.Carried.{Carried}
 use Rattle.ground.specs.Refusals.{refusedWith, carriedOf}
-use Rattle.mcs.specs.Calls.{toldOf}
+use Rattle.mcs_told.specs.Calls.{toldOf}
 use borrow.Author.Needs.{needs}
-use Rattle.mcs.proofs.refused.Statement.{statement}
-use Rattle.mcs.proofs.refused.Tie as tie
+use Rattle.mcs_told.proofs.refused.Statement.{statement}
+use Rattle.mcs_told.proofs.refused.Tie as tie
 
 back : (number : ℕ) {a b : Carried} → a ≡ b → toldOf (refusedWith number (carriedOf b)) ≡ toldOf (refusedWith number (carriedOf a))
 back number e = sym (ap (λ (x : Carried). toldOf (refusedWith number (carriedOf x))) e)

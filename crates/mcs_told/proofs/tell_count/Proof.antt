@@ -1,12 +1,12 @@
--- `mcs::tell_count`: an arm an answer.
+-- `mcs_told::tell_count`: an arm an answer.
 use mathlib.Core.Path.{sym, ap, _∙_}
 use Rattle.catalogue_objects.specs.declared.Answer.{Answer}
 use Rattle.catalogue_objects.specs.Objects.{saidOf}
-use Rattle.mcs.specs.Calls.{wordsAfter}
-use Rattle.mcs.proofs.Short.{one-count}
+use Rattle.mcs_told.specs.Calls.{wordsAfter}
+use Rattle.mcs_told.proofs.Words.{one-count}
 use borrow.Author.Needs.{needs}
-use Rattle.mcs.proofs.tell_count.Statement.{statement}
-use Rattle.mcs.proofs.tell_count.Tie as tie
+use Rattle.mcs_told.proofs.tell_count.Statement.{statement}
+use Rattle.mcs_told.proofs.tell_count.Tie as tie
 
 enum-known-a : tie.Need-enum-known-a
 enum-known-a c = search needs

@@ -1,13 +1,13 @@
--- `mcs::told_of`: an arm an answer.
+-- `mcs_told::told_of`: an arm an answer.
 use mathlib.Core.Path.{_≡_, sym, ap, _∙_}
 use mathlib.Core.List.{[], _∷_}
 use Rattle.ground.specs.Refusals.{granted}
 use Rattle.desk_replies.specs.declared.Answer.{Answer}
 use Rattle.desk_replies.specs.Replies.{saidOf}
-use Rattle.mcs.specs.Calls.{toldOf}
+use Rattle.mcs_told.specs.Calls.{toldOf}
 use borrow.Author.Needs.{needs}
-use Rattle.mcs.proofs.told_of.Statement.{statement}
-use Rattle.mcs.proofs.told_of.Tie as tie
+use Rattle.mcs_told.proofs.told_of.Statement.{statement}
+use Rattle.mcs_told.proofs.told_of.Tie as tie
 
 -- what is told of the answer's arm is told of the answer
 back : {a b : Answer} → a ≡ b → toldOf (saidOf b) ≡ toldOf (saidOf a)

@@ -1,11 +1,11 @@
--- `mcs::told_of_object`: an arm an answer.
+-- `mcs_told::told_of_object`: an arm an answer.
 use mathlib.Core.Path.{_≡_, sym, ap, _∙_}
 use Rattle.catalogue_objects.specs.declared.Answer.{Answer}
 use Rattle.catalogue_objects.specs.Objects.{saidOf}
-use Rattle.mcs.specs.Calls.{toldOf}
+use Rattle.mcs_told.specs.Calls.{toldOf}
 use borrow.Author.Needs.{needs}
-use Rattle.mcs.proofs.told_of_object.Statement.{statement}
-use Rattle.mcs.proofs.told_of_object.Tie as tie
+use Rattle.mcs_told.proofs.told_of_object.Statement.{statement}
+use Rattle.mcs_told.proofs.told_of_object.Tie as tie
 
 -- what is told of the answer's arm is told of the answer
 back : {a b : Answer} → a ≡ b → toldOf (saidOf b) ≡ toldOf (saidOf a)

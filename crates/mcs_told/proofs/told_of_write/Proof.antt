@@ -1,11 +1,11 @@
--- `mcs::told_of_write`: an arm an answer.
+-- `mcs_told::told_of_write`: an arm an answer.
 use mathlib.Core.Path.{_≡_, sym, ap, _∙_}
 use Rattle.card_write.specs.declared.Written.{Written}
 use Rattle.card_write.specs.Write.{saidOf}
-use Rattle.mcs.specs.Calls.{toldOf}
+use Rattle.mcs_told.specs.Calls.{toldOf}
 use borrow.Author.Needs.{needs}
-use Rattle.mcs.proofs.told_of_write.Statement.{statement}
-use Rattle.mcs.proofs.told_of_write.Tie as tie
+use Rattle.mcs_told.proofs.told_of_write.Statement.{statement}
+use Rattle.mcs_told.proofs.told_of_write.Tie as tie
 
 -- what is told of the answer's arm is told of the answer
 back : {a b : Written} → a ≡ b → toldOf (saidOf b) ≡ toldOf (saidOf a)

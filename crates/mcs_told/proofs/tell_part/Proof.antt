@@ -1,14 +1,14 @@
--- `mcs::tell_part`: three of the four values that are told.
+-- `mcs_told::tell_part`: three of the four values that are told.
 use mathlib.Core.Path.{_≡_, sym, ap, _∙_}
 use mathlib.Core.Bool.{Bool}
 use mathlib.Core.List.{List, [], _∷_}
 use Prim.Native.Nat.{ℕ}
 use lib.ListN.{length, take}
 use Rattle.ground.specs.Cases.{pick}
-use Rattle.mcs.specs.Calls.{toldAfter}
+use Rattle.mcs_told.specs.Calls.{toldAfter}
 use borrow.Author.Needs.{needs}
-use Rattle.mcs.proofs.tell_part.Statement.{statement}
-use Rattle.mcs.proofs.tell_part.Tie as tie
+use Rattle.mcs_told.proofs.tell_part.Statement.{statement}
+use Rattle.mcs_told.proofs.tell_part.Tie as tie
 
 -- three words have no room for a fourth
 three-words : (on : Bool) (old : List ℕ) (a b c d : ℕ) → length old ≡ 3 → toldAfter on (a ∷ b ∷ c ∷ d ∷ []) old ≡ toldAfter on (a ∷ b ∷ c ∷ []) old

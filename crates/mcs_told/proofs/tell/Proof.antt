@@ -1,4 +1,4 @@
--- `mcs::tell`: after i turns the first i values are written.
+-- `mcs_told::tell`: after i turns the first i values are written.
 use Prim.Native.Nat.{ℕ, _≤_, _<_, _-_, _+_}
 use mathlib.Core.Path.{_≡_, refl, sym, _∙_, ap}
 use mathlib.Core.List.{List, append-nil, _++_}
@@ -9,8 +9,8 @@ use borrow.Author.Needs.{needs}
 use lib.ListN.{length, take, getD, set, length-set, drop-of-length-le}
 use lib.Seq.{paste, paste-zero, paste-suc}
 use Rattle.ground.proofs.Cases.{past, here}
-use Rattle.mcs.proofs.tell.Statement.{statement}
-use Rattle.mcs.proofs.tell.Tie as tie
+use Rattle.mcs_told.proofs.tell.Statement.{statement}
+use Rattle.mcs_told.proofs.tell.Tie as tie
 
 abbrev Inv-loop : tie.InvT-loop
 Inv-loop on words₀ values i₀ words i = (i ≤ length words₀) × (length words ≡ length words₀) × (length words₀ ≤ length values) × (words ≡ paste words₀ 0 values i)

@@ -12,7 +12,7 @@ use Rattle.catalogue_titles.specs.declared.Part.{Part}
 use Rattle.catalogue_titles.specs.Titles.{partValues}
 use Rattle.desk_state.specs.declared.Desk.{Desk}
 use Rattle.mcs_state.specs.Codec.{deskOf, deskOctets}
-use Rattle.mcs.specs.declared.Told.{Told}
+use Rattle.mcs_told.specs.declared.Told.{Told}
 
 -- each of these is below 2^32
 abbrev pub AllWords : List ℕ → Type 0

@@ -1,16 +1,16 @@
--- `mcs::finish`: where a text is wrong, and the octets of the next state, or nothing.
+-- `mcs_told::finish`: where a text is wrong, and the octets of the next state, or nothing.
 use mathlib.Core.Path.{_≡_, refl, sym, ap, _∙_}
 use mathlib.Core.List.{[], _∷_}
 use lib.ListN.{getD}
 use Rattle.ground.specs.Cases.{pick}
 use Rattle.ground.proofs.Cases.{past, here}
-use Rattle.mcs.specs.declared.Told.{Told}
+use Rattle.mcs_told.specs.declared.Told.{Told}
 use Rattle.desk_replies.specs.Replies.{leftBy}
-use Rattle.mcs.specs.Calls.{toldAfter, trackAfter, offsetAfter}
-use Rattle.mcs.proofs.Short.{track-as-said, offset-as-said}
+use Rattle.mcs_told.specs.Calls.{toldAfter, trackAfter, offsetAfter}
+use Rattle.mcs_told.proofs.Words.{track-as-said, offset-as-said}
 use borrow.Author.Needs.{needs}
-use Rattle.mcs.proofs.finish.Statement.{statement}
-use Rattle.mcs.proofs.finish.Tie as tie
+use Rattle.mcs_told.proofs.finish.Statement.{statement}
+use Rattle.mcs_told.proofs.finish.Tie as tie
 
 -- where the words for a text that is wrong are written, and with what
 abbrev begun : tie.After-tell-place → tie.Start
