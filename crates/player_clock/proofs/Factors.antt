@@ -18,7 +18,7 @@ use Rattle.player_clock.specs.Clock.{Factor, isFactor, factorsFrom, tabl
 pub factor-of : (q e : ℕ) → isFactor q e ≡ true → Factor q e
 factor-of q e t =
     let a = leb ((2 * e - 1) ^ 64) (2 ^ (960 + q)) in
-    let b = ltb (2 ^ (960 + q)) ((2 * e + 1) ^ 64) in
+    let b = above q e in
     record { low = leb-true _ _ (and-left a b t); high = ltb-true _ _ (and-right a b t) }
 
 entries : (s : List ℕ) (q : ℕ) → factorsFrom q s ≡ true → (k : ℕ) → k < length s → isFactor (q + k) (getD s k 0) ≡ true
@@ -71,7 +71,6 @@ first-least test (suc n) i j h e = by (test i) refl (λ k. first-least test n (s
     by false p r e = ⊎-elim (λ k. r k e) (λ k. let q : j ≡ i = omega arith in rw q p) (le-or (suc i) j)
 
 above-late : (q n : ℕ) → n ≡ 2 ^ (960 + q) → above q n ≡ true
-unfolding above
 above-late q n e =
     let p : (2 * n + 1) ^ 1 ≤ (2 * n + 1) ^ 64 = pow-le-pow-right (omega arith) (omega arith) in
     let one : (2 * n + 1) ^ 1 ≡ 2 * n + 1 = rw (pow-suc (2 * n + 1) 0, pow-zero, one-mul) in
@@ -79,7 +78,6 @@ above-late q n e =
     lt-ltb _ _ l
 
 below : (q e : ℕ) → ((j : ℕ) → e ≡ suc j → above q j ≡ false) → (2 * e - 1) ^ 64 ≤ 2 ^ (960 + q)
-unfolding above
 below q zero h = zero-le
 below q (suc j) h =
     let k : 2 * suc j - 1 ≡ 2 * j + 1 = omega arith in
@@ -87,7 +85,7 @@ below q (suc j) h =
 
 -- each place has a factor
 pub factor-meets : (q : ℕ) → Factor q (factorOf q)
-unfolding factorOf above
+unfolding factorOf
 factor-meets q =
     record {
       low = below q (factorOf q) (λ j e. first-least (above q) (2 ^ (960 + q)) 0 j zero-le e);

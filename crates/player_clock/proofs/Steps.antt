@@ -20,7 +20,7 @@ pub sum-fits : {rest d e : ℕ} → rest < 4294967296 → d < 4294967296 → e <
 sum-fits h k l = omega (arith, product-fits k l)
 
 -- p is 0: 65,536 is the factor
-factor-at-zero : factorOf 128 ≡ 65536
+pub factor-at-zero : factorOf 128 ≡ 65536
 factor-at-zero = sym (factor-is 128 65536 (factor-of 128 65536 refl))
 
 -- a step is what it was before there was a speed: d, and the rest stays

@@ -14,9 +14,12 @@ pub record Factor (q e : ℕ) : Type 0 where
   pub low : (2 * e - 1) ^ 64 ≤ 2 ^ (960 + q)
   pub high : 2 ^ (960 + q) < (2 * e + 1) ^ 64
 
--- the same as a test; and at each entry of a table, the first of which has the place q
+-- its second half as a test, and both; and both at each entry of a table, the first of which has the place q
+abbrev pub above : ℕ → ℕ → Bool
+above q e = ltb (2 ^ (960 + q)) ((2 * e + 1) ^ 64)
+
 abbrev pub isFactor : ℕ → ℕ → Bool
-isFactor q e = leb ((2 * e - 1) ^ 64) (2 ^ (960 + q)) && ltb (2 ^ (960 + q)) ((2 * e + 1) ^ 64)
+isFactor q e = leb ((2 * e - 1) ^ 64) (2 ^ (960 + q)) && above q e
 
 unfoldable pub factorsFrom : ℕ → List ℕ → Bool
 factorsFrom q [] = true
@@ -29,10 +32,6 @@ tableRule table = factorsFrom 0 table
 unfoldable pub firstFrom : (ℕ → Bool) → ℕ → ℕ → ℕ
 firstFrom test zero e = e
 firstFrom test (suc n) e = pick (test e) e (firstFrom test n (suc e))
-
--- 2^(1088+p) < (2e+1)^64
-unfoldable pub above : ℕ → ℕ → Bool
-above q e = ltb (2 ^ (960 + q)) ((2 * e + 1) ^ 64)
 
 -- that number, named as the least that passes the second half. It is never computed so: `Factors` proves that it meets both halves, and that no other
 -- number does.

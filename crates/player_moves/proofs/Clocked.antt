@@ -21,11 +21,11 @@ use Rattle.player_opcodes.specs.Opcodes.{actionOf}
 use Rattle.player_opcodes.specs.declared.Action.{Action}
 use Rattle.player_opcodes.specs.declared.Action.the-variants.{Play, Pause, Rewind, Forward, Stop, Relative, Segment, Track, Group, Unknown}
 use Rattle.player_state.specs.declared.Player.{Player}
-use Rattle.player_state.specs.Player.{playing, seeking, isActive, inMode, withUpcoming, clockedTo, atPlace}
+use Rattle.player_state.specs.Player.{playing, seeking, isActive, inMode, withUpcoming, clockedTo, atPlace, deactivated}
 use Rattle.player_state.specs.Modes.{forwarded, rewound, movedTo}
 use Rattle.player_moves.specs.Moves.{endNow, runningNow, nextTrack, groupAfter, entryOf}
 use Rattle.player_moves.specs.Control.{entered, trackReached, leftNamed, trackMoved, acted, controlled}
-use Rattle.player_moves.specs.Clock.{clockStep, isBelow, staysBelow, afterEnd, atEnd, playedOn, soughtOn, advanced, positioned}
+use Rattle.player_moves.specs.Clock.{clockStep, isBelow, staysBelow, afterEnd, atEnd, playedOn, soughtOn, advanced, positioned, trackWritten, groupWritten, activatedOn, activated}
 use Rattle.player_moves.proofs.Choices.{by-test, by-found, by-segment, by-control}
 use Rattle.player_moves.proofs.Alone.{advanced-within}
 
@@ -76,6 +76,9 @@ module _ (p : Player) where
   abbrev pub Rests : Player → Type 0
   Rests q = (q .place ≡ p .place) ⊎ (q .place .rest ≡ 0)
 
+  pub deactivated-rests : deactivated p .place .rest ≡ 0
+  deactivated-rests = refl
+
   pub positioned-rests : (tracks : List ℕ) (number : ℕ) → Rests (positioned tracks number p)
   unfolding positioned
   positioned-rests tracks number =
@@ -101,12 +104,33 @@ module _ (p : Player) where
     ended-rests d plays ends runs =
         ap (λ (q : Player). q .place .rest) (sym (here _ (eq-eqb _ _ plays) (past _ ends (past _ runs refl)))) ∙ after-rests (nextTrack groups tracks p)
 
-    module _ (segments : List ℕ) where
-      moved-rests : (n g t : ℕ) → movedTo g t (withUpcoming n p) .place .rest ≡ 0
-      unfolding movedTo
-      moved-rests n g t =
-          by-test (λ q. atPlace g t 0 q .place .rest ≡ 0) (eqb (p .mode .media) seeking) (inMode playing 0 (withUpcoming n p)) (withUpcoming n p) (λ e. refl) (λ e. refl)
+    -- a track or a group that is gone to, with any track named
+    moved-rests : (n g t : ℕ) → movedTo g t (withUpcoming n p) .place .rest ≡ 0
+    unfolding movedTo
+    moved-rests n g t =
+        by-test (λ q. atPlace g t 0 q .place .rest ≡ 0) (eqb (p .mode .media) seeking) (inMode playing 0 (withUpcoming n p)) (withUpcoming n p) (λ e. refl) (λ e. refl)
 
+    entered-rests : (g : ℕ) → Rests (entered groups tracks p g .player)
+    entered-rests g =
+        by-found (λ c. Rests (c .player)) (entryOf groups tracks (p .mode .order) g) _ p (λ t i. inr (moved-rests (p .upcoming) g t)) (inl refl)
+
+    pub track-rests : (t : ℕ) → Rests (trackWritten t p)
+    unfolding trackWritten
+    track-rests t = inr (moved-rests (p .upcoming) (p .place .group .0) t)
+
+    pub group-rests : (g : ℕ) → Rests (groupWritten groups tracks g p)
+    unfolding groupWritten
+    group-rests g = entered-rests g
+
+    on-rests : (g : ℕ) (near : Near) → Rests (activatedOn g near p)
+    on-rests g (At t) = inr refl
+    on-rests g Nothing = inl refl
+
+    pub activated-rests : (g : ℕ) → Rests (activated groups tracks g p)
+    unfolding activated
+    activated-rests g = on-rests g (entryOf groups tracks (p .mode .order) g)
+
+    module _ (segments : List ℕ) where
       acted-rests : (a : Action) → Rests (acted groups tracks segments a p .player)
       unfolding acted trackMoved forwarded rewound
       acted-rests Play = inl refl
@@ -120,9 +144,7 @@ module _ (p : Player) where
           by-found (λ c. Rests (c .player)) (trackReached groups tracks step p) _ p
           (λ t e. inr (moved-rests (leftNamed step (p .upcoming)) (p .place .group .0) t)) (inl refl)
       acted-rests (Group step) =
-          by-found (λ c. Rests (c .player)) (groupAfter groups step p) (entered groups tracks p) p
-          (λ g e. by-found (λ c. Rests (c .player)) (entryOf groups tracks (p .mode .order) g) _ p (λ t i. inr (moved-rests (p .upcoming) g t)) (inl refl))
-          (inl refl)
+          by-found (λ c. Rests (c .player)) (groupAfter groups step p) (entered groups tracks p) p (λ g e. entered-rests g) (inl refl)
       acted-rests Unknown = inl refl
 
       pub controlled-rests : (opcode number : ℕ) → Rests (controlled groups tracks segments opcode number p .player)

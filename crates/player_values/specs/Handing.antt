@@ -1,5 +1,5 @@
--- A value on its way out (document 01): held, and then a part of it (`partFrom` of `ground`) handed out, of a read "up to ATT_MTU − 1 octets", of a take "the present value, its
--- first ATT_MTU − 3".
+-- A value on its way out (document 01): held, and then a part of it (`partFrom` of `ground`) handed out, of a read "up to ATT_MTU − 1 octets", of a take
+-- "the present value, its first ATT_MTU − 3".
 -- Assumes nothing.
 use mathlib.Core.List.{List}
 use Prim.Native.Nat.{ℕ}
