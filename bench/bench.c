@@ -160,6 +160,12 @@ static void make_rows(void)
         if (k == 0) {
             add_speeds(&rows, &whole[k]);
         }
+        if (k == 0 || k == 3u) {
+            add_gotos(&rows, &whole[k]);
+        }
+        if (k == 3u) {
+            add_group_gotos(&rows, &whole[k]);
+        }
     }
     make_renamed(&renamed[0], "full, ASCII, all tracks renamed", ASCII);
     make_renamed(&renamed[1], "full, mixed, all tracks renamed", MIXED);

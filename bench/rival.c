@@ -2,6 +2,7 @@
  * functions, and with RIVAL for these two. */
 #include "rival.h"
 #include "state.h"
+#include "words.h"
 
 #ifndef RIVAL
 #define RIVAL(name) gcc_##name
@@ -21,7 +22,7 @@ uint32_t RIVAL(lent_call)(const call *c)
         state_of_octets(c->state, &state);
     }
     number = RIVAL(call)(&on_struct);
-    if (number == 0 && has_state(c->kind) && c->kind != TITLE) {
+    if (number == 0 && may_alter_state(c->kind)) {
         octets_of_state(&state, c->state);
     }
     return number;

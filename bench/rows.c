@@ -35,6 +35,8 @@ call lend(call made, void *state, answers *a)
     made.count = &a->count;
     made.served = a->served;
     made.part = a->part;
+    made.made = a->made;
+    made.place = a->place;
     made.counts = a->counts;
     made.block = &a->block;
     made.line = &a->line;
@@ -111,6 +113,13 @@ static call with_octets(uint32_t kind, uint32_t who, uint32_t what, const uint8_
     call c = plain(kind, who, what, 0);
     c.octets = octets;
     c.length = length;
+    return c;
+}
+
+static call manual_goto(uint32_t opcode, uint32_t steps)
+{
+    call c = plain(MANUAL_GOTO, 0, opcode, steps);
+    c.allowed = steps;
     return c;
 }
 
@@ -481,6 +490,31 @@ void add_speeds(table *t, const catalogue *c)
     take_until(&faster, c, 0);
     add(t, "advance, within a track, speed 32", c, plain(ADVANCE, 0, 0, 10), faster, ACCEPTED);
     add(t, "advance, Paused", c, plain(ADVANCE, 0, 0, 10), paused(c, 3), ACCEPTED);
+}
+
+void add_gotos(table *t, const catalogue *c)
+{
+    static const struct {
+        const char *segments, *tracks;
+        uint32_t steps;
+    } GOTO[3] = {{"manual Goto Segment, 10 steps", "manual Goto Track, order 4, 10 steps", 10},
+                 {"manual Goto Segment, 1,000 steps", "manual Goto Track, order 4, 1,000 steps", 1000},
+                 {"manual Goto Segment, 100,000 steps", "manual Goto Track, order 4, 100,000 steps", 100000}};
+    desk repeats = paused(c, 4);
+    uint32_t k;
+    for (k = 0; k < 3u; k++) {
+        add(t, GOTO[k].segments, c, manual_goto(MCS_OPCODE_GOTO_SEGMENT, GOTO[k].steps), repeats, ACCEPTED);
+    }
+    for (k = 0; k < 3u; k++) {
+        add(t, GOTO[k].tracks, c, manual_goto(MCS_OPCODE_GOTO_TRACK, GOTO[k].steps), repeats, ACCEPTED);
+    }
+}
+
+void add_group_gotos(table *t, const catalogue *c)
+{
+    desk before = paused(c, 3);
+    add(t, "manual Goto Group, 10 steps", c, manual_goto(MCS_OPCODE_GOTO_GROUP, 10), before, ACCEPTED);
+    add(t, "manual Goto Group, to the stop behind the last", c, manual_goto(MCS_OPCODE_GOTO_GROUP, 1000), before, ACCEPTED);
 }
 
 void add_renamed(table *t, const catalogue *c)

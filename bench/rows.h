@@ -17,7 +17,8 @@ typedef struct {
 /* What a call hands back beside its number and the state. */
 typedef struct {
     uint8_t out[MCS_OUTPUT_OCTETS];
-    uint32_t word, served[SERVED_WORDS], part[MCS_PART_WORDS], counts[4], block, line, track, octet;
+    uint32_t word, served[SERVED_WORDS], part[MCS_PART_WORDS], made[MCS_GOTO_MADE_WORDS], place[MCS_GOTO_PLACE_WORDS];
+    uint32_t counts[4], block, line, track, octet;
     size_t count;
     tables loaded;
     uint32_t entries[MOST_STARTS];
@@ -49,6 +50,11 @@ void add_calls(table *t, const catalogue *c);
 /* An advance within a track at speed 32, and one while Paused, beside that at speed 0 among all calls: what the table of speeds
  * costs. */
 void add_speeds(table *t, const catalogue *c);
+
+/* Manual Gotos with as many steps allowed as they have: of segments and of tracks, few steps and many; and of groups, which never
+ * repeat, on a catalogue that has more of them than the few. */
+void add_gotos(table *t, const catalogue *c);
+void add_group_gotos(table *t, const catalogue *c);
 
 /* Some calls on a catalogue whose tracks the office has renamed. */
 void add_renamed(table *t, const catalogue *c);

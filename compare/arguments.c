@@ -134,6 +134,28 @@ uint32_t reach(const run *r, const ref_player *p, uint8_t opcode)
     }
 }
 
+uint32_t some_allowance(dice *d, uint32_t amount, uint32_t far)
+{
+    switch (below(d, 8)) {
+    case 0:
+        return one_in(d, 2) ? 0 : below(d, 3);
+    case 1:
+        return amount - 1u;
+    case 2:
+        return amount + 1u;
+    case 3:
+        return below(d, amount);
+    case 4:
+        return amount + below(d, 300);
+    case 5:
+        return far + below(d, 4);
+    case 6:
+        return ONE_OF(d, 0x7FFFFFFFu, 0x80000000u, 0xFFFFFFFFu, any_word(d));
+    default:
+        return amount;
+    }
+}
+
 uint32_t value_length(const run *r, const ref_player *p, uint32_t characteristic)
 {
     switch (characteristic) {

@@ -35,6 +35,10 @@ uint32_t some_number(dice *d, uint32_t far);
 /* How far a Goto or a move of this opcode leads. */
 uint32_t reach(const run *r, const ref_player *p, uint8_t opcode);
 
+/* The steps that are allowed to a manual Goto of that amount: none, one less, as many, one more, many, and as many as lead about the
+ * end of what it runs over. */
+uint32_t some_allowance(dice *d, uint32_t amount, uint32_t far);
+
 /* The length that a value has now, nearly enough to aim an offset at. */
 uint32_t value_length(const run *r, const ref_player *p, uint32_t characteristic);
 

@@ -78,7 +78,7 @@ int stays_below(const tables *t, const standing *p, uint32_t d)
     return position_after(p, d) < end_of_track(track_word(t, p->track, DURATION));
 }
 
-static int is_running(const tables *t, const standing *p) { return track_word(t, p->track, DURATION) == MCS_RUNNING; }
+int is_running(const tables *t, const standing *p) { return track_word(t, p->track, DURATION) == MCS_RUNNING; }
 
 /* "Seeking uses d as before.": "Seeking adds d times the seeking speed, held to 0..D." (document 01) */
 static uint32_t position_sought(const tables *t, const standing *p, uint32_t d)

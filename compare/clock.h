@@ -14,6 +14,9 @@ uint32_t e_of(int speed);
 /* The parts that a clock step in Playing counts, those of the rest before it among them. */
 uint64_t parts_after(const standing *p, uint32_t d);
 
+/* Whether the track of a player is a recording that is still running. */
+int is_running(const tables *t, const standing *p);
+
 /* Whether a clock step in Playing stays below D. */
 int stays_below(const tables *t, const standing *p, uint32_t d);
 

@@ -348,6 +348,7 @@ static void call_cases(void)
     makes(come, 0);
     makes(again, MCS_ALREADY_CONNECTED);
     makes(blank(TITLE), 0);
+    makes(blank(MANUAL_GOTO), 0);
     makes(blank(TAKE), 0);
     advance_by(1000); /* while Paused */
     stands_at(1, 0, 1500);

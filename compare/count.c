@@ -1,5 +1,6 @@
 #include "count.h"
 #include "count_clock.h"
+#include "count_manual.h"
 #include "count_objects.h"
 #include "count_services.h"
 #include "count_titles.h"
@@ -430,6 +431,9 @@ void count_call(const run *r, const step *s, uint32_t share)
         count_titles(r, s);
         count_clock(r, s);
     }
+    if (s->kind == MANUAL_GOTO && number == 0) {
+        count_manual(r, s);
+    }
     if (writes_object(s->kind) || reads_object(s->kind)) {
         count_object(r, s);
     }
@@ -515,7 +519,7 @@ static void tell_truths(void)
 {
     static const char *const NAME[TRUTHS] = {"connected", "encrypted, connected", "encrypted, not connected"};
     unsigned long rarest = by_truth_value[2];
-    for (uint32_t kind = SET_NAME; kind <= TITLE; kind++) {
+    for (uint32_t kind = SET_NAME; has_state(kind); kind++) {
         row("%s with a yes or no that is neither, by its number without it", CALL_NAME[kind]);
         tell_numbers(kind, by_mended[kind], 0, 0);
     }
@@ -535,7 +539,7 @@ static void tell_truths(void)
 /* Octets that mean nothing, where they are seen to be as they have to be: by the calls that can show it. */
 static void tell_dead(void)
 {
-    enum { BUT_START = (2u << TITLE) - 2u, CLEARING = 1u << START | 1u << CONNECT | 1u << DISCONNECT };
+    enum { BUT_START = (1u << CARD_LOAD) - 2u, CLEARING = 1u << START | 1u << CONNECT | 1u << DISCONNECT };
     static const struct {
         const char *words;
         uint32_t kinds;
@@ -690,7 +694,7 @@ static void tell_all(void)
     }
     /* A connect and a disconnect change the record's first octet; every other call can change nothing. */
     row("accepted and changed nothing");
-    for (uint32_t kind = SET_NAME; kind <= TITLE; kind++) {
+    for (uint32_t kind = SET_NAME; has_state(kind); kind++) {
         tell(unchanged[kind], kind != CONNECT && kind != DISCONNECT, "%s", CALL_NAME[kind]);
     }
     tell_dead();
@@ -705,6 +709,7 @@ static void tell_all(void)
     tell_objects();
     tell_titles();
     tell_clock();
+    tell_manual();
     tell_truths();
     tell_places();
     tell_cards();

@@ -177,7 +177,7 @@ static void tell_over(void)
 {
     for (uint32_t service = 0; service < MCS_SERVICES; service++) {
         row("201 for the rest of service %u", (unsigned)service);
-        for (uint32_t kind = SET_NAME; kind <= TITLE; kind++) {
+        for (uint32_t kind = SET_NAME; has_state(kind); kind++) {
             tell(over[service][kind], 1, "%s", CALL_NAME[kind]);
         }
     }
@@ -275,7 +275,7 @@ static void tell_fates(void)
                                                    "a track's end"};
     for (uint32_t fate = 0; fate < FATES; fate++) {
         row("a rest %s", FATE[fate]);
-        for (uint32_t kind = 0; kind <= TITLE; kind++) {
+        for (uint32_t kind = 0; has_state(kind); kind++) {
             tell(by_call[fate][kind], call_can_be(kind, fate), "%s", CALL_NAME[kind]);
         }
         for (uint32_t k = 0; k < ADVANCES; k++) {

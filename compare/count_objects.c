@@ -320,7 +320,7 @@ static void tell_names(void)
     }
     for (uint32_t fate = 0; fate < FATES; fate++) {
         row("a named track %s", FATE[fate]);
-        for (uint32_t kind = SET_NAME; kind <= TITLE; kind++) {
+        for (uint32_t kind = SET_NAME; has_state(kind); kind++) {
             int drops = kind == ACTIVATE || kind == DEACTIVATE, keeps = kind != DEACTIVATE && kind != WRITE;
             tell(by_call[fate][kind], (unsigned long)(fate == DROPPED ? drops : keeps), "%s", CALL_NAME[kind]);
         }
@@ -334,11 +334,11 @@ static void tell_names(void)
         }
     }
     row("201 for a track that is named while Inactive");
-    for (uint32_t kind = SET_NAME; kind <= TITLE; kind++) {
+    for (uint32_t kind = SET_NAME; has_state(kind); kind++) {
         tell(by_misnamed[NAMED_INACTIVE][kind], 1, "%s", CALL_NAME[kind]);
     }
     row("201 for a named track that is not of the current group");
-    for (uint32_t kind = SET_NAME; kind <= TITLE; kind++) {
+    for (uint32_t kind = SET_NAME; has_state(kind); kind++) {
         tell(by_misnamed[NAMED_OUTSIDE][kind], 1, "%s", CALL_NAME[kind]);
     }
 }

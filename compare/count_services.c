@@ -18,10 +18,12 @@ static unsigned long waited_round, waited_longest;
 uint32_t number_with(const run *r, const step *s, const tables *titles, ref_state *state, uint32_t service)
 {
     static uint8_t out[OUT_ROOM];
-    uint32_t word, served[SERVED_WORDS], part[MCS_PART_WORDS], track, octet;
-    call c = {.kind = s->kind, .who = s->who, .service = service, .what = s->what, .number = s->number,
+    uint32_t word, served[SERVED_WORDS], part[MCS_PART_WORDS], made[MCS_GOTO_MADE_WORDS], place[MCS_GOTO_PLACE_WORDS], track, octet;
+    /* A manual Goto is allowed no step: its number does not depend on that, and there may be many. */
+    call c = {.kind = s->kind, .who = s->who, .service = service, .what = s->what, .number = s->number, .allowed = 0,
               .catalogue = lent(&r->lent), .titles = lent_titles(titles), .state = state, .out = out,
-              .out_len = s->room[0], .word = &word, .served = served, .part = part, .track = &track, .octet = &octet};
+              .out_len = s->room[0], .word = &word, .served = served, .part = part, .made = made, .place = place,
+              .track = &track, .octet = &octet};
     lend_texts(s, &c);
     return call_second(&c);
 }
@@ -164,12 +166,12 @@ static void tell_refusals(void)
 static void tell_states(void)
 {
     row("201 for the layout");
-    for (uint32_t kind = SET_NAME; kind <= TITLE; kind++) {
+    for (uint32_t kind = SET_NAME; has_state(kind); kind++) {
         tell(of_another_layout[kind], 1, "%s", CALL_NAME[kind]);
     }
     for (uint32_t service = 0; service < REF_SERVICES; service++) {
         row("201 for service %u alone", (unsigned)service);
-        for (uint32_t kind = SET_NAME; kind <= TITLE; kind++) {
+        for (uint32_t kind = SET_NAME; has_state(kind); kind++) {
             tell(wrong_alone[service][kind], 1, "%s", CALL_NAME[kind]);
         }
     }

@@ -1,5 +1,6 @@
 #include "draw.h"
 #include "arguments.h"
+#include "manual.h"
 #include "random_state.h"
 #include "service.h"
 #include "words.h"
@@ -7,16 +8,16 @@
 #include <string.h>
 
 /* In the order of the calls: start, set name, activate, deactivate, advance, connect, disconnect, subscribe, unsubscribe,
- * read, write, take, title. */
+ * read, write, take, title, manual Goto. */
 static const uint32_t MOODS[][CARD_LOAD] = {
-    {1, 12, 20, 2, 50, 16, 4, 50, 8, 60, 160, 120, 20}, /* a bit of all */
-    {0, 8, 8, 1, 30, 4, 1, 10, 1, 10, 200, 40, 4},      /* pressing buttons, so that results pile up */
-    {0, 8, 6, 1, 20, 4, 0, 10, 2, 10, 100, 140, 10},    /* handing out what falls due */
-    {0, 6, 4, 1, 20, 4, 1, 4, 2, 200, 30, 10, 40},      /* reading, also in pieces */
-    {0, 2, 8, 1, 150, 2, 0, 4, 1, 20, 100, 40, 10},     /* playing and seeking */
-    {1, 6, 6, 2, 10, 60, 20, 120, 30, 20, 60, 60, 4},   /* coming and going */
+    {1, 12, 20, 2, 50, 16, 4, 50, 8, 60, 160, 120, 20, 30}, /* a bit of all */
+    {0, 8, 8, 1, 30, 4, 1, 10, 1, 10, 200, 40, 4, 30},      /* pressing buttons, so that results pile up */
+    {0, 8, 6, 1, 20, 4, 0, 10, 2, 10, 100, 140, 10, 10},    /* handing out what falls due */
+    {0, 6, 4, 1, 20, 4, 1, 4, 2, 200, 30, 10, 40, 10},      /* reading, also in pieces */
+    {0, 2, 8, 1, 150, 2, 0, 4, 1, 20, 100, 40, 10, 30},     /* playing and seeking */
+    {1, 6, 6, 2, 10, 60, 20, 120, 30, 20, 60, 60, 4, 10},   /* coming and going */
 };
-static const uint32_t EVEN[CARD_LOAD] = {1, 1, 1, 1, 1, 1, 1, 1, 1, 1, 1, 1, 1};
+static const uint32_t EVEN[CARD_LOAD] = {1, 1, 1, 1, 1, 1, 1, 1, 1, 1, 1, 1, 1, 1};
 
 static mood mood_of(const uint32_t *weight, uint32_t wrong)
 {
@@ -133,6 +134,37 @@ static void draw_read(dice *d, const run *r, uint32_t wrong, step *s)
     }
 }
 
+/* Mostly one of the three Gotos; or another opcode, none, or what would be one of the three if its upper octets were dropped. */
+static uint32_t some_goto(dice *d)
+{
+    if (!one_in(d, 8)) {
+        return ONE_OF(d, MCS_OPCODE_GOTO_SEGMENT, MCS_OPCODE_GOTO_TRACK, MCS_OPCODE_GOTO_GROUP);
+    }
+    return one_in(d, 2) ? OPCODE[below(d, OPCODES)]
+                        : ONE_OF(d, 0, 0x06, 0x14, 0x25, 0x35, 0x45, 0x7F, 0xFF, 0x124, 0x134, 0x144, 0x10024u, 0x10034u, 0x10044u,
+                                 0x80000024u, 0x80000034u, 0x80000044u, 0xFFFFFFFFu, any_word(d));
+}
+
+static void draw_goto(dice *d, const run *r, step *s)
+{
+    const ref_player *p = player_of(r, s->service);
+    uint32_t far;
+    s->what = some_goto(d);
+    if (has_track(r, p) && track_word(&r->lent, p->track, DURATION) == MCS_RUNNING && one_in(d, 2)) {
+        s->what = MCS_OPCODE_GOTO_SEGMENT; /* of few tracks the segments end */
+    }
+    far = reach(r, p, (uint8_t)s->what);
+    s->number = some_number(d, far);
+    if (one_in(d, 32)) {
+        s->number = below(d, MOST_GOTO_STEPS); /* often round what it runs over */
+        s->number = one_in(d, 2) ? s->number : 0u - s->number;
+    }
+    s->allowed = some_allowance(d, amount_of(s->number), far);
+    if (takes_long(r, s)) {
+        s->allowed = below(d, one_in(d, 16) ? MOST_GOTO_STEPS : 100);
+    }
+}
+
 /* ---- Calls */
 
 #define ONE_TWICE_IN 4u
@@ -145,7 +177,7 @@ void blank_step(dice *d, uint32_t kind, step *s)
     s->null = (uint8_t)(bits >> 1 & 1u);
     s->twice = (bits >> 2) % ONE_TWICE_IN == 0;
     s->fill = (uint8_t)(bits >> 8);
-    s->who = s->service = s->what = s->number = s->length = 0;
+    s->who = s->service = s->what = s->number = s->allowed = s->length = 0;
     memset(s->room, 0, sizeof s->room);
     memset(s->players, 0, sizeof s->players);
 }
@@ -206,6 +238,9 @@ void draw_this_call(dice *d, const run *r, uint32_t kind, uint32_t wrong, step *
         break;
     case TAKE:
         s->room[0] = some_room(d, wrong);
+        break;
+    case MANUAL_GOTO:
+        draw_goto(d, r, s);
         break;
     default:
         break;

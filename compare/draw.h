@@ -17,7 +17,7 @@ mood even_mood(uint32_t wrong);
 /* The next stretch of a history: one has many writes, another many takes. */
 mood random_mood(dice *d, uint32_t wrong);
 
-/* One of the thirteen calls on a state. */
+/* One of the fourteen calls on a state. */
 void draw_call(dice *d, const run *r, const mood *m, step *s);
 void draw_this_call(dice *d, const run *r, uint32_t kind, uint32_t wrong, step *s);
 

@@ -26,6 +26,8 @@ static const struct {
     {offsetof(call, count), NO_LENGTH, sizeof(size_t), 1, "the count of an object's entries"},
     {offsetof(call, served), NO_LENGTH, 4, SERVED_WORDS, "what a take served"},
     {offsetof(call, part), NO_LENGTH, 4, MCS_PART_WORDS, "where a title stands"},
+    {offsetof(call, made), NO_LENGTH, 4, MCS_GOTO_MADE_WORDS, "what a manual Goto made"},
+    {offsetof(call, place), NO_LENGTH, 4, MCS_GOTO_PLACE_WORDS, "where a manual Goto leads"},
     {offsetof(call, counts), NO_LENGTH, 4, 4, "the counts of a card load"},
     {offsetof(call, block), NO_LENGTH, 4, 1, "the block of a card load"},
     {offsetof(call, line), NO_LENGTH, 4, 1, "the line of a cue sheet"},
@@ -88,9 +90,16 @@ struct mcs_place filled_place(uint8_t fill)
     return place;
 }
 
-uint32_t filled_part(uint8_t fill, uint32_t word) { return 0xC3000000u + 256u * word + fill; }
+uint32_t filled_told(uint8_t fill, uint32_t word) { return 0xC3000000u + 256u * word + fill; }
 
 uint32_t filled_word(uint8_t fill, uint32_t at) { return (fill + at) * 0x9E3779B1u; }
+
+static void fill_told(const step *s, uint32_t *words, uint32_t count)
+{
+    for (uint32_t k = 0; k < count; k++) {
+        words[k] = filled_told(s->fill, k);
+    }
+}
 
 static void fill_answer(const step *s, answer *a)
 {
@@ -100,9 +109,9 @@ static void fill_answer(const step *s, answer *a)
     for (uint32_t k = 0; k < SERVED_WORDS; k++) {
         a->served[k] = a->length + 1u;
     }
-    for (uint32_t k = 0; k < MCS_PART_WORDS; k++) {
-        a->part[k] = filled_part(s->fill, k);
-    }
+    fill_told(s, a->part, MCS_PART_WORDS);
+    fill_told(s, a->made, MCS_GOTO_MADE_WORDS);
+    fill_told(s, a->place, MCS_GOTO_PLACE_WORDS);
     a->counts[0] = a->counts[1] = a->counts[2] = a->counts[3] = a->length + 2u;
     a->line = a->length + 3u;
     a->block = a->length + 4u;
@@ -175,6 +184,7 @@ void lend_plainly(run *r, const step *s, call *c)
     c->service = s->service;
     c->what = s->what;
     c->number = s->number;
+    c->allowed = s->allowed;
     lend_texts(s, c);
     fill_answer(s, a);
     if (has_catalogue(s->kind)) {
@@ -193,6 +203,8 @@ void lend_plainly(run *r, const step *s, call *c)
     c->word = s->kind == READ || s->kind == CUE_SHEET || fills_room(s->kind) ? &a->length : NULL;
     c->served = s->kind == TAKE ? a->served : NULL;
     c->part = s->kind == TITLE ? a->part : NULL;
+    c->made = s->kind == MANUAL_GOTO ? a->made : NULL;
+    c->place = s->kind == MANUAL_GOTO ? a->place : NULL;
     if (s->kind == CARD_LOAD) {
         lend_card(r, s, c);
     } else if (s->kind == CUE_SHEET || reads_object(s->kind)) {

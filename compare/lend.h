@@ -14,6 +14,8 @@ enum {
     COUNT,
     SERVED,
     TITLE_PART,
+    GOTO_MADE,
+    GOTO_PLACE,
     COUNTS,
     BLOCK,
     LINE,
@@ -61,7 +63,8 @@ uint32_t filled_word(uint8_t fill, uint32_t at);
  * written. */
 struct mcs_place filled_place(uint8_t fill);
 
-/* The same of the words of a part: none of them is any text, offset or length of a title. */
-uint32_t filled_part(uint8_t fill, uint32_t word);
+/* The same of the words of a part, of which none is any text, offset or length of a title, and of those of a manual Goto, of which
+ * none is any outcome, number of steps that are made here, group, track, position or rest. */
+uint32_t filled_told(uint8_t fill, uint32_t word);
 
 #endif

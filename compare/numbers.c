@@ -207,8 +207,7 @@ static uint32_t should_name(const tables *t, const step *s, const standing *was,
     return used || ends_elsewhere(was, is) ? 0 : was->next;
 }
 
-/* The result of a control write, the last of its writer's. */
-static int last_result(const uint8_t *account)
+uint32_t last_result(const uint8_t *account)
 {
     return account[MCS_IN_RESULTS + 2u * (word_at(account + MCS_IN_WAITING) - 1u) + 1u];
 }

@@ -35,6 +35,9 @@ int slot_bit(const uint8_t state[MCS_STATE_OCTETS], uint32_t service, uint32_t c
 /* Whether a client has read a characteristic of a service at 0 since connecting, and it has not changed since. */
 int read_mark(const uint8_t state[MCS_STATE_OCTETS], uint32_t service, uint32_t client, uint32_t characteristic);
 
+/* The result of a control write, the last of those that wait for its writer; of that one's account with a service, its octets. */
+uint32_t last_result(const uint8_t *account);
+
 /* What is wrong with a call on a state, with the states before and after it, in words; a null pointer where nothing is. */
 const char *wrong_number(const tables *t, const step *s, const answer *a, const uint8_t before[MCS_STATE_OCTETS],
                          const uint8_t after[MCS_STATE_OCTETS]);

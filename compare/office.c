@@ -1,11 +1,14 @@
-/* The office's day, the player's cases, those of the two services and those of the office's titles: a framed script of calls.
+/* The office's day, the player's cases, those of the two services, those of the office's titles and those of the manual's Goto: a
+ * framed script of calls.
  *
  * A frame: catalogue, call, client, service, octet, number (four octets, little endian), room, text length (two octets), text.
  * The calls are 0 a note, 1 to 12 those of document 01 from start to take, 13 damage to the state, 14 other titles for all later
- * calls, 15 the title call. A start has the generic player's mask as its number and that one's Content Control ID as its octet; its
- * text is the length of that one's name in an octet, the name, and of the named player mask (four octets), Content Control ID (an
- * octet) and name. Other titles have 1 as their octet where nothing is renamed, as the script begins; or 0, and then their number is
- * that of the words of the entries, and their text these words, little endian, and the office's text behind them. */
+ * calls, 15 the title call, 16 the manual's Goto. A start has the generic player's mask as its number and that one's Content Control
+ * ID as its octet; its text is the length of that one's name in an octet, the name, and of the named player mask (four octets),
+ * Content Control ID (an octet) and name. Other titles have 1 as their octet where nothing is renamed, as the script begins; or 0, and
+ * then their number is that of the words of the entries, and their text these words, little endian, and the office's text behind them.
+ * A manual's Goto has its own number as the frame's; its text is two words, little endian, the steps that are allowed and the opcode,
+ * and what is missing of them is 0. */
 #include "office.h"
 #include "lend.h"
 #include "service.h"
@@ -13,7 +16,7 @@
 
 #include <string.h>
 
-enum { NOTE = 0, FIRST_CALL = 1, DAMAGE = 13, OTHER_TITLES = 14, TITLE_CALL = 15 };
+enum { NOTE = 0, FIRST_CALL = 1, DAMAGE = 13, OTHER_TITLES = 14, TITLE_CALL = 15, GOTO_CALL = 16 };
 enum { SAMPLE, LONG_TITLES, OWN_PARENT, CUT_GROUPS, CLOSE_SEGMENTS, RUNNING, BAD_TITLES, BAD_AND_WRONG, FOLDERS, MANY, CATALOGUES };
 
 #define GESPRAECH                                                                                                          \
@@ -92,7 +95,16 @@ static void make_catalogues(void)
     wrong->groups[MCS_GROUP_WORDS * 3 + PARENT] = 3;
 }
 
-/* ---- A line; where the rest of a player is not 0, it follows the position, with a + before it */
+/* ---- A line */
+
+/* Where a rest is not 0, it follows the position, with a + before it. */
+static void write_stand(FILE *out, uint32_t group, uint32_t track, uint32_t position, uint32_t rest)
+{
+    fprintf(out, " %u %u %u", (unsigned)group, (unsigned)track, (unsigned)position);
+    if (rest != 0) {
+        fprintf(out, "+%u", (unsigned)rest);
+    }
+}
 
 static void write_slots(FILE *out, uint32_t word)
 {
@@ -112,11 +124,8 @@ static void write_service(FILE *out, const ref_service *s, const ref_link *links
     } else {
         fprintf(out, " | %u", (unsigned)p->media);
     }
-    fprintf(out, " %u %d %d | %u %u %u", (unsigned)p->order, p->speed, p->seeking, (unsigned)p->group, (unsigned)p->track,
-            (unsigned)p->position);
-    if (p->rest != 0) {
-        fprintf(out, "+%u", (unsigned)p->rest);
-    }
+    fprintf(out, " %u %d %d |", (unsigned)p->order, p->speed, p->seeking);
+    write_stand(out, p->group, p->track, p->position, p->rest);
     fprintf(out, p->next == 0 ? " -" : " %u", (unsigned)p->next - 1u);
     for (uint32_t k = 0; k < REF_CLIENTS; k++) {
         const ref_account *a = &s->accounts[k];
@@ -140,6 +149,13 @@ static void write_part(FILE *out, const tables *t, const uint32_t part[MCS_PART_
     for (uint32_t k = 0; k < part[PART_LENGTH] && (uint64_t)part[PART_OFFSET] + k < t->length[table]; k++) {
         fprintf(out, " %02x", (unsigned)table_entry(t, table, part[PART_OFFSET] + k));
     }
+}
+
+/* What a manual Goto tells. */
+static void write_goto(FILE *out, const answer *a)
+{
+    fprintf(out, "goto %u %u at", (unsigned)a->made[MADE_OUTCOME], (unsigned)a->made[MADE_STEPS]);
+    write_stand(out, a->place[PLACE_GROUP], a->place[PLACE_TRACK], a->place[PLACE_POSITION], a->place[PLACE_REST]);
 }
 
 /* A word that the call wrote: what it carries. */
@@ -174,6 +190,8 @@ static void write_line(FILE *out, const step *s, const run *r)
         length = a->served[SERVED_LENGTH];
     } else if (s->kind == TITLE) {
         write_part(out, &r->lent, a->part);
+    } else if (s->kind == MANUAL_GOTO) {
+        write_goto(out, a);
     } else {
         fprintf(out, "done");
     }
@@ -247,6 +265,14 @@ static int start_step(step *s)
     return 1;
 }
 
+/* The steps and the opcode of a manual Goto, out of the frame's text; behind that the step's octets are 0. */
+static void goto_step(step *s)
+{
+    s->kind = MANUAL_GOTO;
+    s->allowed = word_at(s->octets);
+    s->what = word_at(s->octets + 4);
+}
+
 /* The titles that the frames of the script lend, and the longest text that such a frame may have: 64 words and 1,024 octets. */
 enum { MOST_WORDS = 64, MOST_OFFICE = 1024, MOST_OF_TITLES = 4 * MOST_WORDS + MOST_OFFICE };
 
@@ -295,7 +321,7 @@ static void lend_script(run *r, const tables *of_frame, const script_titles *tit
 static int take_text(FILE *script, const uint8_t head[12], step *s)
 {
     return s->length <= sizeof s->octets && fread(s->octets, 1, s->length, script) == s->length && head[0] < CATALOGUES &&
-           head[1] <= TITLE_CALL && (head[1] != FIRST_CALL + START || start_step(s));
+           head[1] <= GOTO_CALL && (head[1] != FIRST_CALL + START || start_step(s));
 }
 
 unsigned long play_office(FILE *script, FILE *lines, FILE *complaints, run *r)
@@ -331,6 +357,8 @@ unsigned long play_office(FILE *script, FILE *lines, FILE *complaints, run *r)
         }
         if (head[1] == DAMAGE) {
             damage_step(&s);
+        } else if (head[1] == GOTO_CALL) {
+            goto_step(&s);
         } else {
             s.kind = (uint8_t)(head[1] == TITLE_CALL ? TITLE : head[1] - FIRST_CALL + START);
         }

@@ -1,4 +1,5 @@
-/* The office's day, the player's cases and those of the services and of titles: a script of calls, played on both programs. */
+/* The office's day, the player's cases and those of the services, of titles and of the manual's Goto: a script of calls, played on
+ * both programs. */
 #ifndef OFFICE_H
 #define OFFICE_H
 

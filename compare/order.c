@@ -49,18 +49,26 @@ uint32_t track_after(const tables *t, uint32_t group, uint32_t track, uint32_t o
     return to < 0 ? NO_TRACK : list[to];
 }
 
-/* "Group moves run over the groups of the same parent that have tracks, group 0 left out; for group 0 over itself alone. No repeat;
- * Goto as above, 0 keeps the group." Their opcodes follow each other as those of track moves do. */
-uint32_t group_after(const tables *t, uint32_t group, uint8_t opcode, int64_t n)
+/* "Group moves run over the groups of the same parent that have tracks, group 0 left out; for group 0 over itself alone." */
+uint32_t groups_beside(const tables *t, uint32_t group, uint32_t list[MCS_MOST_GROUPS])
 {
-    uint32_t list[MCS_MOST_GROUPS], length = 0, place = 0;
-    int64_t to;
+    uint32_t length = 0;
     for (uint32_t g = 0; g < group_count(t); g++) {
         int beside = g > 0 && group > 0 && group_word(t, g, PARENT) == group_word(t, group, PARENT);
         if (g == group || (beside && group_word(t, g, TRACK_COUNT) > 0)) {
-            place = g == group ? length : place;
             list[length++] = g;
         }
+    }
+    return length;
+}
+
+/* "No repeat; Goto as above, 0 keeps the group." Their opcodes follow each other as those of track moves do. */
+uint32_t group_after(const tables *t, uint32_t group, uint8_t opcode, int64_t n)
+{
+    uint32_t list[MCS_MOST_GROUPS], length = groups_beside(t, group, list), place = 0;
+    int64_t to;
+    while (place < length && list[place] != group) {
+        place++;
     }
     to = place_after((uint8_t)(opcode - MCS_OPCODE_PREVIOUS_GROUP + MCS_OPCODE_PREVIOUS_TRACK), n, place, length, 0);
     return to < 0 ? NO_GROUP : list[to];

@@ -17,6 +17,9 @@ int64_t place_after(uint8_t opcode, int64_t n, int64_t place, int64_t length, in
 /* The track that a track move leads to from a track of a group, or NO_TRACK where it cannot be made. */
 uint32_t track_after(const tables *t, uint32_t group, uint32_t track, uint32_t order, uint8_t opcode, int64_t n);
 
+/* The groups that the moves from a group with tracks run over, by number; how many they are. */
+uint32_t groups_beside(const tables *t, uint32_t group, uint32_t list[MCS_MOST_GROUPS]);
+
 /* The group that a group move leads to from a group with tracks, or NO_GROUP where it cannot be made. */
 uint32_t group_after(const tables *t, uint32_t group, uint8_t opcode, int64_t n);
 

@@ -119,6 +119,10 @@ static void print_answer(FILE *out, const char *program, const step *s, const an
     } else if (s->kind == TITLE && a->number == 0) {
         fprintf(out, ", %s, at %u of %u octets", a->part[PART_TEXT] == MCS_OFFICE_TEXT ? "the office's text" : "the card's text",
                 (unsigned)a->part[PART_OFFSET], (unsigned)a->part[PART_LENGTH]);
+    } else if (s->kind == MANUAL_GOTO && a->number == 0) {
+        fprintf(out, ", %s, steps %u, group %u, track %u, position %u, rest %u", mcs_outcome_words(a->made[MADE_OUTCOME]),
+                (unsigned)a->made[MADE_STEPS], (unsigned)a->place[PLACE_GROUP], (unsigned)a->place[PLACE_TRACK],
+                (unsigned)a->place[PLACE_POSITION], (unsigned)a->place[PLACE_REST]);
     } else if (s->kind == CARD_LOAD && a->number != 0) {
         fprintf(out, ", block %u", (unsigned)a->block);
     } else if (s->kind == CARD_LOAD) {

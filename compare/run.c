@@ -5,6 +5,7 @@
 #include "entries.h"
 #include "guard.h"
 #include "lend.h"
+#include "manual.h"
 #include "numbers.h"
 #include "octets.h"
 #include "places.h"
@@ -97,8 +98,8 @@ static int wrong_octets_are_refused(run *r, const step *s)
     return plain_truths(octets) || differs(r, "a yes or no that is neither 1 nor 0 is not refused with 201 in its turn");
 }
 
-/* What both did to the services, in which order they served, and what they did with the numbers of objects, with titles and with the
- * clock is what it has to be. */
+/* What both did to the services, in which order they served, and what they did with the numbers of objects, with titles, with the
+ * clock and with the steps of a manual Goto is what it has to be. */
 static int services_are_right(run *r, const step *s)
 {
     const answer *a = &r->library_said;
@@ -112,6 +113,7 @@ static int services_are_right(run *r, const step *s)
     wrong = wrong == NULL ? wrong_number(&r->lent, s, a, octets, r->octets) : wrong;
     wrong = wrong == NULL ? wrong_title(&r->lent, s, a, octets, r->octets) : wrong;
     wrong = wrong == NULL && a->number == 0 ? wrong_clock(&r->lent, s, octets, r->octets) : wrong;
+    wrong = wrong == NULL ? wrong_manual(&r->lent, s, a, octets, r->octets) : wrong;
     return wrong == NULL || differs(r, wrong);
 }
 

@@ -17,6 +17,7 @@ typedef struct {
     size_t count;          /* of an object that is read */
     uint32_t served[SERVED_WORDS]; /* of a take */
     uint32_t part[MCS_PART_WORDS]; /* of a title call */
+    uint32_t made[MCS_GOTO_MADE_WORDS], place[MCS_GOTO_PLACE_WORDS]; /* of a manual Goto */
     uint32_t counts[4];    /* of a card load */
     uint32_t block;        /* of a card load */
     uint32_t line;         /* of a cue sheet */

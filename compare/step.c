@@ -4,6 +4,7 @@
 #define WHAT(words, plainest) {words, offsetof(step, what), plainest}
 #define NUMBER(words, plainest) {words, offsetof(step, number), plainest}
 #define SERVICE {"service", offsetof(step, service), 0}
+#define ALLOWED {"allowed", offsetof(step, allowed), 0}
 #define ROOM(words, k, plainest) {words, offsetof(step, room) + (k) * sizeof(uint32_t), plainest}
 #define PLAYER(words, service, part, plainest)                                                                             \
     {words, offsetof(step, players) + (service) * sizeof(step_player) + offsetof(step_player, part), plainest}
@@ -23,6 +24,7 @@ const step_number STEP_NUMBERS[KINDS][MOST_NUMBERS] = {
     [WRITE] = {WHO("client"), SERVICE, WHAT("characteristic", 0)},
     [TAKE] = {ROOM("room", 0, MCS_OUTPUT_OCTETS)},
     [TITLE] = {SERVICE},
+    [MANUAL_GOTO] = {SERVICE, WHAT("opcode", MCS_OPCODE_GOTO_TRACK), NUMBER("number", 0), ALLOWED},
     [CARD_LOAD] = {ROOM("room of groups", 0, 0), ROOM("of tracks", 1, 0), ROOM("of segments", 2, 0), ROOM("of text", 3, 0)},
     [CUE_SHEET] = {ROOM("room", 0, 0)},
     [CARD_WRITE] = {ROOM("room", 0, 0)},

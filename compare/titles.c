@@ -92,7 +92,7 @@ static const char *wrong_part(const tables *t, const step *s, const answer *a, c
     part shown;
     if (a->number != 0) {
         for (uint32_t k = 0; k < MCS_PART_WORDS; k++) {
-            if (a->part[k] != filled_part(s->fill, k)) {
+            if (a->part[k] != filled_told(s->fill, k)) {
                 return "both write a part of a title call that they refuse";
             }
         }

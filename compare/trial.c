@@ -1,5 +1,6 @@
 #include "catalogue.h"
 #include "guard.h"
+#include "manual.h"
 #include "play.h"
 
 #include <string.h>
@@ -9,6 +10,9 @@ int replay_trial(trial *t, run *r)
     wind_the_watch();
     begin_run(r, &t->catalogue);
     for (uint32_t k = 0; k < t->count; k++) {
+        if (takes_long(r, &t->steps[k])) {
+            return 1; /* none that was drawn does, but with a step or an argument less one may */
+        }
         if (!do_step(r, &t->steps[k])) {
             t->count = k + 1u;
             return 0;

@@ -25,6 +25,8 @@ static const struct {
     {"the entries of the office's titles", START, RENAMES, 0, MCS_BAD_RENAMES},
     {"the entries of the office's titles", TAKE, RENAMES, 0, MCS_BAD_RENAMES},
     {"the entries of the office's titles", TITLE, RENAMES, 0, MCS_BAD_RENAMES},
+    {"groups", MANUAL_GOTO, GROUPS, 0, MCS_BAD_CATALOGUE},
+    {"the entries of the office's titles", MANUAL_GOTO, RENAMES, 0, MCS_BAD_RENAMES},
     {"the generic player's name", START, NAMES + MCS_GENERIC, 0, MCS_BAD_NAME},
     {"the named player's name", START, NAMES + MCS_NAMED, 0, MCS_BAD_NAME},
     {"a name", SET_NAME, OCTETS, 0, MCS_BAD_NAME},
@@ -57,7 +59,8 @@ static tables sample, loaded;
 static card made, written;
 static uint8_t octets[MCS_STATE_OCTETS], out[MCS_OUTPUT_OCTETS], line_of_0[17];
 static ref_state state;
-static uint32_t word, served[SERVED_WORDS], part[MCS_PART_WORDS], counts[4], block, line, track, octet, entries[MCS_GROUP_ENTRY_WORDS];
+static uint32_t word, served[SERVED_WORDS], part[MCS_PART_WORDS], goto_made[MCS_GOTO_MADE_WORDS], goto_place[MCS_GOTO_PLACE_WORDS];
+static uint32_t counts[4], block, line, track, octet, entries[MCS_GROUP_ENTRY_WORDS];
 static size_t count;
 
 /* The length of a value that is written. */
@@ -85,6 +88,8 @@ static call right_call(uint32_t kind, uint32_t what)
     c.count = &count;
     c.served = served;
     c.part = part;
+    c.made = goto_made;
+    c.place = goto_place;
     c.counts = counts;
     c.block = &block;
     c.line = &line;

@@ -22,6 +22,8 @@
 #define upper_sets_speed(t, ...) upper_sets_speed(HERE(t), __VA_ARGS__)
 #define upper_plays_half(t) upper_plays_half(HERE(t))
 #define upper_confirms(t, ...) upper_confirms(HERE(t), __VA_ARGS__)
+#define upper_asks_manual(t, ...) upper_asks_manual(HERE(t), __VA_ARGS__)
+#define expect_as_manual(t, ...) expect_as_manual(HERE(t), __VA_ARGS__)
 #define lower_subscribes(t, ...) lower_subscribes(HERE(t), __VA_ARGS__)
 #define lower_unsubscribes(t, ...) lower_unsubscribes(HERE(t), __VA_ARGS__)
 #define lower_drops_bearer(t) lower_drops_bearer(HERE(t))

@@ -26,6 +26,7 @@ unsigned show_wrong_things(struct tester *t, unsigned *seen)
     static const char *const cut_inside_a_character[] = {"Wei\xC3", NULL, NULL, NULL};
     struct group_object group;
     struct segments_object segments;
+    struct mcs_goto said;
     unsigned shown = 0;
 
 #define WRONG(what)                                                                                                            \
@@ -59,6 +60,7 @@ unsigned show_wrong_things(struct tester *t, unsigned *seen)
     third_connects_unencrypted(t);
     WRONG(third_connects_unencrypted(t));
     WRONG(upper_lends(t, cut_inside_a_character));
+    WRONG((void)upper_asks_manual(t, MCS_OPCODE_GOTO_TRACK, 1));
     upper_lends(t, NULL);
     WRONG(upper_orders(t, beyond_the_end));
     WRONG(upper_orders(t, in_another_group));
@@ -215,6 +217,21 @@ unsigned show_wrong_things(struct tester *t, unsigned *seen)
     WRONG(expect_repositioned(t, 700, 1500));
     begin(t);
     WRONG(expect_time_passing(t, 700, 25, 25));
+
+    /* A Goto whose result, steps, group, track, position or rest is not what the manual's says */
+    begin(t);
+    said = upper_asks_manual(t, MCS_OPCODE_GOTO_TRACK, 2);
+    lower_controls(t, MCS_OPCODE_GOTO_TRACK, 2);
+    for (int word = 0; word < 6; word++) {
+        struct mcs_goto other = said;
+        other.outcome = word == 0 ? MCS_RESULT_NOT_COMPLETED : said.outcome;
+        other.steps += word == 1 ? 1u : 0;
+        other.group += word == 2 ? 1u : 0;
+        other.track += word == 3 ? 1u : 0;
+        other.position += word == 4 ? 1u : 0;
+        other.rest += word == 5 ? 1u : 0;
+        WRONG(expect_as_manual(t, 2, other));
+    }
 
     /* At half speed: a player that is paused is given no half of a hundredth; one that plays gets 12 and a half on in 25 by the
      * clock, which is not 13, and in twice 25 it gets 25 on, which is not twice 12. */

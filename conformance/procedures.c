@@ -166,10 +166,13 @@ static void ccid_has_not_changed(struct tester *t)
 
 /* ---- 4.8 Service Procedure Error Handling --------------------------------------------------------------------------------- */
 
-/* 4.8.1: an opcode that is reserved or not in the mask, with the octets behind it that are given: the result, and no more */
+/* 4.8.1: an opcode that is reserved or not in the mask, with the octets behind it that are given: the result, and no more. The
+ * manual's Goto does not know it either. */
 static void not_supported(struct tester *t, const uint8_t *octets, size_t length)
 {
+    const struct mcs_goto said = upper_asks_manual(t, octets[0], 1);
     lower_commands(t, MCS_CONTROL_POINT, octets, length);
+    expect_as_manual(t, 1, said);
     expect_result(t, octets[0], MCS_RESULT_NOT_SUPPORTED);
     expect_silence(t);
 }

@@ -341,6 +341,55 @@ void upper_confirms(struct tester *t, struct setting setting)
            (unsigned)setting.state);
 }
 
+/* The state before a call that the core may refuse, or that alters nothing. */
+static void keep_state(struct tester *t) { memcpy(t->before, t->desk.state, sizeof t->before); }
+static bool unaltered(const struct tester *t) { return memcmp(t->before, t->desk.state, sizeof t->before) == 0; }
+
+static uint32_t amount(int64_t number) { return (uint32_t)(number < 0 ? -number : number); }
+
+struct mcs_goto upper_asks_manual(struct tester *t, uint8_t opcode, int64_t number)
+{
+    struct mcs_goto said = {0, 0, 0, 0, 0, 0};
+    uint32_t answer;
+    keep_state(t);
+    answer = mcs_desk_goto(&t->desk, TESTED(t), opcode, (int32_t)number, amount(number), &said);
+    require(t, answer == MCS_OK, "the manual's Goto: %s", meaning(answer));
+    require(t, unaltered(t), "the manual's Goto altered the state");
+    return said;
+}
+
+/* W-213: "the steps made, First or Last counted, and that is |n| when all were made"; "Results 2 and 3 come first, count 0. Where a
+ * step cannot be made it stops there, the count includes that step", which First and Last never are. */
+static bool right_count(int64_t number, struct mcs_goto said)
+{
+    switch (said.outcome) {
+    case MCS_RESULT_SUCCESS:
+        return said.steps == amount(number);
+    case MCS_RESULT_NOT_COMPLETED:
+        return said.steps > 1u && said.steps <= amount(number);
+    default:
+        return said.steps == 0;
+    }
+}
+
+void expect_as_manual(struct tester *t, int64_t number, struct mcs_goto said)
+{
+    const uint8_t *player = t->desk.state + MCS_AT_SERVICE(TESTED(t));
+    for (size_t k = 0; k < t->received; k++) {
+        if (t->inbox[k].characteristic == MCS_CONTROL_POINT) {
+            expect(t, t->inbox[k].octets[1] == said.outcome, "the result is %u, and that of the manual's Goto %u",
+                   (unsigned)t->inbox[k].octets[1], (unsigned)said.outcome);
+        }
+    }
+    expect(t, right_count(number, said), "the manual's Goto counts %u steps of %lld, with the outcome %u", (unsigned)said.steps,
+           (long long)number, (unsigned)said.outcome);
+    expect(t,
+           word_at(player + MCS_IN_GROUP) == said.group && word_at(player + MCS_IN_TRACK) == said.track &&
+               word_at(player + MCS_IN_POSITION) == said.position && rest_of(t, TESTED(t)) == said.rest,
+           "the player is not where the manual's Goto says: group %u, track %u, at %u, with a rest of %u", (unsigned)said.group,
+           (unsigned)said.track, (unsigned)said.position, (unsigned)said.rest);
+}
+
 /* ---- The Lower Tester ---------------------------------------------------------------------------------------------------- */
 
 static void each_cccd(struct tester *t, uint32_t cccds, const char *what,
@@ -477,10 +526,6 @@ void lower_writes_object(struct tester *t, uint32_t characteristic, long long ob
     lower_writes(t, characteristic, octets, sizeof octets);
 }
 
-/* The state before a call that the core may refuse. */
-static void keep_state(struct tester *t) { memcpy(t->before, t->desk.state, sizeof t->before); }
-static bool unaltered(const struct tester *t) { return memcmp(t->before, t->desk.state, sizeof t->before) == 0; }
-
 void lower_commands(struct tester *t, uint32_t characteristic, const uint8_t *octets, size_t length)
 {
     uint32_t number;
@@ -494,9 +539,17 @@ void lower_commands(struct tester *t, uint32_t characteristic, const uint8_t *oc
 
 void lower_controls(struct tester *t, uint8_t opcode, int64_t number)
 {
+    const bool is_goto = carries_number(opcode) && opcode != MCS_OPCODE_MOVE_RELATIVE;
+    struct mcs_goto said = {0, 0, 0, 0, 0, 0};
     uint8_t octets[5];
     uint32_t length = control_value(octets, opcode, number);
+    if (is_goto) {
+        said = upper_asks_manual(t, opcode, number);
+    }
     lower_commands(t, MCS_CONTROL_POINT, octets, length);
+    if (is_goto) {
+        expect_as_manual(t, number, said);
+    }
 }
 
 void lower_commands_position(struct tester *t, int64_t position)

@@ -161,6 +161,11 @@ void upper_plays_half(struct tester *t);
 /* Group, track, position, order and state, as the octets of the state have them, beside what the Lower Tester reads. */
 void upper_confirms(struct tester *t, struct setting setting);
 
+/* What the manual's Goto says where all steps are allowed (document 02, W-213). And what it was asked for was since then written to
+ * the Media Control Point, with the result that it said, where one is notified, and the place; its count fits the number. */
+struct mcs_goto upper_asks_manual(struct tester *t, uint8_t opcode, int64_t number);
+void expect_as_manual(struct tester *t, int64_t number, struct mcs_goto said);
+
 /* ---- The Lower Tester ---------------------------------------------------------------------------------------------------- */
 
 /* A set of characteristics, whose Client Characteristic Configuration descriptors (CCCD) are written with 0x0001. */
@@ -195,7 +200,8 @@ void lower_writes_object(struct tester *t, uint32_t characteristic, long long ob
 /* GATT Write Without Response: nothing is answered, so the core's number is dropped, and the case goes on by what is notified and
  * read. To the host the number still says that all is well or that the client erred; and if it erred, nothing is altered. */
 void lower_commands(struct tester *t, uint32_t characteristic, const uint8_t *octets, size_t length);
-/* The same of the Media Control Point; the number is not sent with an opcode that has none. */
+/* The same of the Media Control Point; the number is not sent with an opcode that has none. A Goto comes to what the manual's said
+ * before. */
 void lower_controls(struct tester *t, uint8_t opcode, int64_t number);
 void lower_commands_position(struct tester *t, int64_t position);
 

@@ -24,7 +24,7 @@ static page pages[MCS_CLIENTS][MCS_SERVICES];
 typedef struct {
     uint32_t all, wrong;
 } tally;
-static tally calls, takes, agreements, places, titles, folders, nexts;
+static tally calls, takes, agreements, places, titles, folders, nexts, gotos;
 
 static int count(tally *t, int right)
 {
@@ -105,6 +105,7 @@ int book_agreement(int agrees) { return count(&agreements, agrees); }
 int book_title(int right) { return count(&titles, right); }
 int book_folder(int right) { return count(&folders, right); }
 int book_next(int right) { return count(&nexts, right); }
+int book_goto(int right) { return count(&gotos, right); }
 
 /* ---- Where the tapes are */
 
@@ -225,6 +226,8 @@ int print_books(void)
                           "each the office's where it lent one for the track, else the card's; what was cut was refused");
     others += print_tally("folders drawn", &folders, "each with the folders and tracks that the catalogue has in it");
     others += print_tally("times Next Track", &nexts, "each led to the track that the next one's object number said, or nowhere");
+    others += print_tally("Gotos taught by single steps", &gotos,
+                          "each with as many steps as the manual's Goto counts, and the player's own led where both say");
     printf("%u presses, %u results: ", pressed, results);
     if (wrong > 0) {
         printf("%u WENT WRONG\n", wrong);

@@ -52,10 +52,12 @@ tape_place tape_booked(uint32_t service);
 int book_place(int right);
 
 /* A folder that a device draws, and whether it is the catalogue's. A press of Next Track, and whether it led to the track whose
- * object number the player had as that of the next one, once where it was named, or stayed where it had none. Each hands back what
- * it was told. */
+ * object number the player had as that of the next one, once where it was named, or stayed where it had none. A Goto that is taught
+ * by single steps, and whether these and the manual's Goto came to the same, moved nothing, and with all steps allowed came to what
+ * the player's own Goto did. Each hands back what it was told. */
 int book_folder(int right);
 int book_next(int right);
+int book_goto(int right);
 
 /* A call to one player, and whether it left the other alone and made the title owed where it changed it, and nowhere else. A value
  * that a device knows, and whether its player has that value. A title that a device is told or reads, or that the desk is asked
@@ -68,7 +70,7 @@ int book_title(int right);
 /* Prints the books. Whether every result went to the device that pressed, at its player, in the order of its presses, and none is
  * missing; every take was in turn; every call left the other player alone, and made the title owed rightly; every device agreed
  * with its players; every tape was where it had to be; every title was that of its track; every folder was the catalogue's; and
- * every Next Track led where it should. */
+ * every Next Track and every Goto that was taught led where it should. */
 int print_books(void);
 
 #endif

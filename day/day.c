@@ -1,11 +1,13 @@
 /* An office's day on a card: four devices on one desk with two players, the generic one and a named one, over the same tables.
  * The pedals are at the generic player, the screen at the named one, and the headset at both. A person sees each result go to
  * the device that asked, a press at one player leave the other alone, the screen draw the folders and name a track in them, a tape
- * that goes slower than it was recorded, and the titles that the typists' office gives to tracks beside the card's.
+ * that goes slower than it was recorded, the titles that the typists' office gives to tracks beside the card's, and what Goto does
+ * step by step.
  *
  *     day [CARD]      the card's file; without one, the sample card
  *
- * Exit status 0, or 1 where the card is refused, or where the books say that something went wrong (books.h).
+ * Exit status 0, or 1 where the card is refused, or where the books say that something went wrong (books.h), or 2 where the file
+ * cannot be read.
  */
 #define _POSIX_C_SOURCE 200809L /* isatty */
 
@@ -14,9 +16,9 @@
 #include <unistd.h>
 
 #include "books.h"
-#include "file.h"
 #include "folders.h"
 #include "lines.h"
+#include "load.h"
 #include "office.h"
 #include "refused_card.h"
 #include "tables.h"
@@ -252,6 +254,23 @@ static void own_titles(uint32_t group)
     let_pass(NAMED, 100);
 }
 
+static void training(uint32_t group)
+{
+    print_heading("Half past eleven: a trainer teaches Goto by single steps; the player agrees, and uses no track that is named");
+    set_object(SCREEN, NAMED, MCS_NEXT_TRACK_OBJECT, tracks_in(MCS_OBJECT_OF_GROUP(group)).last);
+    teach_goto(HEADSET, NAMED, MCS_OPCODE_GOTO_SEGMENT, -2, 2);
+    teach_goto(HEADSET, NAMED, MCS_OPCODE_GOTO_TRACK, 5, 5);
+    tell_all();
+
+    print_heading("Where a step cannot be made, as at the end of an order that does not repeat, or is not allowed, nothing moves");
+    set_order(HEADSET, NAMED, 3);
+    teach_goto(HEADSET, NAMED, MCS_OPCODE_GOTO_TRACK, 5, 5);
+    teach_goto(HEADSET, NAMED, MCS_OPCODE_GOTO_GROUP, 3, 3);
+    teach_goto(HEADSET, NAMED, MCS_OPCODE_GOTO_TRACK, -3, 2);
+    set_order(HEADSET, NAMED, 4);
+    tell_all();
+}
+
 static void noon(void)
 {
     static const uint8_t MANY[8] = {
@@ -351,27 +370,18 @@ static int groups_with_tracks(const struct mcs_catalogue *c, uint32_t groups, ui
 
 int main(int count, char **words)
 {
-    static uint8_t card[MCS_CARD_OCTETS + 1u];
-    static tables loaded;
     const char *path = count > 1 ? words[1] : SAMPLE_CARD;
-    struct mcs_room room = whole_room(&loaded);
     struct mcs_catalogue c;
     struct mcs_place place;
-    uint32_t number, block = 0, groups, first = 0, last = 0, empty;
-    size_t len;
+    uint32_t number, groups, first = 0, last = 0, empty;
+    int status;
 
     if (isatty(STDOUT_FILENO) && getenv("NO_COLOR") == NULL) {
         use_colours();
     }
-    if (!read_file(path, card, sizeof card, &len)) {
-        fprintf(stderr, "day: cannot read %s\n", path);
-        return 1;
-    }
-    number = mcs_catalogue_load(card, len, &room, &c, &block);
-    if (number != MCS_OK) {
-        fprintf(stderr, "day: ");
-        print_refusal(stderr, path, number, card, block);
-        return 1;
+    status = load_card("day", path, &c);
+    if (status != 0) {
+        return status;
     }
     number = open_office(&c, &place);
     if (number != MCS_OK) {
@@ -394,6 +404,7 @@ int main(int count, char **words)
     hard_passage();
     headset_and_screen();
     own_titles(first);
+    training(first);
     noon();
     afternoon();
     evening();

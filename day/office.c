@@ -1,11 +1,12 @@
 #include "office.h"
 
 #include <stdio.h>
-#include <stdlib.h>
 #include <string.h>
 
 #include "books.h"
 #include "lines.h"
+#include "must.h"
+#include "steps.h"
 #include "tables.h"
 #include "titles.h"
 #include "values.h"
@@ -121,16 +122,6 @@ static void print_if_wrong(int right, const char *wrong)
 
 /* ---- Calls */
 
-/* What no card can have refused: the day ends where it is. */
-static void must(uint32_t number, const char *what)
-{
-    if (number != MCS_OK) {
-        fflush(stdout);
-        fprintf(stderr, "day: %s was refused, %u: %s\n", what, number, mcs_refusal_words(number));
-        exit(1);
-    }
-}
-
 static uint8_t before[MCS_STATE_OCTETS];
 static void keep_state(void) { memcpy(before, desk.state, sizeof before); }
 
@@ -213,13 +204,7 @@ static tape_place place_now(uint32_t service)
     return now;
 }
 
-static void print_place(tape_place place)
-{
-    print_time(place.position);
-    if (place.rest != 0) {
-        printf("+%u", place.rest);
-    }
-}
+static void print_place(tape_place place) { print_position(place.position, place.rest); }
 
 /* Something else than the clock has set the position, to where the player has it. Document 02, W-211: "The rest becomes 0 whenever
  * anything but a clock step in Playing within a track sets the position." */
@@ -349,6 +334,7 @@ void introduce(void)
            "'#3 Play: Success' is the result of that device's own third press at that player.\n"
            "draw: what the device shows of the objects that it asked for; tracks are numbered from 0x1000 on, groups from 0x2000.\n"
            "lend: a title of the office's own for a track, beside the card's, of which no device is told.\n"
+           "teach: a Goto by single steps, each made on a copy of the desk. manual: what the manual's Goto says of it.\n"
            "time: what passes by the clock on the wall; at speed p a tape goes 2 to the power p/64 as far, at -64 half as far.\n"
            "'0:15.02+32768' is where a tape is: its position, and the rest behind it in 65,536ths of a hundredth of a second.\n"
            "The takes go round the devices, and within a device on from its last, through generic and then named.\n");
@@ -580,16 +566,13 @@ static void compare_next(uint32_t who, uint32_t service, uint64_t left, uint64_t
     }
 }
 
-/* Whether the result of a press that was accepted is Success, also where the device has not asked for results: a copy of the desk as
- * it was before is asked, in which no other result of the device waits. */
+/* Whether the result of a press that was accepted is Success, also where the device has not asked for results: it is asked of a copy
+ * of the desk as it was before. */
 static int succeeds(uint32_t who, uint32_t service, const uint8_t *value, size_t len)
 {
     struct mcs_desk asked = desk;
     memcpy(asked.state, before, sizeof before);
-    must(mcs_desk_unsubscribe(&asked, who, service, MCS_CONTROL_POINT), "unsubscribe");
-    must(mcs_desk_subscribe(&asked, who, service, MCS_CONTROL_POINT), "subscribe");
-    must(mcs_desk_write(&asked, who, service, MCS_CONTROL_POINT, value, len), "press");
-    return asked.state[account_at(who, service) - desk.state + MCS_IN_RESULTS + 1] == MCS_RESULT_SUCCESS;
+    return result_of(&asked, who, service, value, len) == MCS_RESULT_SUCCESS;
 }
 
 /* Whether a press that was accepted sets the position, be it to where it was. */
@@ -738,6 +721,60 @@ void read_long(uint32_t who, uint32_t service, uint32_t characteristic)
         length = read_part(who, service, characteristic, offset);
         offset += length;
     } while (length != 0 && length != NOT_READ);
+}
+
+/* ---- Goto by single steps */
+
+static void show_step(const single_step *step)
+{
+    char label[16];
+    snprintf(label, sizeof label, "step %u", step->number);
+    begin_desk_line(label, step->of->service);
+    print_opcode(step_opcode(step->of, step->number));
+    if (step->outcome == MCS_RESULT_SUCCESS) {
+        printf(": ");
+        print_stand(&desk.catalogue, &step->to);
+    } else {
+        printf(" %s", why_not_made(step->outcome));
+    }
+    end_line();
+}
+
+/* Asks the manual's Goto, and shows what it says. */
+static struct mcs_goto ask_manual(const taught_goto *taught, uint32_t allowed)
+{
+    struct mcs_goto told = by_the_manual(&desk, taught, allowed);
+    begin_desk_line("manual", taught->service);
+    printf("%u allowed: ", allowed);
+    print_told(&desk.catalogue, &told);
+    end_line();
+    return told;
+}
+
+void teach_goto(uint32_t who, uint32_t service, uint8_t opcode, int32_t number, uint32_t allowed)
+{
+    const taught_goto taught = {who, service, opcode, number};
+    struct mcs_goto walked, manual, whole, player, pressed;
+    int right;
+
+    begin_desk_line("teach", service);
+    print_opcode(opcode);
+    printf(" %d by single steps", number);
+    end_line();
+    keep_state();
+    walked = by_single_steps(&desk, &taught, allowed, show_step);
+    manual = ask_manual(&taught, allowed);
+    whole = manual.outcome == MCS_RAN_OUT ? ask_manual(&taught, steps_of(number)) : manual;
+    right = memcmp(before, desk.state, sizeof before) == 0 && same_steps(&walked, &manual);
+    player = by_the_player(&desk, &taught);
+    press_with(who, service, opcode, number);
+    pressed = stand_of(&desk, service);
+    pressed.outcome = player.outcome;
+    if (!book_goto(right && same_end(&whole, &player) && same_end(&player, &pressed))) {
+        begin_desk_line("WRONG", service);
+        printf("the single steps, the manual's Goto and the player do not agree, or what was shown moved the player");
+        end_line();
+    }
 }
 
 /* ---- Takes */

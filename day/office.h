@@ -43,6 +43,9 @@ void set_speed(uint32_t who, uint32_t service, int8_t speed);
 void set_position(uint32_t who, uint32_t service, int32_t position);
 void set_object(uint32_t who, uint32_t service, uint32_t characteristic, uint64_t object);
 
+/* A device's Goto is taught by single steps, of which so many are allowed; then it is pressed. */
+void teach_goto(uint32_t who, uint32_t service, uint8_t opcode, int32_t number, uint32_t allowed);
+
 /* Part of a value from an offset on. How many octets came; NOT_READ where it was refused. */
 #define NOT_READ 0xFFFFFFFFu
 uint32_t read_part(uint32_t who, uint32_t service, uint32_t characteristic, uint32_t offset);

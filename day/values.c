@@ -66,9 +66,15 @@ void print_text(const uint8_t *text, size_t len)
     }
 }
 
-void print_time(uint32_t hundredths)
+int print_time(uint32_t hundredths)
 {
-    printf("%u:%02u.%02u", hundredths / 6000u, hundredths / 100u % 60u, hundredths % 100u);
+    return printf("%u:%02u.%02u", hundredths / 6000u, hundredths / 100u % 60u, hundredths % 100u);
+}
+
+int print_position(uint32_t position, uint32_t rest)
+{
+    int characters = print_time(position);
+    return rest == 0 ? characters : characters + printf("+%u", rest);
 }
 
 void print_value(uint32_t characteristic, const uint8_t *octets, size_t len)

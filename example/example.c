@@ -1,6 +1,6 @@
 /* The smallest use of the library: one group, one track, one pedal that presses Play on the generic player and is told so, while
- * the named player, over the same track, stays as it is; the group as the object that a screen draws; a title of the office's own; and
- * slow playback.
+ * the named player, over the same track, stays as it is; the group as the object that a screen draws; a title of the office's own;
+ * slow playback; and what a Goto would do, by single steps.
  * It includes mcs_desk.h and nothing else, and is C as well as C++; its exit status is 0, or the number of the first step that did
  * not give what documents 01 and 02 say. */
 #include "mcs_desk.h"
@@ -33,6 +33,7 @@ int main(void)
     const struct mcs_titles renamed = {renames, MCS_RENAME_WORDS, office, sizeof office};
     struct mcs_served served;
     struct mcs_title title;
+    struct mcs_goto shown;
     uint32_t length, number;
 
     /* At first the office renames nothing. */
@@ -135,5 +136,22 @@ int main(void)
         return 31;
     if (length != 4 || out[0] != 301 - 256 || out[1] != 1)
         return 32;
+
+    /* Whoever teaches Goto asks what Goto Track 2 would do: First leads to the only track, and Next cannot be made. That is the second
+     * step, and nothing moves. With one step allowed, it does not come so far. */
+    if (mcs_desk_goto(&desk, MCS_GENERIC, MCS_OPCODE_GOTO_TRACK, 2, 10, &shown) != MCS_OK)
+        return 33;
+    if (shown.outcome != MCS_RESULT_NOT_COMPLETED || shown.steps != 2 || shown.track != 0 || shown.position != 301)
+        return 34;
+    if (mcs_desk_goto(&desk, MCS_GENERIC, MCS_OPCODE_GOTO_TRACK, 2, 1, &shown) != MCS_OK || shown.outcome != MCS_RAN_OUT ||
+        shown.steps != 1 || shown.position != 301)
+        return 35;
+    /* Goto Track 1 would begin the track anew; the player itself stays where it is. */
+    if (mcs_desk_goto(&desk, MCS_GENERIC, MCS_OPCODE_GOTO_TRACK, 1, 1, &shown) != MCS_OK ||
+        shown.outcome != MCS_RESULT_SUCCESS || shown.steps != 1 || shown.track != 0 || shown.position != 0 || shown.rest != 0)
+        return 36;
+    if (mcs_desk_read(&desk, pedal, MCS_GENERIC, MCS_POSITION, 0, out, sizeof out, &length) != MCS_OK || length != 4 ||
+        out[0] != 301 - 256 || out[1] != 1)
+        return 37;
     return 0;
 }

@@ -1,5 +1,6 @@
 #include "calls.h"
 #include "ref.h"
+#include "words.h"
 
 const char *const CALL_NAME[CALLS] = {
     [START] = "start",
@@ -15,6 +16,7 @@ const char *const CALL_NAME[CALLS] = {
     [WRITE] = "write",
     [TAKE] = "take",
     [TITLE] = "title",
+    [MANUAL_GOTO] = "manual Goto",
     [CARD_LOAD] = "card load",
     [CUE_SHEET] = "cue sheet",
     [CARD_WRITE] = "card write",

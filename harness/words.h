@@ -26,11 +26,12 @@ static inline void put_half_word(uint8_t *octets, uint32_t number)
 }
 
 /* Two's complement. */
-static inline int64_t signed_word(const uint8_t *octets)
+static inline int32_t signed_of(uint32_t word)
 {
-    uint32_t word = word_at(octets);
-    return word < 0x80000000u ? (int64_t)word : (int64_t)word - 0x100000000;
+    return (int32_t)(word < 0x80000000u ? (int64_t)word : (int64_t)word - 0x100000000);
 }
+
+static inline int64_t signed_word(const uint8_t *octets) { return signed_of(word_at(octets)); }
 
 static inline int8_t signed_octet(uint8_t octet) { return (int8_t)(octet < 128 ? octet : octet - 256); }
 

@@ -1,19 +1,21 @@
-/* The Media Control Service core of a desk player: twenty calls, proved (crates/mcs), for C and C++ on x86-64 and aarch64.
+/* The Media Control Service core of a desk player: twenty-one calls, proved (crates/mcs), for C and C++ on x86-64 and aarch64.
  *
  * Every call takes all octets, numbers, tables and states there are, checks them itself, and ends. It returns 0, or the number of
  * the first refusal that applies, in the order of the list below. A refusal alters nothing: state, tables, card, output, length,
- * served, part, counts, blocks, starts, words, positions and count hold what they held. The six of the list from MCS_BAD_CHECK to
- * MCS_BAD_PADDING carry a block of the card, MCS_BAD_LINE and MCS_NOT_RISING a line of the cue sheet, MCS_BAD_CATALOGUE for a title
- * that is not UTF-8 a track and an octet, MCS_BAD_NAME an octet: each writes what it carries to the words that are lent for it. Every
- * other refusal, and every call that is accepted, leaves block, line, track and octet as they were.
+ * served, part, made, place, counts, blocks, starts, words, positions and count hold what they held. The six of the list from
+ * MCS_BAD_CHECK to MCS_BAD_PADDING carry a block of the card, MCS_BAD_LINE and MCS_NOT_RISING a line of the cue sheet,
+ * MCS_BAD_CATALOGUE for a title that is not UTF-8 a track and an octet, MCS_BAD_NAME an octet: each writes what it carries to the
+ * words that are lent for it. Every other refusal, and every call that is accepted, leaves block, line, track and octet as they
+ * were.
  *
  * What is the caller's to see to, as for any function of C:
  * - a pointer with a length points to that many octets or words (a length of 0: it is not followed, and may be null);
  *   words are aligned as uint32_t is; state points to MCS_STATE_OCTETS octets, length, block, blocks, line, track, octet and the
- *   count of a cue sheet to 1 word each, part to 3, served and counts to 4, and the count of an object that is read to a size_t;
- * - what a call writes (state, output, length, served, part, track, octet, the tables, counts and block of a card load, the card and
- *   blocks of a card write, starts, count and line of a cue sheet, and words, positions and count of an object that is read)
- *   overlaps nothing else lent to it;
+ *   count of a cue sheet to 1 word each, made to 2, part to 3, served, place and counts to 4, and the count of an object that is read
+ *   to a size_t;
+ * - what a call writes (state, output, length, served, part, made, place, track, octet, the tables, counts and block of a card load,
+ *   the card and blocks of a card write, starts, count and line of a cue sheet, and words, positions and count of an object that is
+ *   read) overlaps nothing else lent to it;
  * - no other thread touches what is lent while the call runs. The library keeps nothing of its own and calls no function
  *   but its own and memcpy, memset, memmove.
  */
@@ -28,11 +30,10 @@ extern "C" {
 #endif
 
 /* MCS_VERSION moves when a function of this file is added or changes its arguments, what they mean or the numbers that it returns: it
- * is 9 since mcs_advance is told the time that passes, whatever the playback speed, which it reckons itself. No function has other
- * arguments than in version 8.
+ * is 10 since mcs_manual_goto is added. Every other function is as it was in version 9.
  * MCS_STATE_LAYOUT moves when the octets of a state change their number, place or meaning. A state's first octet says it
  * (MCS_STATE_MARK), so a stored state of another layout is refused, and not misread. */
-#define MCS_VERSION 9u
+#define MCS_VERSION 10u
 #define MCS_STATE_LAYOUT 4u
 
 /* ---- Numbers that a call returns ------------------------------------------------------------------------------------------ */
@@ -156,6 +157,10 @@ extern "C" {
 #define MCS_CARD_TEXT 0u   /* the text of the catalogue */
 #define MCS_OFFICE_TEXT 1u /* the text of the office's titles */
 
+/* Words of what a manual Goto tells: what was made of it, and where the player would be. */
+#define MCS_GOTO_MADE_WORDS 2u  /* outcome, number of steps */
+#define MCS_GOTO_PLACE_WORDS 4u /* group, track, position in hundredths of a second, rest as at MCS_IN_REST */
+
 /* A duration is in hundredths of a second, at most MCS_MOST_DURATION; or MCS_RUNNING, which says that it is not yet known, since
  * the recording is still running. Its positions are then 0 to MCS_MOST_DURATION, the clock never ends the track and stays at the last
  * of them, a negative write of the position is accepted and moves nothing, and a Next Segment with no later start, or a Goto Segment
@@ -246,6 +251,9 @@ extern "C" {
 #define MCS_RESULT_NOT_SUPPORTED 2u  /* the opcode is unknown, or not in the mask */
 #define MCS_RESULT_INACTIVE 3u       /* there is no current track */
 #define MCS_RESULT_NOT_COMPLETED 4u  /* the move cannot be made */
+
+/* The outcome of a manual Goto is one of the four; or this, which no control point has: the steps that are allowed ran out. */
+#define MCS_RAN_OUT 0u
 
 /* Media State. */
 #define MCS_INACTIVE 0u
@@ -447,6 +455,26 @@ uint32_t mcs_take(MCS_CATALOGUE, MCS_OFFICE_TITLES, uint8_t state[MCS_STATE_OCTE
  * Refusals: 200, 224, 201, 219. */
 uint32_t mcs_title(MCS_CATALOGUE, MCS_OFFICE_TITLES, const uint8_t state[MCS_STATE_OCTETS], uint32_t service,
                    uint32_t part[MCS_PART_WORDS], MCS_PLACE);
+
+/* Manual Goto: what a Goto of the service's player would do, by the single steps that the manual teaches it by: First where number is
+ * above 0, Last where it is below, then Next or Previous as often as its amount says, less one. Each of them is really made, up to as
+ * many as are allowed, and the state is not altered. A named next track plays no part in them.
+ * made is the outcome and the number of steps, First or Last counted; place is where the player would be: group, track, position and
+ * rest. The outcome is the first of these that applies:
+ * - MCS_RESULT_NOT_SUPPORTED, no steps: opcode is none of MCS_OPCODE_GOTO_SEGMENT, MCS_OPCODE_GOTO_TRACK and MCS_OPCODE_GOTO_GROUP, or
+ *   is not in the mask;
+ * - MCS_RESULT_INACTIVE, no steps;
+ * - MCS_RAN_OUT, as many steps as are allowed: one more was still to be made;
+ * - MCS_RESULT_NOT_COMPLETED: a step cannot be made. It has to be allowed too, and is counted;
+ * - MCS_RESULT_SUCCESS, as many steps as the amount of number, and the place is the one that they lead to. Number 0 needs none, also
+ *   where none is allowed, and the place is the one that a Goto 0 leaves.
+ * By every outcome but the last the place is the one where the player is now, which has group, track and position 0 while Inactive.
+ * Where as many steps as the amount of number are allowed, outcome and place are the result that a write of opcode and number to
+ * MCS_CONTROL_POINT has, and what it leaves. The call takes the longer, the more steps it makes, of which there may be 2,147,483,648.
+ * Refusals: 200, 224, 201, 219. */
+uint32_t mcs_manual_goto(MCS_CATALOGUE, MCS_OFFICE_TITLES, const uint8_t state[MCS_STATE_OCTETS], uint32_t service, uint32_t opcode,
+                         int32_t number, uint32_t allowed, uint32_t made[MCS_GOTO_MADE_WORDS],
+                         uint32_t place[MCS_GOTO_PLACE_WORDS], MCS_PLACE);
 
 #ifdef __cplusplus
 }

@@ -58,6 +58,10 @@
  *   Track object is the recording itself. Both services share the catalogue, and so the objects, which are the same until the host
  *   lends another one. By these two calls MCS_NOT_ALLOWED says that there is no such object, which is the transfer service's to
  *   answer. mcs_group_entries and mcs_segment_positions are for a device that was handed an object and draws folders of it.
+ * - Whoever teaches Goto by single steps can be shown them: mcs_desk_goto makes First or Last and then each step, and says where that
+ *   leads and how many steps it took, or at which it had to stop. Nothing is altered by it, and nothing is owed to anyone. Where all
+ *   steps are allowed, it says what the control point would. A Goto may have 2,147,483,648 of them, which take seconds, so a host
+ *   allows as many as it has time for.
  */
 #ifndef MCS_DESK_H
 #define MCS_DESK_H
@@ -177,6 +181,11 @@ static inline int mcs_names_block(uint32_t number)
     ROW(MCS_RESULT_INACTIVE, "Media Player Inactive")                                                                          \
     ROW(MCS_RESULT_NOT_COMPLETED, "Command Cannot Be Completed")
 
+/* The outcomes of a manual Goto. */
+#define MCS_EACH_OUTCOME(ROW)                                                                                                  \
+    MCS_EACH_RESULT(ROW)                                                                                                       \
+    ROW(MCS_RAN_OUT, "the allowed steps ran out")
+
 #define MCS_EACH_MEDIA_STATE(ROW)                                                                                              \
     ROW(MCS_INACTIVE, "Inactive")                                                                                              \
     ROW(MCS_PLAYING, "Playing")                                                                                                \
@@ -210,6 +219,7 @@ MCS_WORDS(mcs_service_words, MCS_EACH_SERVICE, MCS_WORDS_OF)
 MCS_WORDS(mcs_characteristic_words, MCS_EACH_CHARACTERISTIC, MCS_WORDS_OF_THREE)
 MCS_WORDS(mcs_opcode_words, MCS_EACH_OPCODE, MCS_WORDS_OF_THREE)
 MCS_WORDS(mcs_result_words, MCS_EACH_RESULT, MCS_WORDS_OF)
+MCS_WORDS(mcs_outcome_words, MCS_EACH_OUTCOME, MCS_WORDS_OF)
 MCS_WORDS(mcs_media_state_words, MCS_EACH_MEDIA_STATE, MCS_WORDS_OF)
 MCS_WORDS(mcs_playing_order_words, MCS_EACH_PLAYING_ORDER, MCS_WORDS_OF)
 #undef MCS_WORDS
@@ -314,6 +324,12 @@ struct mcs_title {
     const uint8_t *octets;
     size_t length;
     uint32_t text;
+};
+
+/* What a manual Goto tells: its outcome, the steps that were made, and where the player would be: the position in hundredths of a
+ * second, and the rest, which is how far beyond it the clock is, in 65,536ths of a hundredth. */
+struct mcs_goto {
+    uint32_t outcome, steps, group, track, position, rest;
 };
 
 /* Tables that a card is loaded into, with their room in words, of the text in octets. */
@@ -503,6 +519,25 @@ static inline uint32_t mcs_desk_title(struct mcs_desk *desk, uint32_t service, s
     title->length = part[2];
     title->text = part[0];
     return number;
+}
+
+/* What a Goto of a service's player would do, by single steps, of which so many are allowed. Where the call is refused, what is told
+ * stays as it was. */
+static inline uint32_t mcs_desk_goto(struct mcs_desk *desk, uint32_t service, uint32_t opcode, int32_t number, uint32_t allowed,
+                                     struct mcs_goto *told)
+{
+    uint32_t made[MCS_GOTO_MADE_WORDS] = {0, 0}, place[MCS_GOTO_PLACE_WORDS] = {0, 0, 0, 0};
+    uint32_t refusal = mcs_manual_goto(MCS_LENT_BY(desk), desk->state, service, opcode, number, allowed, made, place,
+                                       MCS_CARRIED(&desk->place));
+    if (refusal == MCS_OK) {
+        told->outcome = made[0];
+        told->steps = made[1];
+        told->group = place[0];
+        told->track = place[1];
+        told->position = place[2];
+        told->rest = place[3];
+    }
+    return refusal;
 }
 
 /* The Group object of a group of the desk's catalogue, and the Track Segments object of one of its tracks. */

@@ -1,5 +1,5 @@
-/* The desk player core, written along document 01 and the requests of document 02 that have landed: W-201 to W-211, and W-212 for
- * the cue sheet. A comment in quotation marks is a sentence of document 01; where a request is named, and in the cue sheet's
+/* The desk player core, written along document 01 and the requests of document 02 that have landed: W-201 to W-211, W-212 for the
+ * cue sheet, and W-213. A comment in quotation marks is a sentence of document 01; where a request is named, and in the cue sheet's
  * part, it is one of document 02. */
 #include "ref.h"
 
@@ -1174,6 +1174,13 @@ static uint32_t mask_bit(uint8_t opcode)
     return 32u;
 }
 
+/* Whether result 2, "opcode unknown or not in the mask", does not apply. "Higher mask bits count as 0." */
+static int is_in_mask(const ref_player *p, uint8_t opcode)
+{
+    uint32_t bit = mask_bit(opcode);
+    return bit != 32u && ((p->mask & ALL_OPCODES) >> bit & 1u) != 0;
+}
+
 /* "0x10, 0x24, 0x34, 0x44 carry a signed 32-bit number." */
 static int carries_number(uint8_t opcode)
 {
@@ -1184,11 +1191,9 @@ static int carries_number(uint8_t opcode)
  * applies: 2, 3, 4, 1. After 2, 3, 4 the player is as before." */
 static uint8_t control(const catalogue *c, ref_player *p, uint8_t opcode, int64_t n)
 {
-    uint32_t bit = mask_bit(opcode);
     int made;
 
-    /* "Higher mask bits count as 0." */
-    if (bit == 32u || ((p->mask & ALL_OPCODES) >> bit & 1u) == 0) {
+    if (!is_in_mask(p, opcode)) {
         return 2;
     }
     if (p->media == REF_INACTIVE) {
@@ -1233,6 +1238,70 @@ static uint8_t control(const catalogue *c, ref_player *p, uint8_t opcode, int64_
         leave_seeking(p);
         break;
     }
+    return 1;
+}
+
+#define GOTO_SEGMENT 0x24u
+#define GOTO_TRACK 0x34u
+#define GOTO_GROUP 0x44u
+
+/* The moves that the single steps of a Goto are, or NULL for any other opcode. */
+typedef int (*single_move)(const catalogue *c, ref_player *p, int move, int64_t n);
+
+static single_move steps_of(uint32_t opcode)
+{
+    return opcode == GOTO_SEGMENT ? segment_move : opcode == GOTO_TRACK ? track_move : opcode == GOTO_GROUP ? group_move : NULL;
+}
+
+/* Goto 0, which makes no step. Of segments: "0: nothing moves". Of tracks: "0 keeps the track. Position becomes 0." Of groups: "0
+ * keeps the group. Then the group's first track, position 0." */
+static void goto_0(const catalogue *c, ref_player *p, uint32_t opcode)
+{
+    if (opcode == GOTO_TRACK) {
+        go_to_track(p, p->track);
+    } else if (opcode == GOTO_GROUP) {
+        enter_group(c, p, p->group);
+    }
+}
+
+/* W-213: "a second player of the three Gotos that really makes First or Last and then each step, up to a given number of steps". The
+ * answer: a result as `control` gives it, or REF_RAN_OUT; the player moves where all steps were made, and no other time. `count` is
+ * "the steps made, First or Last counted". The player is a copy, of which nothing is looked at but where it is. */
+static uint32_t manual_goto(const catalogue *c, ref_player *p, uint32_t opcode, int64_t n, uint32_t allowed, uint32_t *count)
+{
+    single_move step = steps_of(opcode);
+    uint32_t all = (uint32_t)(n > 0 ? n : -n);
+    int end = n > 0 ? FIRST : LAST, onward = n > 0 ? NEXT : PREVIOUS;
+    ref_player walker;
+
+    *count = 0;
+    /* W-213: "Results 2 and 3 come first, count 0." */
+    if (step == NULL || !is_in_mask(p, (uint8_t)opcode)) {
+        return 2;
+    }
+    if (p->media == REF_INACTIVE) {
+        return 3;
+    }
+    if (n == 0) {
+        goto_0(c, p, opcode);
+        return 1;
+    }
+    walker = *p;
+    /* W-209: a named track is for Next Track and the end of a track, "Goto's steps not". */
+    walker.next = 0;
+    while (*count < all) {
+        /* W-213: "If the allowed steps run out before the last step or such a stop, it says so, the count is the number allowed, and
+         * nothing moves." */
+        if (*count == allowed) {
+            return REF_RAN_OUT;
+        }
+        *count += 1u;
+        /* W-213: "Where a step cannot be made it stops there, the count includes that step, and result 4 stands." */
+        if (!step(c, &walker, *count == 1u ? end : onward, 0)) {
+            return 4;
+        }
+    }
+    *p = walker;
     return 1;
 }
 
@@ -2206,5 +2275,30 @@ uint32_t ref_title(REF_CATALOGUE, REF_TITLES, const ref_state *state, uint32_t s
         return refusal;
     }
     title_part(&c, &state->services[service].player, part);
+    return 0;
+}
+
+/* W-213: "The manual's Goto, beside ours." It is made by a copy of the service's player. */
+uint32_t ref_manual_goto(REF_CATALOGUE, REF_TITLES, const ref_state *state, uint32_t service, uint32_t opcode, int32_t number,
+                         uint32_t allowed, uint32_t made[2], uint32_t place[4], REF_PLACE)
+{
+    catalogue c;
+    ref_player p;
+    uint32_t refusal;
+
+    refusal = LEND_TITLES(c);
+    if (refusal != 0) {
+        return refusal;
+    }
+    refusal = service_rows(&c, state, service);
+    if (refusal != 0) {
+        return refusal;
+    }
+    p = state->services[service].player;
+    made[0] = manual_goto(&c, &p, opcode, number, allowed, &made[1]);
+    place[0] = p.group;
+    place[1] = p.track;
+    place[2] = p.position;
+    place[3] = p.rest;
     return 0;
 }

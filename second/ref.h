@@ -96,6 +96,9 @@ typedef struct {
 #define REF_CARD_TEXT 0u
 #define REF_OFFICE_TEXT 1u
 
+/* W-213: "If the allowed steps run out (...), it says so": what stands for that in the place of a result, which is 1 to 4. */
+#define REF_RAN_OUT 0u
+
 /* Where a text is wrong, last in every call that is lent the catalogue. W-207: "a bad title carries the lowest such track and the
  * offset": a 200 for a title that is not UTF-8 writes both. 207 writes the offset alone. Any other refusal, a 200 for another rule
  * among them, and every success leave both as they were. */
@@ -149,5 +152,10 @@ uint32_t ref_take(REF_CATALOGUE, REF_TITLES, ref_state *state, uint8_t *out, siz
  * inputs says which, or the refusal." part: which text, the offset in it, and the length, of the title of the service's current
  * track; three zeros while Inactive. A refusal leaves it as it was. */
 uint32_t ref_title(REF_CATALOGUE, REF_TITLES, const ref_state *state, uint32_t service, uint32_t part[3], REF_PLACE);
+/* W-213: "Build a second player of the three Gotos that really makes First or Last and then each step, up to a given number of
+ * steps." The opcode is any number. made: the result that the control point would give, or REF_RAN_OUT, and the steps made, First or
+ * Last counted. place: the group, track, position and rest where the player would then be. A refusal leaves both as they were. */
+uint32_t ref_manual_goto(REF_CATALOGUE, REF_TITLES, const ref_state *state, uint32_t service, uint32_t opcode, int32_t number,
+                         uint32_t allowed, uint32_t made[2], uint32_t place[4], REF_PLACE);
 
 #endif

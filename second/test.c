@@ -1,6 +1,6 @@
 /* Tests of the second program: cases whose answers were worked out by hand from the documents, then random calls, which are
- * made for the sanitizers, and whose 200, 207, 224, order of takes, titles, object numbers and clock are worked out a second time. That
- * it gives the library's answers is not tried here; the comparison does that.
+ * made for the sanitizers, and whose 200, 207, 224, order of takes, titles, object numbers, clock and manual's Goto are worked out a
+ * second time. That it gives the library's answers is not tried here; the comparison does that.
  *
  * Usage: test [histories [seed]]. A comment in quotation marks is a sentence of document 01; among the cue sheets, and where it
  * names a request, one of document 02. */
@@ -114,9 +114,9 @@ static void *exact(const void *from, size_t octets)
 }
 
 enum { START, SET_NAME, ACTIVATE, DEACTIVATE, ADVANCE, CONNECT, DISCONNECT, SUBSCRIBE, UNSUBSCRIBE, READ, WRITE, TAKE, SAY_TITLE,
-       CALLS };
+       MANUAL_GOTO, CALLS };
 
-static struct { uint8_t out[160]; uint32_t length, served[4], part[3]; } said;
+static struct { uint8_t out[160]; uint32_t length, served[4], part[3], made[2], spot[4]; } said;
 
 /* W-207: where the text is wrong. A 200 carries both or neither, 207 the offset alone; nothing else touches them. */
 static struct { uint32_t track, offset; } place;
@@ -138,7 +138,7 @@ static int leaves_others(int call, uint32_t client, const ref_state *before)
 {
     int of_client = call == CONNECT || call == DISCONNECT, of_take = call == TAKE, right = s.layout == before->layout;
     if (call == START) return 1;
-    if (call == SAY_TITLE) return memcmp(&s, before, sizeof s) == 0;
+    if (call == SAY_TITLE || call == MANUAL_GOTO) return memcmp(&s, before, sizeof s) == 0;
     if (of_take) client = said.served[0];
     right &= of_take || s.turn == before->turn;
     for (uint32_t j = 0; j < REF_CLIENTS; j++) {
@@ -154,6 +154,18 @@ static int leaves_others(int call, uint32_t client, const ref_state *before)
         }
     }
     return right;
+}
+
+static int64_t signed_number(uint32_t word) { return word < 0x80000000u ? (int64_t)word : (int64_t)word - 4294967296; }
+static uint32_t without_sign(int64_t n) { return (uint32_t)(n < 0 ? -n : n); }
+/* W-213: the steps that are counted fit the outcome, the number, and the steps that were allowed: "that is |n| when all were made",
+ * "the count is the number allowed", "the count includes that step", and "Results 2 and 3 come first, count 0." */
+static int count_fits(int64_t n, uint32_t allowed)
+{
+    uint32_t outcome = said.made[0], count = said.made[1], all = without_sign(n);
+    if (outcome == REF_RAN_OUT) return count == allowed && allowed < all;
+    if (outcome == 4) return count > 0 && count <= all && count <= allowed;
+    return outcome == 1 ? count == all && count <= allowed : outcome < 4 && count == 0;
 }
 
 /* Exact copies of what is lent, for one call. */
@@ -179,8 +191,9 @@ static void free_copies(copies t)
 /* What the calls on a state are lent. */
 #define LENT_ALL(t) LENT(t), t.renames, t.renames_len, t.office, t.office_len
 
-/* A call to `service`. `what` is a characteristic, the Content Control ID of a start, or whether a connect is encrypted; `number`
- * a mask, group, time, ATT_MTU or offset; the octets are a name or a value; `room` is that of the output. */
+/* A call to `service`. `what` is a characteristic, the Content Control ID of a start, whether a connect is encrypted, or an opcode;
+ * `number` a mask, group, time, ATT_MTU, offset, or the word of a manual's Goto, of which `client` is the steps allowed; the octets are
+ * a name or a value; `room` is that of the output. */
 static uint32_t makes(int call, uint32_t client, uint32_t what, uint32_t number, const void *octets, size_t len, size_t room)
 {
     copies t = copy_lent();
@@ -213,7 +226,11 @@ static uint32_t makes(int call, uint32_t client, uint32_t what, uint32_t number,
         break;
     case WRITE: refusal = ref_write(LENT_ALL(t), &s, client, service, what, in, len, PLACE); break;
     case TAKE: refusal = ref_take(LENT_ALL(t), &s, out, room, said.served, PLACE); answer = said.served[3]; break;
-    default: refusal = ref_title(LENT_ALL(t), &s, service, said.part, PLACE); break;
+    case SAY_TITLE: refusal = ref_title(LENT_ALL(t), &s, service, said.part, PLACE); break;
+    default:
+        refusal = ref_manual_goto(LENT_ALL(t), &s, service, what, (int32_t)signed_number(number), client, said.made, said.spot, PLACE);
+        if (refusal == 0) CHECK(count_fits(signed_number(number), client));
+        break;
     }
     memcpy(said.out, room == 0 ? said.out : out, room);
     /* "A refusal returns its number alone and alters nothing." */
@@ -286,6 +303,7 @@ static uint32_t subscribes(uint32_t client, uint32_t to) { return makes(SUBSCRIB
 static uint32_t unsubscribes(uint32_t client, uint32_t from) { return makes(UNSUBSCRIBE, client, from, 0, NULL, 0, 0); }
 static uint32_t reads(uint32_t client, uint32_t what, uint32_t offset) { return makes(READ, client, what, offset, NULL, 0, ROOM); }
 static uint32_t title(void) { return makes(SAY_TITLE, 0, 0, 0, NULL, 0, 0); }
+static uint32_t manual(uint32_t opcode, long n, uint32_t allowed) { return makes(MANUAL_GOTO, allowed, opcode, (uint32_t)n, NULL, 0, 0); }
 static uint32_t writes(uint32_t client, uint32_t what, uint8_t octet) { return makes(WRITE, client, what, 0, &octet, 1, 0); }
 
 static const uint8_t *numbered(int opcode, long n)
@@ -911,6 +929,7 @@ static void order_cases(void)
     static const struct { int call; uint32_t client, what, number, len, gives; } ROW[] = {
         {SET_NAME, 0, 0, 0, 129, 207}, {ACTIVATE, 0, 0, 0, 0, 208}, {ACTIVATE, 0, 0, 2, 0, 208}, {ACTIVATE, 0, 0, 4, 0, 208},
         {DEACTIVATE, 0, 0, 0, 0, 0}, {ADVANCE, 0, 0, 9, 0, 0}, {TAKE, 0, 0, 0, 0, 0}, {SAY_TITLE, 0, 0, 0, 0, 0},
+        {MANUAL_GOTO, 9, SEGMENT + GOTO, 3, 0, 0}, {MANUAL_GOTO, 0, TRACK + GOTO, 0, 0, 0}, {MANUAL_GOTO, 4, 0x124, 0x80000000u, 0, 0},
         {CONNECT, 4, 1, 22, 0, 202}, {CONNECT, 0, 1, 22, 0, 204}, {CONNECT, 2, 1, 22, 0, 206}, {CONNECT, 2, 1, 518, 0, 206},
         {DISCONNECT, 4, 0, 0, 0, 202}, {DISCONNECT, 2, 0, 0, 0, 203},
         {SUBSCRIBE, 4, 3, 0, 0, 202}, {SUBSCRIBE, 2, 3, 0, 0, 203}, {SUBSCRIBE, 1, 3, 0, 0, 0x01}, {SUBSCRIBE, 1, 16, 0, 0, 209},
@@ -1084,8 +1103,9 @@ static void number_cases(void)
         /* 201, then 219, then 207 and 208. */
         service = OVER[k]; EQUAL(set_name("\xFF"), 219); EQUAL(set_name("Desk"), 219); EQUAL(activate(2), 219);
         EQUAL(activate(1), 219);
-        EQUAL(deactivate(), 219); EQUAL(advance(1), 219); EQUAL(title(), 219); s.layout = 0; EQUAL(set_name("\xFF"), 201);
-        EQUAL(activate(2), 201); EQUAL(deactivate(), 201); EQUAL(advance(1), 201); EQUAL(title(), 201); s.layout = 0x84;
+        EQUAL(deactivate(), 219); EQUAL(advance(1), 219); EQUAL(title(), 219); EQUAL(manual(TRACK + GOTO, 2, 2), 219); s.layout = 0;
+        EQUAL(set_name("\xFF"), 201); EQUAL(activate(2), 201); EQUAL(deactivate(), 201); EQUAL(advance(1), 201); EQUAL(title(), 201);
+        EQUAL(manual(TRACK + GOTO, 2, 2), 201); s.layout = 0x84;
     }
     for (service = 0; service < 2; service++) { EQUAL(set_name("\xFF"), 207); EQUAL(activate(2), 208); }
 }
@@ -1124,6 +1144,7 @@ static void apart_cases(void)
         STAYS(subscribes(0, 8)); STAYS(subscribes(1, 18)); STAYS(set_name("Other")); STAYS(activate(1)); STAYS(writes(0, 8, 9));
         STAYS(writes(1, 15, 4)); STAYS(moves_to(0, 50)); STAYS(commands(1, PLAY, 0)); STAYS(advance(3)); STAYS(advance(6000));
         STAYS(reads(0, 7, 0)); STAYS(reads(1, 1, 0)); STAYS(reads(1, 1, 2)); STAYS(commands(1, TRACK + NEXT, 0)); STAYS(title());
+        STAYS(manual(SEGMENT + GOTO, 2, 2)); STAYS(manual(TRACK + GOTO, -2, 2)); STAYS(manual(GROUP + GOTO, 2, 2));
         STAYS(sets(0, 12, 0x1002)); STAYS(sets(1, 11, 0x1000)); STAYS(sets(0, 14, 0x2003)); STAYS(deactivate());
         OWES(0, 0); OWES(1, B18); STAYS(unsubscribes(1, 18)); STAYS(unsubscribes(0, 8)); STAYS(unsubscribes(0, 17));
         /* Another client's coming and going is nothing to it either. */
@@ -1546,6 +1567,7 @@ static void name_kept_cases(void)
     NAME_KEPT(writes(0, 8, 7)); NAME_KEPT(moves_to(0, 5) || moves_to(0, -1)); NAME_KEPT(sets(0, 12, 0x1002)); NAME_KEPT(sets(0, 11, 0x1000));
     PAUSES(1, 0, 0); NAME_KEPT(sets(0, 14, 0x2001)); PAUSES(1, 0, 0); NAME_KEPT(sets(0, 12, 0x1001) || sets(0, 12, 0x1002));
     EACH(1, 9) NAME_KEPT(writes(0, 15, (uint8_t)k));
+    NAME_KEPT(manual(TRACK + GOTO, 2, 2)); NAME_KEPT(manual(GROUP + GOTO, 2, 2)); NAME_KEPT(manual(TRACK + GOTO, 4, 4));
     NAME_KEPT(commands(0, FORWARD, 0) || sets(0, 11, 0x1000)); PLAYS(1, 0, 0);
     NAME_KEPT(commands(0, FORWARD, 0) || sets(0, 14, 0x2001)); PLAYS(1, 0, 0);
     /* Refusals, and commands that are refused as results. */
@@ -2330,6 +2352,7 @@ static void rest_cases(void)
         REST_STAYS(sets(0, 12, 0x1002)); REST_STAYS(writes(0, 15, 3)); REST_STAYS(writes(0, 15, 2)); REST_STAYS(writes(0, 15, 5));
         REST_STAYS(set_name("Other")); REST_STAYS(set_name("Desk")); REST_STAYS(connects(1, 64)); REST_STAYS(disconnects(0));
         REST_STAYS(reads(0, 7, 0) || subscribes(0, 7) || makes(TAKE, 0, 0, 0, NULL, 0, ROOM) || unsubscribes(0, 7) || title());
+        REST_STAYS(manual(SEGMENT + GOTO, 1, 1)); REST_STAYS(manual(TRACK + GOTO, 0, 0)); REST_STAYS(manual(GROUP + GOTO, -1, 1));
         /* Results 2 and 4, and refusals. */
         STAYS_BY(0x77, 0, 2); STAYS_BY(TRACK + PREVIOUS, 0, 4); STAYS_BY(TRACK + GOTO, 4, 4); STAYS_BY(TRACK + GOTO, -4, 4);
         STAYS_BY(GROUP + PREVIOUS, 0, 4); STAYS_BY(GROUP + GOTO, 3, 4); STAYS_BY(GROUP + GOTO, LEAST, 4);
@@ -2431,6 +2454,423 @@ static void hour_cases(void)
             EQUAL((uint64_t)PLAYER.position * 65536 + PLAYER.rest, time * factors[k]); CHECK(PLAYER.rest < 65536);
         }
         EQUAL(time, 360000); PLAYS(1, 0, 360000 * (uint64_t)factors[k] / 65536); free_copies(t);
+    }
+}
+
+/* ---- W-213: the manual's Goto */
+
+/* Where a player is. */
+typedef struct { uint32_t group, track, position, rest; } spot;
+static spot spot_of(const ref_player *p) { return (spot){p->group, p->track, p->position, p->rest}; }
+
+/* The call gave that, and was to say that outcome, so many steps, and that the player would be there. */
+static void says_at(int line, uint32_t gave, uint32_t outcome, uint32_t steps, spot at)
+{
+    equal_at(line, gave, 0, "the refusal"); equal_at(line, said.made[0], outcome, "the outcome");
+    equal_at(line, said.made[1], steps, "the steps");
+    equal_at(line, said.spot[0], at.group, "the group"); equal_at(line, said.spot[1], at.track, "the track");
+    equal_at(line, said.spot[2], at.position, "the position"); equal_at(line, said.spot[3], at.rest, "the rest");
+}
+#define AT(group, track, position, rest) ((spot){group, track, position, rest})
+#define SAYS(opcode, n, allowed, outcome, steps, at) says_at(__LINE__, manual(opcode, n, allowed), outcome, steps, at)
+
+/* What it says with so many steps allowed, and with any more. With fewer, "it says so, the count is the number allowed, and nothing
+ * moves". */
+static void whole_at(int line, uint32_t opcode, long n, uint32_t outcome, uint32_t steps, spot at)
+{
+    const uint32_t enough[4] = {steps, steps + 1, 0x80000000u, 0xFFFFFFFFu};
+    spot now = spot_of(&PLAYER);
+    EACH(0, steps < 6 ? steps : 6) says_at(line, manual(opcode, n, k), REF_RAN_OUT, k, now);
+    if (steps > 6) says_at(line, manual(opcode, n, steps - 1), REF_RAN_OUT, steps - 1, now);
+    EACH(0, 4) says_at(line, manual(opcode, n, enough[k]), outcome, steps, at);
+}
+/* All steps are made and lead there; or the step of that number cannot be made. */
+#define ARRIVES(opcode, n, group, track, position) whole_at(__LINE__, opcode, n, 1, without_sign(n), AT(group, track, position, 0))
+#define STOPS(opcode, n, steps) whole_at(__LINE__, opcode, n, 4, steps, spot_of(&PLAYER))
+/* No step is made, whatever is allowed, and nothing moves. */
+static void stays_at(int line, uint32_t opcode, long n, uint32_t outcome)
+{
+    static const uint32_t ALLOWED[3] = {0, 1, 1000};
+    EACH(0, 3) says_at(line, manual(opcode, n, ALLOWED[k]), outcome, 0, spot_of(&PLAYER));
+}
+#define MOVES_NOTHING(opcode, n, outcome) stays_at(__LINE__, opcode, n, outcome)
+/* Group 1 in that order, on that track, and so far past that position. */
+#define PAST_BY(order, track, position, rest_) do { stand(order, track, position); PLAYER.rest = (rest_); } while (0)
+
+enum { GOTO_SEGMENT = SEGMENT + GOTO, GOTO_TRACK = TRACK + GOTO, GOTO_GROUP = GROUP + GOTO };
+static const uint32_t GOTOS[3] = {GOTO_SEGMENT, GOTO_TRACK, GOTO_GROUP};
+static int is_goto(uint32_t opcode) { return opcode == GOTO_SEGMENT || opcode == GOTO_TRACK || opcode == GOTO_GROUP; }
+/* The commands that lead to each state, Seeking both ways. */
+static const int INTO[4] = {PAUSE, PLAY, FORWARD, REWIND};
+
+/* The sample's track 0 is of 6000 and has the starts 0, 1500 and 4000. */
+static void manual_segment_cases(void)
+{
+    uint32_t *starts = lent.words[SEGMENTS], *tracks = lent.words[TRACKS];
+    lend_sample();
+    EACH(0, 4) {
+        PAST_BY(3, 0, 77, 9); EQUAL(commands(0, INTO[k], 0), 0);
+        /* "0: nothing moves", whatever is allowed; the rest stays too. */
+        SAYS(GOTO_SEGMENT, 0, 0, 1, 0, AT(1, 0, 77, 9)); SAYS(GOTO_SEGMENT, 0, 1, 1, 0, AT(1, 0, 77, 9)); MOVES_NOTHING(GOTO_SEGMENT, 0, 1);
+        /* One less than 3, 3, one more, and none. */
+        SAYS(GOTO_SEGMENT, 3, 2, REF_RAN_OUT, 2, AT(1, 0, 77, 9)); SAYS(GOTO_SEGMENT, 3, 3, 1, 3, AT(1, 0, 4000, 0));
+        SAYS(GOTO_SEGMENT, 3, 4, 1, 3, AT(1, 0, 4000, 0)); SAYS(GOTO_SEGMENT, 3, 0, REF_RAN_OUT, 0, AT(1, 0, 77, 9));
+        ARRIVES(GOTO_SEGMENT, 1, 1, 0, 0); ARRIVES(GOTO_SEGMENT, 2, 1, 0, 1500); ARRIVES(GOTO_SEGMENT, 3, 1, 0, 4000);
+        ARRIVES(GOTO_SEGMENT, -1, 1, 0, 4000); ARRIVES(GOTO_SEGMENT, -2, 1, 0, 1500); ARRIVES(GOTO_SEGMENT, -3, 1, 0, 0);
+        /* Past the last start it is D, and from D Next stays there; before the first it is 0, and Previous stays there. */
+        ARRIVES(GOTO_SEGMENT, 4, 1, 0, 6000); ARRIVES(GOTO_SEGMENT, 5, 1, 0, 6000); ARRIVES(GOTO_SEGMENT, 1000, 1, 0, 6000);
+        ARRIVES(GOTO_SEGMENT, -4, 1, 0, 0); ARRIVES(GOTO_SEGMENT, -5, 1, 0, 0); ARRIVES(GOTO_SEGMENT, -1000, 1, 0, 0);
+        /* "Making |n| in signed 32 bits" is wrong. */
+        SAYS(GOTO_SEGMENT, MOST, 0, REF_RAN_OUT, 0, AT(1, 0, 77, 9)); SAYS(GOTO_SEGMENT, MOST, 1000, REF_RAN_OUT, 1000, AT(1, 0, 77, 9));
+        SAYS(GOTO_SEGMENT, LEAST, 0, REF_RAN_OUT, 0, AT(1, 0, 77, 9)); SAYS(GOTO_SEGMENT, LEAST, 1, REF_RAN_OUT, 1, AT(1, 0, 77, 9));
+        SAYS(GOTO_SEGMENT, LEAST, 1000, REF_RAN_OUT, 1000, AT(1, 0, 77, 9));
+    }
+    /* Where the position comes out as it is, the rest is 0 all the same: "anything but a clock step" sets it. */
+    PAST_BY(3, 0, 1500, 65535); ARRIVES(GOTO_SEGMENT, 2, 1, 0, 1500); ARRIVES(GOTO_SEGMENT, -2, 1, 0, 1500);
+    SAYS(GOTO_SEGMENT, 0, 0, 1, 0, AT(1, 0, 1500, 65535)); SAYS(GOTO_SEGMENT, 2, 1, REF_RAN_OUT, 1, AT(1, 0, 1500, 65535));
+    PAST_BY(3, 0, 0, 1); ARRIVES(GOTO_SEGMENT, 1, 1, 0, 0); ARRIVES(GOTO_SEGMENT, -3, 1, 0, 0); MOVES_NOTHING(GOTO_SEGMENT, 0, 1);
+    PAST_BY(3, 0, 6000, 1); ARRIVES(GOTO_SEGMENT, 4, 1, 0, 6000); ARRIVES(GOTO_SEGMENT, 3, 1, 0, 4000);
+    ARRIVES(GOTO_SEGMENT, -1, 1, 0, 4000);
+    /* Last comes first, so that a position less than 300 past a start is nothing to it; nor are starts less than 300 apart. */
+    PAST_BY(3, 0, 4299, 5); ARRIVES(GOTO_SEGMENT, -1, 1, 0, 4000); ARRIVES(GOTO_SEGMENT, -2, 1, 0, 1500); starts[1] = 3900;
+    ARRIVES(GOTO_SEGMENT, -2, 1, 0, 3900); ARRIVES(GOTO_SEGMENT, -3, 1, 0, 0); ARRIVES(GOTO_SEGMENT, -4, 1, 0, 0);
+    ARRIVES(GOTO_SEGMENT, 2, 1, 0, 3900); ARRIVES(GOTO_SEGMENT, 3, 1, 0, 4000); ARRIVES(GOTO_SEGMENT, 4, 1, 0, 6000);
+    /* "A track without segments is one segment from 0.": of 300, and of 0. */
+    lend_sample(); PAST_BY(3, 1, 200, 9); ARRIVES(GOTO_SEGMENT, 1, 1, 1, 0); ARRIVES(GOTO_SEGMENT, 2, 1, 1, 300);
+    ARRIVES(GOTO_SEGMENT, 3, 1, 1, 300); ARRIVES(GOTO_SEGMENT, 50, 1, 1, 300); ARRIVES(GOTO_SEGMENT, -1, 1, 1, 0);
+    ARRIVES(GOTO_SEGMENT, -2, 1, 1, 0); ARRIVES(GOTO_SEGMENT, -50, 1, 1, 0); MOVES_NOTHING(GOTO_SEGMENT, 0, 1);
+    PAST_BY(3, 2, 0, 9); ARRIVES(GOTO_SEGMENT, 1, 1, 2, 0); ARRIVES(GOTO_SEGMENT, 2, 1, 2, 0); ARRIVES(GOTO_SEGMENT, 50, 1, 2, 0);
+    ARRIVES(GOTO_SEGMENT, -1, 1, 2, 0); ARRIVES(GOTO_SEGMENT, -50, 1, 2, 0);
+    /* A thousand starts, 0 to 999. */
+    tracks[3] = 1000; lent.len[SEGMENTS] = 1000; tracks[8] = tracks[14] = tracks[20] = 1000; EACH(0, 1000) starts[k] = k;
+    PAST_BY(3, 0, 77, 9); ARRIVES(GOTO_SEGMENT, 500, 1, 0, 499); ARRIVES(GOTO_SEGMENT, 1000, 1, 0, 999);
+    ARRIVES(GOTO_SEGMENT, 1001, 1, 0, 6000); ARRIVES(GOTO_SEGMENT, -500, 1, 0, 500); ARRIVES(GOTO_SEGMENT, -1000, 1, 0, 0);
+    ARRIVES(GOTO_SEGMENT, -1001, 1, 0, 0);
+    tracks[0] = UNKNOWN; ARRIVES(GOTO_SEGMENT, 1000, 1, 0, 999); STOPS(GOTO_SEGMENT, 1001, 1001); STOPS(GOTO_SEGMENT, MOST, 1001);
+
+    /* W-202: "Next Segment with no later start, and a Goto that needs it, give result 4.": the fourth step, which needs its own allowance
+     * and is counted. Nothing moves; the rest stays. */
+    lend_sample(); tracks[0] = UNKNOWN; PAST_BY(3, 0, 77, 9); SAYS(GOTO_SEGMENT, 4, 3, REF_RAN_OUT, 3, AT(1, 0, 77, 9));
+    SAYS(GOTO_SEGMENT, 4, 4, 4, 4, AT(1, 0, 77, 9)); SAYS(GOTO_SEGMENT, 4, 5, 4, 4, AT(1, 0, 77, 9));
+    SAYS(GOTO_SEGMENT, 9, 3, REF_RAN_OUT, 3, AT(1, 0, 77, 9)); SAYS(GOTO_SEGMENT, 9, 4, 4, 4, AT(1, 0, 77, 9));
+    SAYS(GOTO_SEGMENT, 9, 9, 4, 4, AT(1, 0, 77, 9));
+    for (uint32_t position = 77; position <= END; position += END - 77) {
+        PAST_BY(3, 0, position, 9); MOVES_NOTHING(GOTO_SEGMENT, 0, 1); ARRIVES(GOTO_SEGMENT, 1, 1, 0, 0);
+        ARRIVES(GOTO_SEGMENT, 2, 1, 0, 1500); ARRIVES(GOTO_SEGMENT, 3, 1, 0, 4000); STOPS(GOTO_SEGMENT, 4, 4); STOPS(GOTO_SEGMENT, 5, 4);
+        STOPS(GOTO_SEGMENT, MOST, 4); ARRIVES(GOTO_SEGMENT, -1, 1, 0, 4000); ARRIVES(GOTO_SEGMENT, -3, 1, 0, 0);
+        ARRIVES(GOTO_SEGMENT, -4, 1, 0, 0); ARRIVES(GOTO_SEGMENT, -100, 1, 0, 0);
+        SAYS(GOTO_SEGMENT, LEAST, 100, REF_RAN_OUT, 100, AT(1, 0, position, 9));
+    }
+    /* Without segments there is one start, 0. */
+    tracks[6] = UNKNOWN; PAST_BY(3, 1, 9, 65535); ARRIVES(GOTO_SEGMENT, 1, 1, 1, 0); STOPS(GOTO_SEGMENT, 2, 2); STOPS(GOTO_SEGMENT, 3, 2);
+    STOPS(GOTO_SEGMENT, MOST, 2); ARRIVES(GOTO_SEGMENT, -1, 1, 1, 0); ARRIVES(GOTO_SEGMENT, -2, 1, 1, 0);
+    ARRIVES(GOTO_SEGMENT, -30, 1, 1, 0); MOVES_NOTHING(GOTO_SEGMENT, 0, 1);
+    /* A repeat order is for tracks. */
+    EQUAL(writes(0, 15, 4), 0); STOPS(GOTO_SEGMENT, 2, 2); ARRIVES(GOTO_SEGMENT, -2, 1, 1, 0);
+}
+
+/* Goto Track by 1 to 7 steps leads to those tracks, one for each step, from First and from Last; where they end, the next step cannot be
+ * made. It is asked on track 1. */
+static void orders_at(int line, uint8_t order, const char *from_first, const char *from_last)
+{
+    PAST_BY(order, 1, 55, 9);
+    for (long n = -7; n <= 7; n++) {
+        const char *to = n > 0 ? from_first : from_last;
+        uint32_t all = without_sign(n), most = (uint32_t)strlen(to);
+        if (n == 0) whole_at(line, GOTO_TRACK, n, 1, 0, AT(1, 1, 0, 0));
+        else if (all <= most) whole_at(line, GOTO_TRACK, n, 1, all, AT(1, (uint32_t)(to[all - 1] - '0'), 0, 0));
+        else whole_at(line, GOTO_TRACK, n, 4, most + 1, AT(1, 1, 55, 9));
+    }
+}
+#define ORDERS(order, from_first, from_last) orders_at(__LINE__, order, from_first, from_last)
+
+/* Group 1 has the tracks 0, 1 and 2, with the stamps 30, 10 and 10; group 3 has track 3 alone. */
+static void manual_track_cases(void)
+{
+    lend_sample();
+    /* "3, 4 by number; 5, 6 by rising stamp; 7, 8 by falling stamp"; "Odd is once, even repeats."; "1, 2 the current track alone" */
+    ORDERS(3, "012", "210"); ORDERS(4, "0120120", "2102102"); ORDERS(5, "120", "021"); ORDERS(6, "1201201", "0210210");
+    ORDERS(7, "012", "210"); ORDERS(8, "0120120", "2102102"); ORDERS(1, "1", "1"); ORDERS(2, "1111111", "1111111");
+    EACH(0, 4) {
+        PAST_BY(3, 1, 55, 9); EQUAL(commands(0, INTO[k], 0), 0);
+        /* "0 keeps the track. Position becomes 0.", whatever is allowed. */
+        SAYS(GOTO_TRACK, 0, 0, 1, 0, AT(1, 1, 0, 0)); SAYS(GOTO_TRACK, 0, 1, 1, 0, AT(1, 1, 0, 0));
+        SAYS(GOTO_TRACK, 1, 0, REF_RAN_OUT, 0, AT(1, 1, 55, 9)); SAYS(GOTO_TRACK, 1, 1, 1, 1, AT(1, 0, 0, 0));
+        SAYS(GOTO_TRACK, 1, 2, 1, 1, AT(1, 0, 0, 0)); SAYS(GOTO_TRACK, -1, 0, REF_RAN_OUT, 0, AT(1, 1, 55, 9));
+        SAYS(GOTO_TRACK, -1, 1, 1, 1, AT(1, 2, 0, 0)); SAYS(GOTO_TRACK, 3, 2, REF_RAN_OUT, 2, AT(1, 1, 55, 9));
+        SAYS(GOTO_TRACK, 3, 3, 1, 3, AT(1, 2, 0, 0)); SAYS(GOTO_TRACK, 3, 4, 1, 3, AT(1, 2, 0, 0));
+        /* The fourth step cannot be made. */
+        SAYS(GOTO_TRACK, 4, 3, REF_RAN_OUT, 3, AT(1, 1, 55, 9)); SAYS(GOTO_TRACK, 4, 4, 4, 4, AT(1, 1, 55, 9));
+        SAYS(GOTO_TRACK, 4, 5, 4, 4, AT(1, 1, 55, 9)); SAYS(GOTO_TRACK, 9, 3, REF_RAN_OUT, 3, AT(1, 1, 55, 9));
+        SAYS(GOTO_TRACK, 9, 8, 4, 4, AT(1, 1, 55, 9)); STOPS(GOTO_TRACK, MOST, 4); STOPS(GOTO_TRACK, LEAST, 4); STOPS(GOTO_TRACK, -4, 4);
+    }
+    /* On the track where it ends, at 0: the rest is 0 where a step was made, and by Goto 0. */
+    PAST_BY(3, 0, 0, 9); ARRIVES(GOTO_TRACK, 1, 1, 0, 0); ARRIVES(GOTO_TRACK, -3, 1, 0, 0); SAYS(GOTO_TRACK, 0, 0, 1, 0, AT(1, 0, 0, 0));
+    SAYS(GOTO_TRACK, 1, 0, REF_RAN_OUT, 0, AT(1, 0, 0, 9)); STOPS(GOTO_TRACK, 4, 4);
+    /* Long ones in a repeat order: 999, 1000 and 1001 steps behind First or Last, of rounds of three. */
+    PAST_BY(4, 1, 55, 9); ARRIVES(GOTO_TRACK, 1000, 1, 0, 0); ARRIVES(GOTO_TRACK, 1001, 1, 1, 0); ARRIVES(GOTO_TRACK, 1002, 1, 2, 0);
+    ARRIVES(GOTO_TRACK, -1000, 1, 2, 0); ARRIVES(GOTO_TRACK, -1001, 1, 1, 0); ARRIVES(GOTO_TRACK, -1002, 1, 0, 0);
+    SAYS(GOTO_TRACK, LEAST, 1000, REF_RAN_OUT, 1000, AT(1, 1, 55, 9)); SAYS(GOTO_TRACK, MOST, 999, REF_RAN_OUT, 999, AT(1, 1, 55, 9));
+    /* Orders 1 and 2, on each track. */
+    EACH(0, 3) {
+        uint32_t at = k == 2 ? 0 : 55;
+        PAST_BY(1, k, at, 9); SAYS(GOTO_TRACK, 0, 0, 1, 0, AT(1, k, 0, 0)); ARRIVES(GOTO_TRACK, 1, 1, k, 0);
+        ARRIVES(GOTO_TRACK, -1, 1, k, 0); SAYS(GOTO_TRACK, 2, 1, REF_RAN_OUT, 1, AT(1, k, at, 9));
+        SAYS(GOTO_TRACK, 2, 2, 4, 2, AT(1, k, at, 9)); STOPS(GOTO_TRACK, -2, 2); STOPS(GOTO_TRACK, MOST, 2); STOPS(GOTO_TRACK, LEAST, 2);
+        PAST_BY(2, k, at, 9); SAYS(GOTO_TRACK, 0, 0, 1, 0, AT(1, k, 0, 0)); ARRIVES(GOTO_TRACK, 1, 1, k, 0);
+        ARRIVES(GOTO_TRACK, -1, 1, k, 0); ARRIVES(GOTO_TRACK, 2, 1, k, 0); ARRIVES(GOTO_TRACK, 500, 1, k, 0);
+        ARRIVES(GOTO_TRACK, -500, 1, k, 0);
+    }
+    /* The stamps 5, 10 and 10: falling is 1, 2, 0. */
+    lent.words[TRACKS][1] = 5; ORDERS(7, "120", "021"); ORDERS(8, "1201201", "0210210"); ORDERS(5, "012", "210"); lend_sample();
+    /* A group of one track. */
+    stand(3, 0, 0); EQUAL(activate(3) || moves_to(0, 50), 0); ARRIVES(GOTO_TRACK, 1, 3, 3, 0); ARRIVES(GOTO_TRACK, -1, 3, 3, 0);
+    STOPS(GOTO_TRACK, 2, 2); STOPS(GOTO_TRACK, -2, 2); EQUAL(writes(0, 15, 4), 0); ARRIVES(GOTO_TRACK, 2, 3, 3, 0);
+    ARRIVES(GOTO_TRACK, -9, 3, 3, 0);
+
+    /* W-209, of a name: "Goto's steps not". It is track 2's, on track 0, and then the current track's; it stays. */
+    name_track_2(); SAYS(GOTO_TRACK, 2, 2, 1, 2, AT(1, 1, 0, 0)); ARRIVES(GOTO_TRACK, 1, 1, 0, 0); ARRIVES(GOTO_TRACK, 3, 1, 2, 0);
+    STOPS(GOTO_TRACK, 4, 4); ARRIVES(GOTO_TRACK, -1, 1, 2, 0); ARRIVES(GOTO_TRACK, -2, 1, 1, 0); STOPS(GOTO_TRACK, -4, 4);
+    ARRIVES(GOTO_GROUP, 2, 3, 3, 0); ARRIVES(GOTO_SEGMENT, 2, 1, 0, 1500); EQUAL(PLAYER.next, 3); CHECK(shows(12, 0x1002));
+    EQUAL(writes(0, 15, 4), 0); ARRIVES(GOTO_TRACK, 2, 1, 1, 0); ARRIVES(GOTO_TRACK, 4, 1, 0, 0); ARRIVES(GOTO_TRACK, 5, 1, 1, 0);
+    EQUAL(writes(0, 15, 1), 0); STOPS(GOTO_TRACK, 2, 2); EQUAL(writes(0, 15, 2), 0); ARRIVES(GOTO_TRACK, 5, 1, 0, 0);
+    EQUAL(writes(0, 15, 3) || sets(0, 12, 0x1000), 0); ARRIVES(GOTO_TRACK, 2, 1, 1, 0); STOPS(GOTO_TRACK, 4, 4); EQUAL(PLAYER.next, 1);
+}
+
+/* The sample's groups 1 and 3 have tracks and are of one parent; group 2 has none. */
+static void manual_group_cases(void)
+{
+    lend_sample();
+    /* "Then the group's first track, position 0.", of group 1 by the order: 1 in orders 5 and 6. "0 keeps the group." "No repeat" */
+    EACH(1, 9) {
+        uint32_t first = k == 5 || k == 6;
+        PAST_BY((uint8_t)k, 1, 55, 9); SAYS(GOTO_GROUP, 0, 0, 1, 0, AT(1, first, 0, 0)); SAYS(GOTO_GROUP, 0, 7, 1, 0, AT(1, first, 0, 0));
+        ARRIVES(GOTO_GROUP, 1, 1, first, 0); ARRIVES(GOTO_GROUP, 2, 3, 3, 0); ARRIVES(GOTO_GROUP, -1, 3, 3, 0);
+        ARRIVES(GOTO_GROUP, -2, 1, first, 0); STOPS(GOTO_GROUP, 3, 3); STOPS(GOTO_GROUP, 4, 3); STOPS(GOTO_GROUP, MOST, 3);
+        STOPS(GOTO_GROUP, -3, 3); STOPS(GOTO_GROUP, -4, 3); STOPS(GOTO_GROUP, LEAST, 3);
+        SAYS(GOTO_GROUP, 3, 2, REF_RAN_OUT, 2, AT(1, 1, 55, 9)); SAYS(GOTO_GROUP, 3, 3, 4, 3, AT(1, 1, 55, 9));
+        SAYS(GOTO_GROUP, 3, 4, 4, 3, AT(1, 1, 55, 9)); SAYS(GOTO_GROUP, 2, 0, REF_RAN_OUT, 0, AT(1, 1, 55, 9));
+        SAYS(GOTO_GROUP, 2, 1, REF_RAN_OUT, 1, AT(1, 1, 55, 9)); SAYS(GOTO_GROUP, 2, 2, 1, 2, AT(3, 3, 0, 0));
+        /* From the other group. */
+        EQUAL(activate(3) || moves_to(0, 50), 0); PLAYER.rest = 9; SAYS(GOTO_GROUP, 0, 0, 1, 0, AT(3, 3, 0, 0));
+        ARRIVES(GOTO_GROUP, 1, 1, first, 0); ARRIVES(GOTO_GROUP, 2, 3, 3, 0); STOPS(GOTO_GROUP, 3, 3); ARRIVES(GOTO_GROUP, -1, 3, 3, 0);
+        ARRIVES(GOTO_GROUP, -2, 1, first, 0); STOPS(GOTO_GROUP, -3, 3);
+    }
+    EACH(0, 4) {
+        PAST_BY(5, 2, 0, 9); EQUAL(commands(0, INTO[k], 0), 0); SAYS(GOTO_GROUP, 0, 0, 1, 0, AT(1, 1, 0, 0));
+        ARRIVES(GOTO_GROUP, 1, 1, 1, 0); ARRIVES(GOTO_GROUP, -2, 1, 1, 0); ARRIVES(GOTO_GROUP, 2, 3, 3, 0); STOPS(GOTO_GROUP, 3, 3);
+    }
+    /* "its lowest track comes first": in orders 1 and 2, on the last track. */
+    EACH(1, 3) { PAST_BY((uint8_t)k, 2, 0, 9); SAYS(GOTO_GROUP, 0, 0, 1, 0, AT(1, 0, 0, 0)); ARRIVES(GOTO_GROUP, 1, 1, 0, 0); }
+    /* "for group 0 over itself alone"; groups 1 and 3 are its children, and 2 is 1's. */
+    nest_groups(); EQUAL(start(ALL_OPCODES) || connects(0, 23) || activate(0) || moves_to(0, 50), 0); PLAYER.rest = 9;
+    SAYS(GOTO_GROUP, 0, 0, 1, 0, AT(0, 0, 0, 0)); ARRIVES(GOTO_GROUP, 1, 0, 0, 0); ARRIVES(GOTO_GROUP, -1, 0, 0, 0);
+    STOPS(GOTO_GROUP, 2, 2); STOPS(GOTO_GROUP, -2, 2); STOPS(GOTO_GROUP, LEAST, 2); EQUAL(activate(1) || moves_to(0, 50), 0);
+    ARRIVES(GOTO_GROUP, 1, 1, 1, 0); ARRIVES(GOTO_GROUP, 2, 3, 3, 0); ARRIVES(GOTO_GROUP, -1, 3, 3, 0); STOPS(GOTO_GROUP, 3, 3);
+    EQUAL(activate(2), 0); ARRIVES(GOTO_GROUP, 1, 2, 2, 0); ARRIVES(GOTO_GROUP, -1, 2, 2, 0); STOPS(GOTO_GROUP, 2, 2);
+    STOPS(GOTO_GROUP, -2, 2);
+    /* The 63 groups of the full catalogue, whose tracks are 193 to 255; and group 0, which is then the only one with tracks. */
+    lend_full(193); EQUAL(start(ALL_OPCODES) || connects(0, 23) || activate(5) || moves_to(0, 50), 0); ARRIVES(GOTO_GROUP, 1, 1, 193, 0);
+    ARRIVES(GOTO_GROUP, 63, 63, 255, 0); STOPS(GOTO_GROUP, 64, 64); ARRIVES(GOTO_GROUP, -62, 2, 194, 0); STOPS(GOTO_GROUP, LEAST, 64);
+    STOPS(GOTO_GROUP, MOST, 64); lend_full(256); EQUAL(start(ALL_OPCODES) || activate(0), 0); ARRIVES(GOTO_GROUP, 1, 0, 0, 0);
+    STOPS(GOTO_GROUP, 2, 2);
+}
+
+/* W-213: "Results 2 and 3 come first, count 0.": whatever the number and however many steps are allowed, and 2 before 3. */
+static void manual_result_cases(void)
+{
+    static const long NUMBERS[6] = {0, 1, -1, 4, MOST, LEAST};
+    static const uint32_t BIT[3] = {10, 15, 20};
+    lend_sample();
+    for (uint32_t inactive = 0; inactive < 2; inactive++) {
+        PAST_BY(3, 1, 55, 0);
+        if (inactive) EQUAL(deactivate(), 0);
+        PLAYER.rest = 65535;
+        for (uint32_t j = 0; j < 6; j++) {
+            long n = NUMBERS[j];
+            /* Every other opcode, those of single moves among them; and numbers over 255, of which some have an opcode in an octet. */
+            EACH(0, 256) {
+                if (!is_goto(k)) MOVES_NOTHING(k, n, 2);
+                MOVES_NOTHING(k + 256, n, 2); if (k > 0) MOVES_NOTHING(k << 8, n, 2);
+            }
+            EACH(0, 3) {
+                MOVES_NOTHING(GOTOS[k] + 0x10000, n, 2); MOVES_NOTHING(GOTOS[k] | 0x80000000u, n, 2);
+                MOVES_NOTHING(GOTOS[k] | 0xFFFFFF00u, n, 2); MOVES_NOTHING(GOTOS[k] << 16, n, 2); MOVES_NOTHING(GOTOS[k] << 24, n, 2);
+                /* Every mask of one opcode, and every one without one. "Higher mask bits count as 0." */
+                for (uint32_t bit = 0; bit < 32; bit++) {
+                    int alone = bit == BIT[k];
+                    PLAYER.mask = 1u << bit; if (!alone || inactive) MOVES_NOTHING(GOTOS[k], n, alone ? 3 : 2);
+                    PLAYER.mask = ~(1u << bit); if (alone || inactive) MOVES_NOTHING(GOTOS[k], n, alone ? 2 : 3);
+                }
+                PLAYER.mask = ALL_OPCODES;
+            }
+            MOVES_NOTHING(0xFFFFFFFFu, n, 2);
+        }
+    }
+    SAYS(GOTO_SEGMENT, 0, 0, 3, 0, AT(0, 0, 0, 65535)); SAYS(GOTO_TRACK, 0, 9, 3, 0, AT(0, 0, 0, 65535));
+    SAYS(GOTO_GROUP, 1, 0, 3, 0, AT(0, 0, 0, 65535)); SAYS(GOTO_SEGMENT + 1, 0, 0, 2, 0, AT(0, 0, 0, 65535)); PAST_BY(3, 1, 55, 7);
+    SAYS(GOTO_SEGMENT - 1, 1, 1, 2, 0, AT(1, 1, 55, 7));
+    /* The masks of the three alone let each be made, and the others not; single moves need not be in it. */
+    EACH(0, 3) {
+        PLAYER.mask = 1u << BIT[k]; EQUAL(manual(GOTOS[k], 1, 1), 0); EQUAL(said.made[0], 1); EQUAL(manual(GOTOS[k], -2, 2), 0);
+        EQUAL(said.made[0], 1); MOVES_NOTHING(GOTOS[(k + 1) % 3], 1, 2); MOVES_NOTHING(GOTOS[(k + 2) % 3], 1, 2);
+    }
+    PLAYER.mask = 1u << 15; ARRIVES(GOTO_TRACK, 3, 1, 2, 0); STOPS(GOTO_TRACK, -4, 4); PLAYER.mask = ALL_OPCODES;
+    /* Nobody is told of it, and no mark is lost. */
+    stand_with_two(3, 0, 77); EQUAL(reads(0, 7, 0) || reads(1, 11, 0), 0); TOLD(manual(GOTO_SEGMENT, 2, 2), 0, 0);
+    TOLD(manual(GOTO_TRACK, 2, 2), 0, 0); TOLD(manual(GOTO_GROUP, 2, 2), 0, 0); TOLD(manual(GOTO_TRACK, 4, 4), 0, 0); PAUSES(1, 0, 77);
+    EQUAL(reads(0, 7, 1) || reads(1, 11, 1), 0);
+}
+
+/* Both services, each of its own player; and the refusals, of which 200 comes before 224, that before 201, and that before 219, whatever
+ * the opcode and the number are. A refusal leaves the answer as it was, which is asked of every call. */
+static void manual_refusal_cases(void)
+{
+    static const struct { uint32_t opcode; long n; uint32_t allowed; } ASKED[6] = {
+        {GOTO_SEGMENT, 3, 3}, {GOTO_TRACK, -2, 1}, {GOTO_GROUP, 0, 0}, {GOTO_GROUP, LEAST, 0xFFFFFFFFu}, {PLAY, 1, 1}, {0x124, 0, 9}};
+    ref_state good;
+    LEND_OFFICE(); EQUAL(IN(0, start(ALL_OPCODES)) || connects(0, 23) || IN(0, activate(1)) || IN(1, activate(3)) || moves_to(0, 50), 0);
+    service = 0; SAYS(GOTO_SEGMENT, 3, 3, 1, 3, AT(1, 0, 4000, 0)); SAYS(GOTO_TRACK, 2, 2, 1, 2, AT(1, 1, 0, 0));
+    SAYS(GOTO_GROUP, 2, 2, 1, 2, AT(3, 3, 0, 0));
+    service = 1; SAYS(GOTO_SEGMENT, 3, 3, 1, 3, AT(3, 3, 900, 0)); SAYS(GOTO_TRACK, 2, 2, 4, 2, AT(3, 3, 50, 0));
+    SAYS(GOTO_GROUP, 1, 1, 1, 1, AT(1, 0, 0, 0));
+    EQUAL(IN(0, deactivate()), 0); SAYS(GOTO_SEGMENT, 3, 3, 3, 0, AT(0, 0, 0, 0)); service = 1;
+    SAYS(GOTO_SEGMENT, 1, 1, 1, 1, AT(3, 3, 0, 0)); good = s;
+    EACH(0, 36) {
+        const uint32_t opcode = ASKED[k / 6].opcode, allowed = ASKED[k / 6].allowed;
+        const long n = ASKED[k / 6].n;
+#define ASK() manual(opcode, n, allowed)
+        /* All four at once, with a plain 200 and with a bad title; then without the first, and so on. */
+        service = OVER[k % 6]; s.services[k % 2].player.order = 9; rename_track(2, 20, 1); lent.len[TEXT] = 17; lent.text[12] = 0xFF;
+        EQUAL(ASK(), 200); EQUAL(place.track, UNTOUCHED); EQUAL(place.offset, UNTOUCHED); lent.len[TEXT] = 18;
+        EQUAL(ASK(), 200); EQUAL(place.track, 1); EQUAL(place.offset, 2); lent.text[12] = 's';
+        EQUAL(ASK(), 224); rename_track(2, 20, 0); EQUAL(ASK(), 201); s = good; EQUAL(ASK(), 219);
+        /* Each alone. */
+        for (service = 0; service < 2; service++) {
+            EQUAL(ASK(), 0); lent.len[GROUPS] = 11; EQUAL(ASK(), 200); EQUAL(place.track, UNTOUCHED); lent.len[GROUPS] = 12;
+            lent.text[17] = 0xC3; EQUAL(ASK(), 200); EQUAL(place.track, 3); EQUAL(place.offset, 3); lent.text[17] = 'l';
+            rename_track(k % 4, 20, 1); EQUAL(ASK(), 224); rename_track(k % 4, 0, 0); office.words_len = 7; EQUAL(ASK(), 224);
+            office.words_len = 8;
+            s.services[k % 2].player.rest = 65536; EQUAL(ASK(), 201); s = good; s.links[k % 4].mtu = 22; EQUAL(ASK(), 201); s = good;
+        }
+    }
+    rename_nothing(); service = 0;
+}
+
+/* W-213 a second time. The number of the first step that cannot be made, or 0 where each can be: of the tracks and of the groups that there
+ * are, or of the starts where the recording still runs. */
+static uint32_t stop_of(const ref_player *p, uint32_t opcode, int ahead)
+{
+    const uint32_t *g = lent.words[GROUPS], *track = lent.words[TRACKS] + 6 * p->track;
+    uint32_t count = 0;
+    if (opcode == GOTO_SEGMENT) return ahead && track[0] == UNKNOWN ? (track[3] == 0 ? 1 : track[3]) + 1 : 0;
+    if (opcode == GOTO_TRACK) return p->order % 2 == 0 ? 0 : p->order == 1 ? 2 : g[3 * p->group + 2] + 1;
+    EACH(1, lent.len[GROUPS] / 3) count += g[3 * k] == g[3 * p->group] && g[3 * k + 2] > 0;
+    return p->group == 0 ? 2 : count + 1;
+}
+
+/* What the manual's Goto is to say with enough steps allowed: the result and the place are those of the present one, which is written to
+ * the control point and then undone. */
+typedef struct { uint32_t outcome, steps; spot at; } answer;
+static answer whole_goto(uint32_t opcode, long n)
+{
+    static ref_state kept;
+    answer is = {2, 0, spot_of(&PLAYER)};
+    uint32_t stop;
+    int stops;
+    if (!is_goto(opcode) || (PLAYER.mask >> opcode / 16 * 5 & 1) == 0) return is;
+    is.outcome = 3;
+    if (PLAYER.media == REF_INACTIVE) return is;
+    stop = stop_of(&PLAYER, opcode, n > 0);
+    stops = stop > 0 && stop <= without_sign(n);
+    memcpy(&kept, &s, sizeof s);
+    is.outcome = (uint32_t)result((int)opcode, n);
+    is.steps = stops ? stop : without_sign(n);
+    is.at = spot_of(&PLAYER);
+    memcpy(&s, &kept, sizeof s);
+    EQUAL(is.outcome, stops ? 4 : 1);
+    return is;
+}
+
+/* Both agree on that number, and with fewer steps allowed it runs out. */
+static void agrees_on(uint32_t opcode, long n)
+{
+    answer is = whole_goto(opcode, n);
+    whole_at(__LINE__, opcode, n, is.outcome, is.steps, is.at);
+}
+
+/* The steps made one after the other as a client makes them, by single commands, and with no track named: the manual's Goto of each number
+ * leads where they have led, and stops where one cannot be made. At most so many. */
+static void walks(uint32_t opcode, int ahead, long most)
+{
+    static ref_state begun, here;
+    int code = 1;
+    memcpy(&begun, &s, sizeof s); memcpy(&here, &s, sizeof s);
+    here.services[service].player.next = 0;
+    for (long n = 1; n <= most && code == 1; n++) {
+        int move = n == 1 ? ahead ? FIRST : LAST : ahead ? NEXT : PREVIOUS;
+        memcpy(&s, &here, sizeof s); code = result((int)opcode - GOTO + move, 0);
+        memcpy(&here, &s, sizeof s); memcpy(&s, &begun, sizeof s);
+        says_at(__LINE__, manual(opcode, ahead ? n : -n, (uint32_t)n), (uint32_t)code, (uint32_t)n,
+                spot_of(code == 1 ? &here.services[service].player : &PLAYER));
+    }
+}
+
+/* Ten catalogues, of which every other has recordings that run; every track, order and state of them, with a track named and without;
+ * every number from −9 to 9. */
+static void manual_sweep_cases(void)
+{
+    static const long LONG[4] = {20, -20, 99, -99};
+    uint32_t *g = lent.words[GROUPS], *tracks = lent.words[TRACKS];
+    EACH(0, 10) {
+        uint32_t how = k / 2;
+        lend_sample();
+        if (k % 2 == 1) tracks[0] = tracks[18] = UNKNOWN;
+        /* Stamps by which falling is 1, 2, 0, and starts less than 300 apart; one child of 0 has a child; three of them have none; and one
+         * group has all tracks. */
+        if (how == 1) { tracks[1] = 5; tracks[6] = UNKNOWN; lent.words[SEGMENTS][1] = 3900; }
+        if (how == 2 || how == 3) nest_groups();
+        if (how == 3) g[6] = 0;
+        if (how == 4) { g[5] = g[7] = g[10] = 4; g[11] = 0; }
+        service = k % 2; EQUAL(start(ALL_OPCODES) || connects(0, 23), 0);
+        for (uint32_t at = 0; at < 4 * 8 * 3; at++) {
+            uint32_t track = at / 24, group = 0, d = tracks[6 * track] == UNKNOWN ? END : tracks[6 * track], media = at % 3;
+            while (track - g[3 * group + 1] >= g[3 * group + 2]) group++;
+            EQUAL(activate(group), 0);
+            PLAYER.track = track; PLAYER.order = (uint8_t)(1 + at / 3 % 8); PLAYER.position = media == 0 ? 0 : media == 1 ? d : d * 2 / 3;
+            PLAYER.rest = at * 683; PLAYER.next = at % 2 == 0 ? 0 : g[3 * group + 1] + at % g[3 * group + 2] + 1;
+            PLAYER.media = (uint8_t)(media == 0 ? REF_PLAYING : media == 1 ? REF_PAUSED : REF_SEEKING);
+            PLAYER.seeking = media == 2 ? -8 : 0;
+            for (uint32_t kind = 0; kind < 3; kind++) {
+                for (long n = -9; n <= 9; n++) agrees_on(GOTOS[kind], n);
+                agrees_on(GOTOS[kind], LONG[at % 4]); walks(GOTOS[kind], 0, 9); walks(GOTOS[kind], 1, 9);
+            }
+        }
+    }
+    service = 0;
+}
+
+/* The longest lists that there may be: 256 tracks of one group, 63 groups, and 1,024 starts. */
+static void manual_full_cases(void)
+{
+    uint32_t *tracks = lent.words[TRACKS];
+    lend_full(256); EQUAL(start(ALL_OPCODES) || connects(0, 23) || activate(0), 0);
+    EACH(3, 9) {
+        EQUAL(writes(0, 15, (uint8_t)k) || sets(0, 11, 0x1000 + 31 * k), 0);
+        for (long n = 256; n < 259; n++) agrees_on(GOTO_TRACK, n);
+        agrees_on(GOTO_TRACK, 600); agrees_on(GOTO_TRACK, k % 2 == 0 ? -257 : -256);
+    }
+    lend_full(193); EQUAL(start(ALL_OPCODES) || connects(0, 23) || activate(9), 0);
+    for (long n = 1; n < 70; n++) { agrees_on(GOTO_GROUP, n); agrees_on(GOTO_GROUP, -n); }
+    agrees_on(GOTO_GROUP, MOST); agrees_on(GOTO_GROUP, LEAST); walks(GOTO_GROUP, 1, 70); walks(GOTO_GROUP, 0, 70);
+    /* One track has every start. */
+    lend_full(256); tracks[0] = END; tracks[3] = 1024;
+    EACH(0, 1024) lent.words[SEGMENTS][k] = 8437 * k;
+    EACH(1, 256) { tracks[6 * k + 2] = 1024; tracks[6 * k + 3] = 0; }
+    for (uint32_t last = 0; last < 2; last++, tracks[0] = UNKNOWN) {
+        EQUAL(start(ALL_OPCODES) || connects(0, 23) || activate(0) || moves_to(0, 12345), 0);
+        for (long n = 1; n < 1030; n += n < 1020 ? 97 : 1) { agrees_on(GOTO_SEGMENT, n); agrees_on(GOTO_SEGMENT, -n); }
+        agrees_on(GOTO_SEGMENT, 2000); agrees_on(GOTO_SEGMENT, -2000); walks(GOTO_SEGMENT, 1, 30); walks(GOTO_SEGMENT, 0, 30);
     }
 }
 
@@ -2858,9 +3298,11 @@ static int is_called(const ref_player *p, uint32_t offset, uint32_t most, uint32
  * went to a track and to a group by 11 and 14; was refused with 0x13 for an object number; changed the title from or to one of the
  * office's; went from one such to another track, which has the same part, or an equal one; read and took a title of the office's, and
  * read on in one; found that one had changed, and that one was too short for that; said which text it is a part of, the card's or the
- * office's; was refused with 224; stepped by the clock to a rest, was held at 8,640,000 with one, made one 0, and kept one. */
+ * office's; was refused with 224; stepped by the clock to a rest, was held at 8,640,000 with one, made one 0, and kept one; was a manual's
+ * Goto that had another opcode, or the number 0, passed a name by, went round a repeat order, stayed with a rest, and left one behind. */
 enum { GIVEN, KEPT, BY_NEXT, BY_END, ONTO_ITSELF, DROPPED, TO_TRACK, TO_GROUP, NOT_OBJECT, RENAMED, SAME_PART, EQUAL_PART, READ_TITLE,
-       TOOK_TITLE, READ_ON, READ_CHANGED, READ_SHORT, OF_CARD, OF_OFFICE, NOT_FIT, STEPPED, HELD, ZEROED, RESTED, MET };
+       TOOK_TITLE, READ_ON, READ_CHANGED, READ_SHORT, OF_CARD, OF_OFFICE, NOT_FIT, STEPPED, HELD, ZEROED, RESTED,
+       NO_GOTO, GOTO_0, PASSED_BY, WENT_ROUND, STAYED, LEFT, MET };
 static unsigned long met[MET];
 
 /* W-208: "a client's slots running through the generic service and then the other": of all that is owed, the least by the clients
@@ -3023,6 +3465,26 @@ static void title_rules_hold(const ref_state *was, uint32_t refusal, uint32_t ca
     }
 }
 
+/* W-213: a manual's Goto of `service` that was accepted, with so many steps allowed. How often each of the three had each outcome. */
+static unsigned long shown[3][5];
+static void goto_rules_hold(uint32_t opcode, long n, uint32_t allowed)
+{
+    uint8_t kept[sizeof said];
+    const uint32_t outcome = said.made[0], steps = said.made[1], tracks = lent.words[GROUPS][3 * PLAYER.group + 2];
+    const spot now = spot_of(&PLAYER);
+    answer is;
+    memcpy(kept, &said, sizeof said); is = whole_goto(opcode, n); memcpy(&said, kept, sizeof said);
+    if (allowed < is.steps) is = (answer){REF_RAN_OUT, allowed, now};
+    says_at(__LINE__, 0, is.outcome, is.steps, is.at);
+    if (outcome > 4) return;
+    if (!is_goto(opcode)) { met[NO_GOTO]++; return; }
+    shown[opcode / 16 - 2][outcome]++;
+    met[GOTO_0] += n == 0 && outcome == 1;
+    met[PASSED_BY] += PLAYER.next > 0 && opcode == GOTO_TRACK && steps > 1 && outcome == 1;
+    met[WENT_ROUND] += opcode == GOTO_TRACK && outcome == 1 && PLAYER.order > 2 && steps > tracks;
+    if (now.rest > 0 && outcome != 2 && outcome != 3) met[said.spot[3] == now.rest ? STAYED : LEFT]++;
+}
+
 static void exchange_services(void)
 {
     ref_service kept;
@@ -3079,6 +3541,7 @@ static uint32_t tries(uint32_t call, uint32_t client, uint32_t what, uint32_t nu
         (call == READ && what == 5 && (refusal == 0x80 || refusal == 0x07))) {
         title_rules_hold(&was, refusal, call, client, what, number);
     }
+    if (refusal == 0 && call == MANUAL_GOTO) goto_rules_hold(what, (long)signed_number(number), client);
     if (call != START && call != TAKE) is_the_called_ones(&was, refusal, (int)call, client, what, number, octets, len, room);
     return refusal;
 }
@@ -3094,7 +3557,7 @@ static const uint8_t *random_number(uint32_t what)
 
 static uint32_t random_call(void)
 {
-    static const uint32_t WRITABLE[9] = {7, 8, 11, 12, 14, 15, 18, 18, 18}, RANGE[CALLS] = {1, 1, 65, 1, 300, 600, 1, 1, 1, 140, 1, 1, 1};
+    static const uint32_t WRITABLE[9] = {7, 8, 11, 12, 14, 15, 18, 18, 18}, RANGE[CALLS] = {1, 1, 65, 1, 300, 600, 1, 1, 1, 140, 1, 1, 1, 6};
     uint32_t call = below(CALLS + 6), client = one_in(24) ? 4 : below(4), what = one_in(12) ? below(30) : SLOT[below(SLOTS)], number;
     uint8_t octets[140], beside[140];
     uint32_t refusal;
@@ -3112,6 +3575,7 @@ static uint32_t random_call(void)
         if (len == 6) memcpy(octets, random_number(what), len);
         if (one_in(16)) len = below(8);
     }
+    if (call == MANUAL_GOTO && !one_in(8)) what = GOTOS[below(3)];
     if (call == START) {
         other.len = below(131); memset(beside, 'o', sizeof beside); random_text(beside, other.len, 4); other.name = beside;
     }
@@ -3203,6 +3667,25 @@ static void random_clock(void)
                 what == 7 ? 4 : what == 18 && CARRIES_NUMBER(octets[0]) ? 5 : 1, ROOM);
 }
 
+/* W-213: a manual's Goto, of which most have a number near the ends of the lists, and steps allowed near that; before it, sometimes, a call
+ * by which the player comes to be elsewhere, has another order or name, is left with a rest, or is Inactive. */
+static void random_goto(void)
+{
+    static const uint32_t WRITES[6] = {7, 11, 12, 14, 15, 15};
+    uint32_t how = below(6), what = WRITES[below(6)], opcode = GOTOS[below(3)], all, allowed;
+    uint8_t octets[6] = {(uint8_t)(1 + below(8))};
+    int64_t n = one_in(8) ? signed_number(any()) : (int64_t)below(15) - 7;
+    service = below(2);
+    if (what != 15 && what != 7) memcpy(octets, random_number(what), 6); else if (what == 7) put_number(octets, (long)below(6000));
+    if (how < 3) (void)tries(PLAYER.media == REF_INACTIVE ? ACTIVATE : one_in(12) ? DEACTIVATE : WRITE, below(3), what, below(4), octets,
+                             what == 15 ? 1 : what == 7 ? 4 : 6, 0);
+    if (how == 3 && one_in(2)) PLAYER.rest = below(65536);
+    all = without_sign(n);
+    allowed = one_in(4) ? below(40) : all > 40 ? 40 - below(4) : one_in(3) ? any() : all + below(3) - (all > 0);
+    if (one_in(12)) opcode = one_in(2) ? opcode + 256 * (1 + below(1000)) : below(256);
+    (void)tries(MANUAL_GOTO, allowed, opcode, (uint32_t)n, octets, 0, 0);
+}
+
 /* A call with an octet of the state, or a word, an octet and a length of the catalogue, or one of them of the titles, changed and then
  * changed back. */
 static void damaged_call(void)
@@ -3251,6 +3734,23 @@ static void lend_random(void)
     if (one_in(16)) { table = below(4); lent.len[table] -= lent.len[table] > 0; }
 }
 
+/* W-213: in any state of a catalogue that stands, both agree on a number and take the same way there. */
+static void random_agreement(void)
+{
+    static ref_state kept;
+    const uint32_t *g = lent.words[GROUPS], *tracks = lent.words[TRACKS];
+    uint32_t group = lent.len[TRACKS] == 0 ? 0 : below((uint32_t)lent.len[GROUPS] / 3), opcode = GOTOS[below(3)], track, d;
+    int renames = office.renames;
+    if (lent.len[TRACKS] == 0 || g[3 * group + 2] == 0) return;
+    memcpy(&kept, &s, sizeof s); rename_nothing();
+    service = below(2); EQUAL(start(ALL_OPCODES) || activate(group), 0);
+    track = g[3 * group + 1] + below(g[3 * group + 2]); d = tracks[6 * track] == UNKNOWN ? END : tracks[6 * track];
+    PLAYER.track = track; PLAYER.order = (uint8_t)(1 + below(8)); PLAYER.position = below(d + 1); PLAYER.rest = below(65536);
+    PLAYER.next = one_in(2) ? 0 : g[3 * group + 1] + below(g[3 * group + 2]) + 1;
+    agrees_on(opcode, (long)below(25) - 12); walks(opcode, one_in(2), 8);
+    memcpy(&s, &kept, sizeof s); office.renames = renames;
+}
+
 /* How many random catalogues stand, have a bad title, break another rule, and do both. The titles lent beside each are sometimes such as
  * 224 refuses, which is given where the catalogue stands, and by the calls on a state alone. */
 static unsigned long kinds[4];
@@ -3264,7 +3764,7 @@ static void random_catalogue(void)
     refusal = !of_tables ? one_in(8) ? start(ALL_OPCODES) : random_call()
             : one_in(3) ? writes_card(below(9) * 512) : writes_object(GROUP_OBJECT + (int)below(2), below(9), below(100));
     AS_JUDGED(refusal); EQUAL(refusal == 224, !of_tables && !judged.wrong && office_is_unfit());
-    if (!judged.wrong) all_go_round();
+    if (!judged.wrong) { all_go_round(); if (one_in(3)) random_agreement(); }
 }
 
 /* Octets that are entries of a Track Segments or a Group object but for what is spoiled, cut or reserved, read into any room, and read a
@@ -3330,6 +3830,7 @@ static void history(void)
     EACH(0, 100) random_title();
     if (!one_in(4)) lent.words[TRACKS][0] = UNKNOWN;
     EACH(0, 100) random_clock();
+    EACH(0, 60) random_goto();
     EACH(0, 150) { if (one_in(6)) damaged_call(); else (void)random_call(); }
     EACH(0, 30) { damaged_octets(); random_object(); }
     (void)writes_card(below(50000));
@@ -3348,17 +3849,19 @@ int main(int argc, char **argv)
         value_cases(); object_mark_cases(); object_write_cases(); name_kept_cases(); name_used_cases(); told_cases();
         renamed_cases(); renamed_owed_cases(); renamed_read_cases();
         clock_cases(); clock_end_cases(); rest_cases(); rest_told_cases();
+        manual_segment_cases(); manual_track_cases(); manual_group_cases(); manual_result_cases();
     }
     service = 1; every_speed_cases(); hour_cases();
     service = 0;
     catalogue_cases(); title_cases();
     start_cases(); number_cases(); apart_cases(); both_owed_cases(); mark_cases(); round_cases(); both_states_cases();
-    rename_refusal_cases(); both_titles_cases();
+    rename_refusal_cases(); both_titles_cases(); manual_refusal_cases(); manual_sweep_cases(); manual_full_cases();
     object_cases(); object_read_cases(); card_cases(); reason_cases(); short_cases(); writer_cases(); sheet_cases();
     for (unsigned long k = 0; k < histories; k++) history();
     EACH(0, CALLS) { CHECK(histories < 40 || (accepted[k] > 0 && refused[k] > 0)); made += accepted[k] + refused[k]; }
     EACH(0, 4) CHECK(histories < 40 || kinds[k] > 5 * histories);
     EACH(0, MET) CHECK(histories < 40 || met[k] > histories / 3);
+    EACH(0, 15) CHECK(histories < 40 || shown[k / 5][k % 5] > histories / 3);
     EACH(0, 3) CHECK(histories < 40 || objects[k] > histories);
     printf("checks: %lu, failures: %lu; random histories: %lu, calls: %lu\n", checks, failures, histories, made);
     return failures == 0 ? 0 : 1;

@@ -4,7 +4,8 @@ A frame is an octet for the catalogue, one for the call, one for the client, one
 the call takes, an octet for the room of the lent output, two, little endian, for the length of the text, and the text. The octet of the characteristic
 is whether it is encrypted of a connect, and the part of the state of damage. A start has service 0's mask in the word and its Content Control ID in the
 octet of the characteristic; its text is an octet with the length of service 0's name, that name, four octets, little endian, with service 1's mask, one
-with its Content Control ID, and service 1's name.
+with its Content Control ID, and service 1's name. The manual's Goto (document 02, W-213) has its signed number in the word; its text is two words,
+little endian: the allowed steps, and the opcode.
 
 A frame of titles is no call: it says what the office's own titles (document 02, W-210) are that are lent to every call behind it. Where its octet of the
 characteristic is 1, nothing is renamed: an empty text and an entry of zeros for each track of the catalogue that the call is made with; the script
@@ -22,7 +23,9 @@ a hundredth past 1500 of track 0.
 The state stays as it is where a call is refused, is one that does not touch the player, or is to the other service. The answer of a refused call is
 'refused', the number and, behind it, what 200 and 207 carry (W-207): 'refused 200 1 5' has the track and the offset of a bad title, 'refused 207 0' the
 offset within the name. A plain 200 and every other refusal carry nothing. The answer of the title call (W-210) is 'title card' or 'title office', by the
-text that the title of the service's current track stands in, the offset there, the length, and the octets.
+text that the title of the service's current track stands in, the offset there, the length, and the octets. The answer of the manual's Goto is 'goto',
+the outcome, the steps that are counted, 'at', and the group, track and position where the player would be, with the rest as in a state. The outcome is
+a result of the control point, or 0 where the allowed steps ran out: 'goto 1 2 at 1 0 1500', 'goto 0 3 at 1 0 777+12'.
 
 A call is to the service that it names or, where it names none, to the one that `on` named last. What falls due by it is given as characteristics of that
 service behind the client: 'left 17 18; screen 17'. Each client is seen in each service, as 'ATT_MTU: subscribed; owed; waiting results', or '-' while it
@@ -42,7 +45,7 @@ import struct
 SAMPLE, LONG, OWN_PARENT, CUT, CLOSE, RUNNING, BAD_TITLES, BAD_AND_WRONG, FOLDERS, MANY = range(10)
 
 (NOTE, START, SET_NAME, ACTIVATE, DEACTIVATE, ADVANCE, CONNECT, DISCONNECT, SUBSCRIBE, UNSUBSCRIBE, READ, WRITE, TAKE, DAMAGE,
- TITLES, TITLE) = range(16)
+ TITLES, TITLE, MANUAL_GOTO) = range(17)
 
 # The two services: "generic (0)" and the named player.
 GENERIC, NAMED = range(2)
@@ -290,3 +293,8 @@ def titles(entries=None, text=b''):
 def title(answer, catalogue=SAMPLE, service=None):
     """'title office 6 3 4b 61 69': the text, the offset, the length and the octets of the title; or a refusal."""
     made(TITLE, 0, to(service), 0, 0, b'', answer, catalogue)
+
+
+def manual_goto(opcode, number, allowed, answer, catalogue=SAMPLE, service=None):
+    """'goto 1 2 at 1 0 1500': the outcome, the steps and the place of the manual's Goto (W-213), with so many steps allowed; or a refusal."""
+    made(MANUAL_GOTO, 0, to(service), 0, number, word(allowed) + word(opcode), answer, catalogue)

@@ -1,4 +1,4 @@
-"""The clock's cases: playback by its speed (document 02, W-211), which vectors/script.py puts last.
+"""The clock's cases: playback by its speed (document 02, W-211), which vectors/script.py puts behind those of the office's titles.
 
 Each call has its answer, the state of the player that it leaves and what falls due by it to whom beside it, worked out by hand from documents 01 and
 02. vectors/calls.py says how they are written: the rest stands behind the position. The cases of one client are the left pedal's, as in

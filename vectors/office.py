@@ -1362,7 +1362,8 @@ read(LEFT, 1, 0, 'read 41')
 
 
 def each_call(answer, catalogue=SAMPLE):
-    """Every call but the title call that is lent the catalogue, as it would be accepted in the office of the left pedal, to which 1 is owed."""
+    """Every call that is lent the catalogue but the title call and the manual's Goto, as it would be accepted in the office of the left pedal, to which
+    1 is owed."""
     start(b'Desk', ALL, 7, answer, catalogue=catalogue)
     set_name(b'B', answer, catalogue=catalogue)
     activate(1, answer, catalogue=catalogue)

@@ -1,7 +1,7 @@
 -- What a call on the whole says and leaves, and the rows of the refusal table that many calls share (document 01, "Refusal numbers").
 -- Assumes nothing.
 use mathlib.Core.Path.{_≡_}
-use mathlib.Core.Bool.{Bool, not}
+use mathlib.Core.Bool.{Bool, false, not}
 use mathlib.Core.List.{List, [], _∷_, _++_}
 use Prim.Native.Nat.{ℕ}
 use lib.Dec.{leb}
@@ -52,6 +52,10 @@ clientRow who = row 202 (leb clientCount who)
 -- "219, service number over 1, after 202" (document 02, W-208)
 abbrev pub serviceRow : ℕ → Row
 serviceRow service = row 219 (leb serviceCount service)
+
+-- 200, 224, 205 of no output, 201, 219: what every call asks that is on a service, and of no client
+abbrev pub onService : Lent → Desk → ℕ → List Row
+onService k d service = fronted k false d ++ (serviceRow service ∷ [])
 
 -- 203, "not connected"
 abbrev pub connectedRow : Bool → Row

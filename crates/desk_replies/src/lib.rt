@@ -4,7 +4,7 @@ ghost use mathlib.Core.Bool.{false, true};
 ghost use mathlib.Core.List.{[], _∷_, _++_};
 ghost use Rattle.ground.specs.Refusals.{granted, refused, refusalOf, leaves};
 ghost use Rattle.catalogue_titles.specs.Lent.{lending};
-ghost use Rattle.desk_replies.specs.Replies.{saidOf, leftBy, Gated, lentRows, fronted, clientRow, serviceRow, ofCaller, ofCharacteristic, linkOf};
+ghost use Rattle.desk_replies.specs.Replies.{saidOf, leftBy, Gated, lentRows, fronted, onService, clientRow, ofCaller, ofCharacteristic, linkOf};
 
 pub enum Answer {
     // Accepted. Of a take: nothing is owed.
@@ -137,7 +137,7 @@ pub fn service_gate(
     d: desk_state::Desk,
     service: u32,
 ) -> Gate
-    ensures { λ r. ⌜ Gated (fronted (lending (now (groups .entry)) (now (tracks .entry)) (now (segments .entry)) (now (text .entry)) (now (renames .entry)) (now (office .entry))) false d ++ (serviceRow service ∷ [])) r ⌝ }
+    ensures { λ r. ⌜ Gated (onService (lending (now (groups .entry)) (now (tracks .entry)) (now (segments .entry)) (now (text .entry)) (now (renames .entry)) (now (office .entry))) d service) r ⌝ }
 {
     let g = front_gate(groups, tracks, segments, text, renames, office, false, d);
     if !g.passes {

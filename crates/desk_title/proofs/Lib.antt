@@ -1,4 +1,3 @@
 -- The laws that belong to no one function.
 pub mod Lying
-pub mod Orders
 pub mod Settled

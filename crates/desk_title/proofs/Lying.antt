@@ -17,22 +17,22 @@ use Rattle.player_values.specs.Values.{titlePart}
 use Rattle.player_values.proofs.Fits.{title-lies}
 use Rattle.desk_state.specs.declared.Desk.{Desk}
 use Rattle.desk_state.specs.Desk.{serviceAt}
-use Rattle.desk_replies.specs.Replies.{serviceRow}
+use Rattle.desk_replies.specs.Replies.{serviceRow, onService}
 use Rattle.desk_replies.proofs.Gates.{fit, player}
-use Rattle.desk_title.specs.Title.{titleRows, titleCall}
+use Rattle.desk_title.specs.Title.{titleCall}
 
 module _ (k : Lent) (d : Desk) (service : ℕ) where
-  by-rows : titleCall k d service .state ≡ pick (accepted (titleRows k d service)) (titlePart (k .tracks) (k .renames) (serviceAt d service .player)) front
+  by-rows : titleCall k d service .state ≡ pick (accepted (onService k d service)) (titlePart (k .tracks) (k .renames) (serviceAt d service .player)) front
   unfolding titleCall
-  by-rows = state-of front (titleRows k d service) (leaves (granted []) (titlePart (k .tracks) (k .renames) (serviceAt d service .player)))
+  by-rows = state-of front (onService k d service) (leaves (granted []) (titlePart (k .tracks) (k .renames) (serviceAt d service .player)))
 
   pub title-inside : Inside (titleCall k d service .state) (length (k .text)) (length (k .office))
   title-inside =
       rw by-rows
       (⊎-elim
       (λ e.
-      let n = none-of (titleRows k d service) e in
+      let n = none-of (onService k d service) e in
       let behind = serviceRow service ∷ [] in
       rw e (title-lies k (fit k false d behind n) (serviceAt d service .player) (player k false d behind n service (leb-false _ _ (n .1 .1 .1 .1 .0)))))
       (λ e. rw e (omega arith))
-      (true-or (accepted (titleRows k d service))))
+      (true-or (accepted (onService k d service))))

@@ -26,11 +26,23 @@ use Rattle.mcs.proofs.mcs_read.Reads as read
 use Rattle.mcs.proofs.mcs_write.Reads as write
 use Rattle.mcs.proofs.mcs_take.Reads as take
 use Rattle.mcs.proofs.mcs_title.Reads as title
+use Rattle.mcs.proofs.mcs_manual_goto.Reads as manual-goto
 
 -- no two numbers, no two states, and no two words for where a text is wrong
 abbrev Settles : (ℕ → List ℕ → List ℕ → List ℕ → Type 0) → Type 0
 Settles Met =
     (n₁ n₂ : ℕ) (new₁ new₂ t₁ t₂ o₁ o₂ : List ℕ) → Met n₁ new₁ t₁ o₁ → Met n₂ new₂ t₂ o₂ → ((n₁ ≡ n₂) × (new₁ ≡ new₂)) × (t₁ ≡ t₂) × (o₁ ≡ o₂)
+
+-- a number, and four contents
+five : {n n₁ n₂ : ℕ} {a a₁ a₂ b b₁ b₂ c c₁ c₂ d d₁ d₂ : List ℕ} → (n₁ ≡ n) × ((a₁ ≡ a) × ((b₁ ≡ b) × ((c₁ ≡ c) × (d₁ ≡ d))))
+    → (n₂ ≡ n) × ((a₂ ≡ a) × ((b₂ ≡ b) × ((c₂ ≡ c) × (d₂ ≡ d)))) → (n₁ ≡ n₂) × (a₁ ≡ a₂) × (b₁ ≡ b₂) × (c₁ ≡ c₂) × (d₁ ≡ d₂)
+five p q = (
+  p .0 ∙ sym (q .0),
+  p .1 .0 ∙ sym (q .1 .0),
+  p .1 .1 .0 ∙ sym (q .1 .1 .0),
+  p .1 .1 .1 .0 ∙ sym (q .1 .1 .1 .0),
+  p .1 .1 .1 .1 ∙ sym (q .1 .1 .1 .1),
+)
 
 module _ (groups tracks segments text renames office state track octet : RefT (List ℕ)) where
   -- the catalogue and the titles before the other arguments, and the words for where a text is wrong behind them
@@ -106,6 +118,14 @@ module _ (groups tracks segments text renames office state track octet : RefT (L
         → (n₁ ≡ n₂) × (p₁ ≡ p₂) × (t₁ ≡ t₂) × (o₁ ≡ o₂)
     title-settled service n₁ n₂ p₁ p₂ t₁ t₂ o₁ o₂ p q = (p .0 ∙ sym (q .0), p .1 .0 ∙ sym (q .1 .0), p .1 .1 .0 ∙ sym (q .1 .1 .0), p .1 .1 .1 ∙ sym (q .1 .1 .1))
 
+  -- what a manual's Goto comes to, where the player would be, and the words for where a text is wrong; nor is the state lent for writing
+  module _ (κs : Lfts 11) (made place : RefT (List ℕ)) where
+    pub manual-goto-settled : (service opcode number allowed : ℕ) (n₁ n₂ : ℕ) (m₁ m₂ p₁ p₂ t₁ t₂ o₁ o₂ : List ℕ)
+        → manual-goto.Post κs (lent (state, (service, (opcode, (number, (allowed, (made, (place, words)))))))) n₁ (lent (state, (service, (opcode, (number, (allowed, (at-last made m₁, (at-last place p₁, told t₁ o₁))))))))
+        → manual-goto.Post κs (lent (state, (service, (opcode, (number, (allowed, (made, (place, words)))))))) n₂ (lent (state, (service, (opcode, (number, (allowed, (at-last made m₂, (at-last place p₂, told t₂ o₂))))))))
+        → (n₁ ≡ n₂) × (m₁ ≡ m₂) × (p₁ ≡ p₂) × (t₁ ≡ t₂) × (o₁ ≡ o₂)
+    manual-goto-settled service opcode number allowed n₁ n₂ m₁ m₂ p₁ p₂ t₁ t₂ o₁ o₂ = five
+
 -- a card load's four tables, its counts and its block
 module _ (κs : Lfts 7) (card groups tracks segments text counts block : RefT (List ℕ)) where
   -- what is lent, with other contents
@@ -126,17 +146,6 @@ module _ (κs : Lfts 7) (card groups tracks segments text counts block : RefT (L
     p .1 .1 .1 .1 .1 .0 ∙ sym (q .1 .1 .1 .1 .1 .0),
     p .1 .1 .1 .1 .1 .1 ∙ sym (q .1 .1 .1 .1 .1 .1),
   )
-
--- a number, and four contents
-five : {n n₁ n₂ : ℕ} {a a₁ a₂ b b₁ b₂ c c₁ c₂ d d₁ d₂ : List ℕ} → (n₁ ≡ n) × ((a₁ ≡ a) × ((b₁ ≡ b) × ((c₁ ≡ c) × (d₁ ≡ d))))
-    → (n₂ ≡ n) × ((a₂ ≡ a) × ((b₂ ≡ b) × ((c₂ ≡ c) × (d₂ ≡ d)))) → (n₁ ≡ n₂) × (a₁ ≡ a₂) × (b₁ ≡ b₂) × (c₁ ≡ c₂) × (d₁ ≡ d₂)
-five p q = (
-  p .0 ∙ sym (q .0),
-  p .1 .0 ∙ sym (q .1 .0),
-  p .1 .1 .0 ∙ sym (q .1 .1 .0),
-  p .1 .1 .1 .0 ∙ sym (q .1 .1 .1 .0),
-  p .1 .1 .1 .1 ∙ sym (q .1 .1 .1 .1),
-)
 
 -- a card write's card, its number of blocks, and the words for where a title is wrong
 module _ (κs : Lfts 8) (groups tracks segments text card blocks track octet : RefT (List ℕ)) where

@@ -12,7 +12,6 @@ use Rattle.ground.specs.Refusals.{Said, granted, refusedWith, Row, row, answere
 use Rattle.ground.specs.Limits.{mostGroups, mostTracks, mostSegments, mostText, groupWords, trackWords, leastOutput}
 use Rattle.ground.proofs.Cases.{and-left, and-right}
 use Rattle.catalogue_tables.specs.Tables.{Tables, trackCount}
-use Rattle.catalogue_titles.specs.declared.Part.{Part}
 use Rattle.catalogue_titles.specs.Titles.{front}
 use Rattle.catalogue_titles.specs.Lent.{Lent, catalogueOf}
 use Rattle.card_block.specs.Block.{kindOf}
@@ -42,11 +41,12 @@ use Rattle.desk_client.specs.declared.Client.{Client}
 use Rattle.desk_client.specs.Client.{leastMtu, mtuRight, linkRule}
 use Rattle.desk_client.proofs.Rule.{connected-linked, mark-within}
 use Rattle.desk_state.specs.declared.Desk.{Desk}
-use Rattle.desk_replies.specs.Replies.{fronted, asked, linkOf}
+use Rattle.desk_replies.specs.Replies.{fronted, onService, asked, linkOf}
 use Rattle.desk_replies.proofs.Gates.{stands}
 use Rattle.desk_exchange.specs.Write.{writerRows, writeCall}
 use Rattle.desk_exchange.specs.Read.{valueNow, readerRows, readOctets, readCall}
-use Rattle.desk_title.specs.Title.{titleRows, titleCall}
+use Rattle.desk_title.specs.Title.{titleCall}
+use Rattle.desk_goto.specs.Manual.{noArrival, manualCall}
 use Rattle.desk_take.specs.Serving.{placesOwed, nextPlace, handedOctets, handedValues, afterServing}
 use Rattle.desk_take.specs.Take.{nextClient, playersOf, withServed, takeCall}
 use Rattle.mcs_told.specs.Calls.{AllWords}
@@ -192,10 +192,19 @@ module _ (k : Lent) (d : Desk) where
   unfolding deactivateCall SmallRows
   deactivate-words service = asked-words (serviceRows service) (tt, tt) _ refl
 
+  -- a call on a service that alters nothing says nothing besides, whatever it shows
+  service-words : {A : Type 0} (nothing shown : A) (service : ℕ) → AllWords (answered (keeping nothing) (onService k d service) (leaves (granted []) shown) .said .values)
+  unfolding SmallRows
+  service-words {A} nothing shown service =
+      behind-rows (λ (l : Left A). l .said) (keeping nothing) (λ said. refl) (onService k d service) (title-words (catalogueOf k), (tt, (tt, (tt, (tt, tt))))) _ (λ n. tt)
+
   pub titled-words : (service : ℕ) → AllWords (titleCall k d service .said .values)
-  unfolding titleCall SmallRows
-  titled-words service =
-      behind-rows (λ (l : Left Part). l .said) (keeping front) (λ said. refl) (titleRows k d service) (title-words (catalogueOf k), (tt, (tt, (tt, (tt, tt))))) _ (λ n. tt)
+  unfolding titleCall
+  titled-words service = service-words front _ service
+
+  pub manual-words : (service opcode n allowed : ℕ) → AllWords (manualCall k d service opcode n allowed .said .values)
+  unfolding manualCall
+  manual-words service opcode n allowed = service-words noArrival _ service
 
   pub advance-words : (service step : ℕ) → AllWords (advanceCall k d service step .said .values)
   unfolding advanceCall SmallRows

@@ -22,7 +22,8 @@ ghost use Rattle.desk_exchange.specs.Read.{readCall, readOctets};
 ghost use Rattle.desk_exchange.specs.Write.{writeCall};
 ghost use Rattle.desk_take.specs.Take.{takeCall, takeOctets};
 ghost use Rattle.desk_title.specs.Title.{titleCall};
-ghost use Rattle.mcs_told.specs.Calls.{Ends, wordsAfter, carriedAfter, trackAfter, offsetAfter, partAfter};
+ghost use Rattle.desk_goto.specs.Manual.{manualCall};
+ghost use Rattle.mcs_told.specs.Calls.{Ends, wordsAfter, carriedAfter, trackAfter, offsetAfter, partAfter, madeAfter, arrivalAfter};
 
 // Card load.
 #[no_mangle]
@@ -610,6 +611,53 @@ pub extern "C" fn mcs_title(
     let t = mcs_told::told_of(answer);
     let title = w.part;
     mcs_told::tell_part(t.granted, title, part);
+    mcs_told::tell_place(t, track, octet);
+    t.number
+}
+
+// The manual's Goto: what it comes to, the steps made, and where the player would be. The state is lent to be read alone.
+#[no_mangle]
+pub extern "C" fn mcs_manual_goto(
+    groups: &[u32],
+    tracks: &[u32],
+    segments: &[u32],
+    text: &[u8],
+    renames: &[u32],
+    office: &[u8],
+    state: &[u8; 649],
+    service: u32,
+    opcode: u32,
+    number: u32,
+    allowed: u32,
+    made: &mut [u32; 2],
+    place: &mut [u32; 4],
+    track: &mut [u32; 1],
+    octet: &mut [u32; 1],
+) -> u32
+    ensures { λ r. ⌜ r ≡ manualCall (lending (now (groups .entry)) (now (tracks .entry)) (now (segments .entry)) (now (text .entry)) (now (renames .entry)) (now (office .entry))) (deskOf (now (state .entry))) service opcode number allowed .said .number ⌝ }
+    ensures { λ r. ⌜ now (made .exit) ≡ madeAfter (manualCall (lending (now (groups .entry)) (now (tracks .entry)) (now (segments .entry)) (now (text .entry)) (now (renames .entry)) (now (office .entry))) (deskOf (now (state .entry))) service opcode number allowed) (now (made .entry)) ⌝ }
+    ensures { λ r. ⌜ now (place .exit) ≡ arrivalAfter (manualCall (lending (now (groups .entry)) (now (tracks .entry)) (now (segments .entry)) (now (text .entry)) (now (renames .entry)) (now (office .entry))) (deskOf (now (state .entry))) service opcode number allowed) (now (place .entry)) ⌝ }
+    ensures { λ r. ⌜ now (track .exit) ≡ trackAfter (manualCall (lending (now (groups .entry)) (now (tracks .entry)) (now (segments .entry)) (now (text .entry)) (now (renames .entry)) (now (office .entry))) (deskOf (now (state .entry))) service opcode number allowed .said) (now (track .entry)) ⌝ }
+    ensures { λ r. ⌜ now (octet .exit) ≡ offsetAfter (manualCall (lending (now (groups .entry)) (now (tracks .entry)) (now (segments .entry)) (now (text .entry)) (now (renames .entry)) (now (office .entry))) (deskOf (now (state .entry))) service opcode number allowed .said) (now (octet .entry)) ⌝ }
+{
+    let d = mcs_state::decode(state);
+    let s = desk_goto::manual_goto(
+        groups,
+        tracks,
+        segments,
+        text,
+        renames,
+        office,
+        d,
+        service,
+        opcode,
+        number,
+        allowed,
+    );
+    let answer = s.answer;
+    let t = mcs_told::told_of(answer);
+    let arrival = s.arrival;
+    mcs_told::tell_arrival(t.granted, arrival, made, place);
     mcs_told::tell_place(t, track, octet);
     t.number
 }

@@ -1,11 +1,11 @@
 -- What C is told is what is said, where that fits words of 32 bits. Assumes nothing.
-use mathlib.Core.Path.{_≡_, refl, ap, _∙_}
+use mathlib.Core.Path.{_≡_, refl, sym, ap, _∙_}
 use mathlib.Core.Bool.{Bool}
 use mathlib.Core.List.{List, [], _∷_}
 use Prim.Native.Nat.{ℕ, zero, suc, _<_}
 use native.Mathlib.Omega.{arith}
 use lib.Dec.{lit≤}
-use lib.ListN.{length, getD, set}
+use lib.ListN.{length, take, getD, set}
 use Rattle.ground.specs.Cases.{pick}
 use Rattle.ground.specs.Lists.{tableAfter}
 use Rattle.ground.specs.Refusals.{Said, granted}
@@ -20,6 +20,11 @@ at-word (x ∷ xs) (suc i) h = at-word xs i (h .1)
 
 pub low : (n : ℕ) → n < 4294967296 → lowWord n ≡ n
 low n h = omega arith
+
+-- n words have no room for what stands behind n values
+pub as-many : (on : Bool) (old a b : List ℕ) (n : ℕ) → length old ≡ n → take n a ≡ take n b → toldAfter on a old ≡ toldAfter on b old
+as-many on old a b n e same =
+    ap (λ (m : ℕ). pick on (take m a) old) e ∙ ap (λ (l : List ℕ). pick on l old) same ∙ ap (λ (m : ℕ). pick on (take m b) old) (sym e)
 
 -- what is told is what is said
 pub told-by-places : (on : Bool) (said : Said) (old : List ℕ) → ((i : ℕ) → getD (said .values) i 0 < 4294967296)

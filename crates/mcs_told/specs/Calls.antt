@@ -11,6 +11,8 @@ use Rattle.ground.specs.Refusals.{Said, Left}
 use Rattle.catalogue_titles.specs.declared.Part.{Part}
 use Rattle.catalogue_titles.specs.Titles.{partValues}
 use Rattle.desk_state.specs.declared.Desk.{Desk}
+use Rattle.desk_goto.specs.declared.Arrival.{Arrival}
+use Rattle.desk_goto.specs.Manual.{madeValues, placeValues}
 use Rattle.mcs_state.specs.Codec.{deskOf, deskOctets}
 use Rattle.mcs_told.specs.declared.Told.{Told}
 
@@ -70,6 +72,13 @@ offsetAfter said old = toldAfter (carries said) (pick (carriesTwo said) (getD (s
 -- the words for a title's part; as they were where it is refused
 abbrev pub partAfter : Left Part → List ℕ → List ℕ
 partAfter l old = toldAfter (l .said .isGranted) (partValues (l .state)) old
+
+-- the words for what a manual's Goto comes to, and those for where the player would be; as they were where it is refused
+abbrev pub madeAfter : Left Arrival → List ℕ → List ℕ
+madeAfter l old = toldAfter (l .said .isGranted) (madeValues (l .state)) old
+
+abbrev pub arrivalAfter : Left Arrival → List ℕ → List ℕ
+arrivalAfter l old = toldAfter (l .said .isGranted) (placeValues (l .state)) old
 
 -- the octets of the next state, or as they were
 abbrev pub stateAfter : Left Desk → List ℕ → List ℕ

@@ -6,6 +6,7 @@ ghost use lib.ListN.{length as len, getD};
 ghost use Rattle.ground.specs.Cases.{pick};
 ghost use Rattle.catalogue_titles.specs.Titles.{partValues};
 ghost use Rattle.desk_replies.specs.Replies.{saidOf, leftBy};
+ghost use Rattle.desk_goto.specs.Manual.{madeValues, placeValues};
 ghost use Rattle.card_load.specs.Load.{saidOf as loadSaidOf};
 ghost use Rattle.card_write.specs.Write.{saidOf as writeSaidOf};
 ghost use Rattle.ground.specs.Refusals.{refusalOf, granted as grantedWith};
@@ -213,6 +214,24 @@ pub fn tell_part(on: bool, title: catalogue_titles::Part, part: &mut [u32])
     let which = text_number(title.renamed);
     let values = [which, title.offset, title.len, 0];
     tell(on, values, part);
+}
+
+// What a manual's Goto comes to, and where the player would be, over the words that the caller has for them, where `on` says so.
+pub fn tell_arrival(on: bool, a: desk_goto::Arrival, made: &mut [u32], place: &mut [u32])
+    requires { ⌜ len (now made) ≡ 2 ⌝ }
+    requires { ⌜ len (now place) ≡ 4 ⌝ }
+    ensures { λ _. ⌜ now (made .exit) ≡ toldAfter on (madeValues a) (now (made .entry)) ⌝ }
+    ensures { λ _. ⌜ now (place .exit) ≡ toldAfter on (placeValues a) (now (place .entry)) ⌝ }
+{
+    let steps = [a.outcome as u32, a.steps, 0, 0];
+    tell(on, steps, made);
+    let there = [
+        a.place.group.0,
+        a.place.track.0,
+        a.place.position.0,
+        a.place.rest,
+    ];
+    tell(on, there, place);
 }
 
 // What every call on the state does at its end.

@@ -1,15 +1,16 @@
-// Plays a script of the thirteen calls on the whole from standard input, over the sample catalogue of document 01, and writes a line for each call: its answer;
+// Plays a script of the fourteen calls on the whole from standard input, over the sample catalogue of document 01, and writes a line for each call: its answer;
 // and for each of the two services the media state, order and both speeds; the group, track and position, with + and the rest of the clock where there is one,
 // and the named next track, or - where none is named; and each of the four clients, as ATT_MTU: subscribed; owed; waiting results, or - while it is
 // unconnected. A ! ends the line where lent octets behind the answer did not stay.
 // A frame of the script: an octet for the catalogue (0 the sample, 1 the sample with long titles, 2 and 3 wrong ones, 4 the sample with segments close to each
 // other, 5 the sample with recordings that are still running, 6 the sample with two titles that are not UTF-8, 7 the same with wrong groups, 8 the sample with
 // folders, 9 one of 64 groups and 256 tracks), one for the call (0 a note, 1 to 12 in document 01's order from start to take, 13 damage to the state, 14 other
-// titles, 15 the title), one for the client, one for the service and one for the characteristic, a little endian word that the call takes, an octet for the
-// room of the lent output, two, little endian, for the length of the text, the text. The text of a start: an octet with the length of service 0's name, that
-// name, a little endian word with service 1's mask, an octet with its Content Control ID, and service 1's name; what is missing counts as 0, and names as what
-// is there. Other titles are lent from their frame on, and have a line without a state: where the octet of the characteristic is 1, nothing is renamed, as in
-// the beginning; else the word is how many words the entries have, and the text is these, little endian, and then the office's text.
+// titles, 15 the title, 16 the manual's Goto), one for the client, one for the service and one for the characteristic, a little endian word that the call
+// takes, an octet for the room of the lent output, two, little endian, for the length of the text, the text. The text of a start: an octet with the length of
+// service 0's name, that name, a little endian word with service 1's mask, an octet with its Content Control ID, and service 1's name; what is missing counts
+// as 0, and names as what is there. Other titles are lent from their frame on, and have a line without a state: where the octet of the characteristic is 1,
+// nothing is renamed, as in the beginning; else the word is how many words the entries have, and the text is these, little endian, and then the office's text.
+// The text of a manual's Goto: little endian words, the allowed steps and the opcode.
 ghost use Prim.Native.Nat.{_-_, _<_, _≤_};
 ghost use lib.ListN.{length};
 ghost use Rattle.desk_slots.specs.Slots.{slotCount};
@@ -612,6 +613,58 @@ fn title<'a>(
     d
 }
 
+// What the manual's Goto comes to, the steps made, and where the player would be; or the refusal.
+fn write_arrival(answer: Answer, a: desk_goto::Arrival) {
+    match answer {
+        Answer::Done => {
+            io::write_all(1, b"goto");
+            write_number(a.outcome as u32);
+            write_number(a.steps);
+            io::write_all(1, b" at");
+            write_number(a.place.group.0);
+            write_number(a.place.track.0);
+            write_number(a.place.position.0);
+            write_rest(a.place.rest);
+        }
+        _ => {
+            write_answer(answer);
+        }
+    }
+}
+
+// The manual's Goto: the number stands in the frame, the allowed steps and the opcode in the text.
+fn manual_goto(
+    groups: &[u32],
+    tracks: &[u32],
+    segments: &[u32],
+    text: &[u8],
+    renames: &[u32],
+    office: &[u8],
+    d: desk_state::Desk,
+    c: Ask,
+    words: &[u8],
+) -> desk_state::Desk {
+    let s = desk_goto::manual_goto(
+        groups,
+        tracks,
+        segments,
+        text,
+        renames,
+        office,
+        d,
+        c.service,
+        word(rest(words, 4)),
+        c.number,
+        word(words),
+    );
+    let answer = s.answer;
+    let arrival = s.arrival;
+    write_arrival(answer, arrival);
+    write_state(d);
+    io::write_all(1, b"\n");
+    d
+}
+
 // The player elsewhere, and nothing else of it altered.
 fn with_place(
     p: player_state::Player,
@@ -986,6 +1039,7 @@ fn call_client<'a>(
         )),
         12 => take(groups, tracks, segments, text, renames, office, d, c),
         15 => title(groups, tracks, segments, text, renames, office, d, c),
+        16 => manual_goto(groups, tracks, segments, text, renames, office, d, c, words),
         _ => damaged(d, c),
     }
 }

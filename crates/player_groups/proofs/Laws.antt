@@ -1,16 +1,16 @@
--- What a group move tells the layers above: from a group that is there and has tracks it leads to such a group. Assumes nothing.
-use mathlib.Core.Path.{_≡_, refl, _∙_}
+-- What a group move tells the layers above: from a group that is there and has tracks it leads to such a group, whose siblings are the same. Assumes nothing.
+use mathlib.Core.Path.{_≡_, refl, sym, ap, _∙_}
 use mathlib.Core.Bool.{true, false, _&&_, not}
 use mathlib.Core.Logic.{⊎-elim}
 use mathlib.Core.List.{List, [], _∷_}
 use Prim.Native.Nat.{ℕ, zero, suc, _+_, _<_, _≤_, suc-le-suc}
 use native.Mathlib.Nat.{lt-irrefl}
 use native.Mathlib.Omega.{arith}
-use borrow.Author.Tests.{eq-eqb}
+use borrow.Author.Tests.{eq-eqb, eqb-true}
 use lib.Dec.{eqb}
 use lib.ListN.{length, getD}
 use Rattle.ground.specs.Lists.{span, those}
-use Rattle.ground.proofs.Cases.{le-or, clash, and-right}
+use Rattle.ground.proofs.Cases.{le-or, clash, and-left, and-right}
 use Rattle.catalogue_tables.specs.Tables.{groupCount, parentOf, tracksIn}
 use Rattle.player_walk.specs.Steps.{at, then, moveIn}
 use Rattle.player_walk.specs.Places.{placeAfter}
@@ -19,7 +19,7 @@ use Rattle.player_walk.specs.declared.Near.the-variants.{At, Nothing}
 use Rattle.player_walk.specs.declared.Step.{Step}
 use Rattle.player_groups.specs.Family.{isSibling, siblings, Current}
 use Rattle.player_groups.proofs.Rising.{each}
-use Rattle.player_groups.proofs.Moves.{lone-move, sibling-move}
+use Rattle.player_groups.proofs.Moves.{line-is, lone-move, sibling-move}
 
 -- what was found in a list is one of its elements
 from-at : (P : ℕ → Type 0) (l : List ℕ) (k h : ℕ) → ((j : ℕ) → j < length l → P (getD l j 0)) → at l k ≡ At h → P h
@@ -60,3 +60,14 @@ stays-current step groups g h c e = ⊎-elim other lone (le-or 1 g)
         from-then (Current groups) (those (isSibling groups g) (span 0 (groupCount groups))) (placeAfter step false n k) h
         (λ j l. each (isSibling groups g) (Current groups) (groupCount groups) 0 j passes l)
         (sibling-move groups g c (λ z. lt-irrefl 0 (omega arith)) (groupCount groups) k n refl refl refl step (placeAfter step false n k) refl ∙ e)
+
+-- the siblings of a sibling are those of the group itself
+pub same-siblings : (groups : List ℕ) (g h : ℕ) → (g ≡ 0 → ⊥) → isSibling groups g h ≡ true → siblings groups h ≡ siblings groups g
+same-siblings groups g h other t =
+    let front = not (eqb h 0) && eqb (parentOf groups h) (parentOf groups g) in
+    let both : front ≡ true = and-left front (not (eqb (tracksIn groups h) 0)) t in
+    let far : h ≡ 0 → ⊥ = λ z. lt-irrefl 0 (omega (arith, used h (and-left (not (eqb h 0)) (eqb (parentOf groups h) (parentOf groups g)) both), z)) in
+    let parent : parentOf groups h ≡ parentOf groups g = eqb-true _ _ (and-right (not (eqb h 0)) (eqb (parentOf groups h) (parentOf groups g)) both) in
+    line-is groups h far
+    ∙ ap (λ (q : ℕ). those (λ y. not (eqb y 0) && eqb (parentOf groups y) q && not (eqb (tracksIn groups y) 0)) (span 0 (groupCount groups))) parent
+    ∙ sym (line-is groups g other)

@@ -22,16 +22,16 @@ use Rattle.player_walk.proofs.Walk.{move-is}
 use Rattle.player_groups.specs.Family.{isSibling, siblings, Current}
 use Rattle.player_groups.proofs.Rising.{placed, stands}
 
-alone-is : (groups : List ℕ) (g : ℕ) → g ≡ 0 → siblings groups g ≡ 0 ∷ []
+pub alone-is : (groups : List ℕ) (g : ℕ) → g ≡ 0 → siblings groups g ≡ 0 ∷ []
 unfolding siblings
 alone-is groups g e = rw (eq-eqb g 0 e)
 
-line-is : (groups : List ℕ) (g : ℕ) → (g ≡ 0 → ⊥) → siblings groups g ≡ those (isSibling groups g) (span 0 (groupCount groups))
+pub line-is : (groups : List ℕ) (g : ℕ) → (g ≡ 0 → ⊥) → siblings groups g ≡ those (isSibling groups g) (span 0 (groupCount groups))
 unfolding siblings
 line-is groups g n = rw (ne-eqb g 0 n)
 
 -- of one element alone
-lone-apart : (k : ℕ) → k < 1 → place (getD (0 ∷ []) k 0) (0 ∷ []) ≡ k
+pub lone-apart : (k : ℕ) → k < 1 → place (getD (0 ∷ []) k 0) (0 ∷ []) ≡ k
 lone-apart zero h = refl
 lone-apart (suc k) h = absurd (not-suc-le-zero (le-of-suc-le-suc h))
 
@@ -62,7 +62,7 @@ module _ (groups : List ℕ) (g : ℕ) (current : Current groups g) (other : g �
       rw (zero-add, ne-eqb g 0 other, eq-eqb (parentOf groups g) (parentOf groups g) refl, ne-eqb (tracksIn groups g) 0 (λ e. lt-irrefl 0 (omega arith)))
 
   module _ (b k n : ℕ) (eb : b ≡ groupCount groups) (ek : k ≡ length (those (isSibling groups g) (span 0 g))) (en : n ≡ length (those (isSibling groups g) (span 0 b))) where
-    its-place : (k < n) × (getD (those (isSibling groups g) (span 0 b)) k 0 ≡ g)
+    pub its-place : (k < n) × (getD (those (isSibling groups g) (span 0 b)) k 0 ≡ g)
     its-place =
         let t : g < groupCount groups = current .there in
         let s = stands (isSibling groups g) b 0 g (omega arith) own in

@@ -23,7 +23,7 @@ fn is_sibling(groups: &[u32], g: catalogue_tables::GroupNo, h: catalogue_tables:
 }
 
 // How many siblings of g have a number below the bound.
-fn siblings_below(
+pub fn siblings_below(
     groups: &[u32],
     g: catalogue_tables::GroupNo,
     bound: catalogue_tables::GroupNo,
@@ -46,7 +46,7 @@ fn siblings_below(
 }
 
 // The sibling at place k, of those with a number below the bound.
-fn nth_sibling(
+pub fn nth_sibling(
     groups: &[u32],
     g: catalogue_tables::GroupNo,
     bound: catalogue_tables::GroupNo,

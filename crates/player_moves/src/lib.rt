@@ -16,13 +16,13 @@ ghost use Rattle.player_moves.specs.Control.{success, failed, onward, en
 ghost use Rattle.player_moves.specs.Clock.{isBelow, staysBelow, playedOn, soughtOn, advanced, positioned, groupWritten, activated};
 
 // The result codes of the control point (document 01, "Player rules").
-const SUCCESS: u8 = 1;
+pub const SUCCESS: u8 = 1;
 
-const NOT_SUPPORTED: u8 = 2;
+pub const NOT_SUPPORTED: u8 = 2;
 
-const PLAYER_INACTIVE: u8 = 3;
+pub const PLAYER_INACTIVE: u8 = 3;
 
-const CANNOT_COMPLETE: u8 = 4;
+pub const CANNOT_COMPLETE: u8 = 4;
 
 // A result code, and the player afterwards.
 pub struct Controlled {
@@ -49,7 +49,7 @@ fn undone(p: player_state::Player, result: u8) -> Controlled
 }
 
 // What Next Segment leads to past the last start of a track.
-fn past_last(tracks: &[u32], t: catalogue_tables::TrackNo) -> player_segments::NearPosition
+pub fn past_last(tracks: &[u32], t: catalogue_tables::TrackNo) -> player_segments::NearPosition
     ensures { λ r. ⌜ nearPosition r ≡ pastLast (now (tracks .entry)) (t .0) ⌝ }
 {
     if catalogue_tables::is_running(tracks, t) {
@@ -202,7 +202,7 @@ fn entry(
     player_orders::entry_track(tracks, order, first, count)
 }
 
-fn enter(
+pub fn enter(
     groups: &[u32],
     tracks: &[u32],
     p: player_state::Player,

@@ -74,7 +74,7 @@ fn count_below(
 }
 
 // The place of t in the order, counted from 0: how many come before it.
-fn rank(
+pub fn rank(
     tracks: &[u32],
     by: By,
     first: catalogue_tables::TrackNo,
@@ -114,7 +114,13 @@ fn nth_of_few(
 }
 
 // The track at place k of the order. Of many, its key is found by halving the range of keys, in 64 scans.
-fn nth(tracks: &[u32], by: By, first: catalogue_tables::TrackNo, count: u32, k: usize) -> NearTrack
+pub fn nth(
+    tracks: &[u32],
+    by: By,
+    first: catalogue_tables::TrackNo,
+    count: u32,
+    k: usize,
+) -> NearTrack
     requires { ⌜ Run (length (now tracks)) (first .0) count ⌝ }
     ensures { λ r. ⌜ nearTrack r ≡ at (ordered by (now (tracks .entry)) (first .0) count) k ⌝ }
 {

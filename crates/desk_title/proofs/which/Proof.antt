@@ -1,17 +1,16 @@
 -- `desk_title::which`: its rows, and then where the title of the service's player stands.
-use mathlib.Core.Path.{refl, ap, _∙_}
+use mathlib.Core.Path.{ap, _∙_}
 use mathlib.Core.List.{List, []}
 use borrow.Author.Tests.{leb-false, not-true, not-false}
 use Rattle.ground.specs.Refusals.{granted, leaves, keeping, Row}
 use Rattle.ground.proofs.Rows.{NoneApplies, through}
-use Rattle.catalogue_titles.specs.declared.Part.{Part}
 use Rattle.catalogue_titles.specs.Titles.{front}
 use Rattle.catalogue_titles.specs.Lent.{Lent, lending}
 use Rattle.player_values.specs.Values.{titlePart}
 use Rattle.desk_state.specs.declared.Service.{Service}
-use Rattle.desk_replies.specs.Replies.{saidOf}
+use Rattle.desk_replies.specs.Replies.{onService, saidOf}
 use Rattle.desk_replies.proofs.Gates.{refuses, none}
-use Rattle.desk_title.specs.Title.{titleRows, titleCall}
+use Rattle.desk_title.specs.Title.{titleCall}
 use borrow.Author.Needs.{needs}
 use Rattle.desk_title.proofs.which.Statement.{statement}
 use Rattle.desk_title.proofs.which.Tie as tie
@@ -23,7 +22,7 @@ abbrev begun : tie.After-service-gate → tie.Start
 begun g = g .before .before .before .before .before .before .before
 
 abbrev rows : tie.Start → List Row
-rows s = titleRows (lent s) (s .args .d) (s .args .service)
+rows s = onService (lent s) (s .args .d) (s .args .service)
 
 passed : (e : tie.Else1) → NoneApplies (rows (begun (e .before .before)))
 passed e = let g = e .before .before in none (rows (begun g)) (g .service-gate .result) (g .service-gate .ensures) (not-false _ (e .if1 .left))

@@ -1,0 +1,4 @@
+-- The laws that belong to no one function.
+pub mod Standing
+pub mod Settled
+pub mod Agree

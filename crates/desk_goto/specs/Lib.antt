@@ -1,0 +1,2 @@
+-- What the contract names.
+pub mod Manual

@@ -1,0 +1,4 @@
+-- The laws that belong to no one function.
+pub mod Ends
+pub mod Agree
+pub mod Counted

@@ -1,0 +1,2 @@
+-- The manual's Goto of a player.
+pub mod Goto

@@ -1,0 +1,5 @@
+-- The laws that belong to no one function.
+pub mod Steps
+pub mod Places
+pub mod Along
+pub mod Leads

@@ -1,0 +1,2 @@
+-- The manual's Goto: First or Last, and then single steps, as many as are allowed.
+pub mod Made

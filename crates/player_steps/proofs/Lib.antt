@@ -1,0 +1,4 @@
+-- The laws that belong to no one function.
+pub mod Tracks
+pub mod Groups
+pub mod Segments

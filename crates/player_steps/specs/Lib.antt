@@ -1,0 +1,2 @@
+-- Single steps along tracks, groups and segments.
+pub mod Stepping
