@@ -1794,10 +1794,10 @@ uint32_t ref_start(REF_CATALOGUE, REF_TITLES, const uint8_t *name0, size_t name0
 /* W-208: "219, service number over 1, after 202" */
 static uint32_t service_row(uint32_t service) { return service < REF_SERVICES ? 0 : SERVICE_OVER_1; }
 
-/* The rows 201 and 219 of a call to a service that no client makes. */
-static uint32_t service_rows(const catalogue *c, const ref_state *state, uint32_t service)
+/* The rows of a call to a service that no client makes: those of what is lent, which were asked, and then 201 and 219. */
+static uint32_t service_rows(uint32_t lent, const catalogue *c, const ref_state *state, uint32_t service)
 {
-    return state_stands(c, state) ? service_row(service) : STATE_WRONG;
+    return lent != 0 ? lent : state_stands(c, state) ? service_row(service) : STATE_WRONG;
 }
 
 uint32_t ref_set_name(REF_CATALOGUE, REF_TITLES, ref_state *state, uint32_t service, const uint8_t *name, size_t name_len, REF_PLACE)
@@ -1807,11 +1807,7 @@ uint32_t ref_set_name(REF_CATALOGUE, REF_TITLES, ref_state *state, uint32_t serv
     uint32_t refusal;
     size_t front;
 
-    refusal = LEND_TITLES(c);
-    if (refusal != 0) {
-        return refusal;
-    }
-    refusal = service_rows(&c, state, service);
+    refusal = service_rows(LEND_TITLES(c), &c, state, service);
     if (refusal != 0) {
         return refusal;
     }
@@ -1837,11 +1833,7 @@ uint32_t ref_activate(REF_CATALOGUE, REF_TITLES, ref_state *state, uint32_t serv
     ref_player before, *p;
     uint32_t refusal;
 
-    refusal = LEND_TITLES(c);
-    if (refusal != 0) {
-        return refusal;
-    }
-    refusal = service_rows(&c, state, service);
+    refusal = service_rows(LEND_TITLES(c), &c, state, service);
     if (refusal != 0) {
         return refusal;
     }
@@ -1864,11 +1856,7 @@ uint32_t ref_deactivate(REF_CATALOGUE, REF_TITLES, ref_state *state, uint32_t se
     ref_player before, *p;
     uint32_t refusal;
 
-    refusal = LEND_TITLES(c);
-    if (refusal != 0) {
-        return refusal;
-    }
-    refusal = service_rows(&c, state, service);
+    refusal = service_rows(LEND_TITLES(c), &c, state, service);
     if (refusal != 0) {
         return refusal;
     }
@@ -1887,11 +1875,7 @@ uint32_t ref_advance(REF_CATALOGUE, REF_TITLES, ref_state *state, uint32_t servi
     uint32_t refusal;
     int quiet = 0;
 
-    refusal = LEND_TITLES(c);
-    if (refusal != 0) {
-        return refusal;
-    }
-    refusal = service_rows(&c, state, service);
+    refusal = service_rows(LEND_TITLES(c), &c, state, service);
     if (refusal != 0) {
         return refusal;
     }
@@ -2266,11 +2250,7 @@ uint32_t ref_title(REF_CATALOGUE, REF_TITLES, const ref_state *state, uint32_t s
     catalogue c;
     uint32_t refusal;
 
-    refusal = LEND_TITLES(c);
-    if (refusal != 0) {
-        return refusal;
-    }
-    refusal = service_rows(&c, state, service);
+    refusal = service_rows(LEND_TITLES(c), &c, state, service);
     if (refusal != 0) {
         return refusal;
     }
@@ -2286,11 +2266,7 @@ uint32_t ref_manual_goto(REF_CATALOGUE, REF_TITLES, const ref_state *state, uint
     ref_player p;
     uint32_t refusal;
 
-    refusal = LEND_TITLES(c);
-    if (refusal != 0) {
-        return refusal;
-    }
-    refusal = service_rows(&c, state, service);
+    refusal = service_rows(LEND_TITLES(c), &c, state, service);
     if (refusal != 0) {
         return refusal;
     }
