@@ -1,5 +1,5 @@
--- What the call answers where it is accepted: with |n| or more allowed, the result of the service's control point for the same opcode and number, and the place where it
--- leaves the player; and whatever is allowed, what is counted. Assumes nothing.
+-- What the call answers where it is accepted: with |n| or more allowed, the result of the service's control point for the same opcode and number, and the
+-- place where it leaves the player; and whatever is allowed, what is counted. Assumes nothing.
 use mathlib.Core.Path.{_≡_, ap, _∙_}
 use mathlib.Core.Bool.{true}
 use mathlib.Core.List.{[]}

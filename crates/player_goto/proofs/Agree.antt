@@ -1,5 +1,5 @@
--- With |n| or more allowed the manual's Goto comes to what the present one comes to, of segments, tracks and groups by one argument: `player_manual`'s, that single
--- steps lead where a Goto leads which is by definition First or Last and then steps. And what is counted, whatever is allowed. Assumes nothing.
+-- With |n| or more allowed the manual's Goto comes to what the present one comes to, of segments, tracks and groups by one argument: `player_manual`'s, that
+-- single steps lead where a Goto leads which is by definition First or Last and then steps. And what is counted, whatever is allowed. Assumes nothing.
 use mathlib.Core.Path.{_≡_, refl, sym, ap, subst}
 use mathlib.Core.Bool.{Bool, true, false, not, _||_}
 use mathlib.Core.Logic.{_⊎_, inl, inr, ⊎-elim}

@@ -31,8 +31,8 @@ use Rattle.player_moves.proofs.Ready.{current, current-run}
 use Rattle.player_goto.specs.declared.Gone.{Gone}
 use Rattle.player_goto.specs.Goto.{ranOut, went, fromPosition, fromTrack, fromGroup, ended, segmentGone, trackGone, groupGone, isGoto, gone}
 
--- of the four ways to end, with m steps to make: all were made, and so many were allowed; "Results 2 and 3 come first, count 0."; a step could not be made, and is
--- counted and was allowed; or the allowed steps ran out, of which there were too few. But for the first, nothing moves
+-- of the four ways to end, with m steps to make: all were made, and so many were allowed; "Results 2 and 3 come first, count 0."; a step could not be made,
+-- and is counted and was allowed; or the allowed steps ran out, of which there were too few. But for the first, nothing moves
 abbrev AllMade : ℕ → ℕ → Gone → Type 0
 AllMade allowed m g = (g .outcome ≡ 1) × (g .steps ≡ m) × (m ≤ allowed)
 

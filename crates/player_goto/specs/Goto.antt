@@ -1,5 +1,5 @@
--- The manual's Goto of a player (document 02, W-213): "a second player of the three Gotos that really makes First or Last and then each step, up to a given number of
--- steps."
+-- The manual's Goto of a player (document 02, W-213): "a second player of the three Gotos that really makes First or Last and then each step, up to a given
+-- number of steps."
 -- Assumes nothing.
 use mathlib.Core.Bool.{Bool, not, _&&_, _||_}
 use mathlib.Core.List.{List}
@@ -28,8 +28,8 @@ ranOut = 0
 abbrev pub went : ℕ → Controlled → Gone
 went steps c = record { outcome = c .result; steps = steps; player = c .player }
 
--- the player's own moves, each from where it is then: at a position of its track; on a track of its group, by the order alone, so that "Steps use no named track";
--- in a group, of whose place a group move looks at nothing else
+-- the player's own moves, each from where it is then: at a position of its track; on a track of its group, by the order alone, since Goto's steps use no
+-- named track (W-209); in a group, of whose place a group move looks at nothing else
 abbrev pub fromPosition : List ℕ → List ℕ → Player → Step → ℕ → Near
 fromPosition tracks segments p step x = segmentAfter tracks segments step (atPosition x p)
 
@@ -39,7 +39,8 @@ fromTrack groups tracks p step t = trackAfter groups tracks step (atPlace (p .pl
 abbrev pub fromGroup : List ℕ → Player → Step → ℕ → Near
 fromGroup groups p step g = groupAfter groups step (atPlace g 0 0 p)
 
--- on from where all steps led; "Where a step cannot be made it stops there, .. and result 4 stands. If the allowed steps run out .., it says so, .. and nothing moves."
+-- on from where all steps led; "Where a step cannot be made it stops there, .. and result 4 stands. If the allowed steps run out .., it says so, .. and
+-- nothing moves."
 abbrev pub ended : Made → (ℕ → Controlled) → Player → Gone
 ended (All x steps) f p = went steps (f x)
 ended (Stopped steps) f p = went steps (failed 4 p)

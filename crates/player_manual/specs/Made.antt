@@ -1,5 +1,5 @@
--- The manual's Goto (document 02, W-213): "really makes First or Last and then each step, up to a given number of steps. Its answer carries the steps made, First or
--- Last counted". Of any player of the five moves that `player_walk` has, on numbers of any meaning: tracks, groups, positions.
+-- The manual's Goto (document 02, W-213): "really makes First or Last and then each step, up to a given number of steps. Its answer carries the steps made,
+-- First or Last counted". Of any player of the five moves that `player_walk` has, on numbers of any meaning: tracks, groups, positions.
 -- Assumes nothing.
 use Prim.Native.Nat.{ℕ, zero, suc, _+_}
 use mathlib.Core.Bool.{Bool}
@@ -24,7 +24,8 @@ abbrev pub counted : Near → (ℕ → Made) → Made
 counted (At x) go = more 1 (go x)
 counted Nothing go = Stopped 1
 
--- m steps from x, of which so many are allowed; "If the allowed steps run out before the last step or such a stop, it says so, the count is the number allowed"
+-- m steps from x, of which so many are allowed; "If the allowed steps run out before the last step or such a stop, it says so, the count is the number
+-- allowed"
 abbrev pub steps : (ℕ → Near) → ℕ → ℕ → ℕ → Made
 steps step allowed zero x = All x 0
 steps step zero (suc m) x = RanOut 0

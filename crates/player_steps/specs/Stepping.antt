@@ -1,5 +1,5 @@
--- The five moves along a group's tracks, along groups and along a track's segments, each step from where the last one led (document 02, W-213); and the outcomes of
--- the functions as numbers.
+-- The five moves along a group's tracks, along groups and along a track's segments, each step from where the last one led (document 02, W-213); and the
+-- outcomes of the functions as numbers.
 -- Assumes nothing.
 use mathlib.Core.Bool.{false}
 use mathlib.Core.List.{List}

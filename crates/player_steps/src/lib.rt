@@ -1,5 +1,5 @@
-// The manual's Goto along tracks, groups and segments. Tracks and groups are walked on their places, from the place where the Goto begins, and what stands at the
-// last place is looked up once; segments are walked from position to position.
+// The manual's Goto along tracks, groups and segments. Tracks and groups are walked on their places, and what stands at the last place is looked up once;
+// segments are walked from position to position.
 ghost use mathlib.Core.Path.{_≡_};
 ghost use Prim.Native.Nat.{_-_, _<_};
 ghost use lib.ListN.{length};
