@@ -12,7 +12,6 @@ use Rattle.player_walk.specs.Signed.{signedWord}
 use Rattle.player_manual.specs.Made.{size}
 use Rattle.player_moves.specs.declared.Controlled.{Controlled}
 use Rattle.player_moves.specs.Control.{controlled}
-use Rattle.player_goto.specs.declared.Gone.{Gone}
 use Rattle.player_goto.specs.Goto.{isGoto, gone}
 use Rattle.player_goto.proofs.Agree.{came, goto-agrees}
 use Rattle.player_goto.proofs.Counted.{Ends, goto-ends}
@@ -27,8 +26,8 @@ module _ (k : Lent) (d : Desk) (service opcode n allowed : ℕ) (accepts : accep
   passed : NoneApplies (onService k d service)
   passed = none-of (onService k d service) accepts
 
-  -- what the service's player comes to
-  shows : manualCall k d service opcode n allowed .state ≡ arrivalOf (gone (k .groups) (k .tracks) (k .segments) opcode n allowed (serviceAt d service .player))
+  -- what is shown is what the service's player comes to
+  pub shows : manualCall k d service opcode n allowed .state ≡ arrivalOf (gone (k .groups) (k .tracks) (k .segments) opcode n allowed (serviceAt d service .player))
   unfolding manualCall
   shows =
       state-of noArrival (onService k d service) (leaves (granted []) (arrivalOf (gone (k .groups) (k .tracks) (k .segments) opcode n allowed (serviceAt d service .player))))
@@ -45,10 +44,6 @@ module _ (k : Lent) (d : Desk) (service opcode n allowed : ℕ) (accepts : accep
     pub place-agrees : manualCall k d service opcode n allowed .state .place ≡ controlled (k .groups) (k .tracks) (k .segments) opcode n (serviceAt d service .player) .player .place
     place-agrees = ap (λ (a : Arrival). a .place) shows ∙ ap (λ (c : Controlled). c .player .place) agrees
 
-  -- and what is counted
-  pub call-ends : (g : Gone) × (manualCall k d service opcode n allowed .state ≡ arrivalOf g) × Ends allowed (size (signedWord n)) (serviceAt d service .player) g
-  call-ends = (
-    gone (k .groups) (k .tracks) (k .segments) opcode n allowed (serviceAt d service .player),
-    shows,
-    goto-ends n allowed (serviceAt d service .player) (k .groups) (k .tracks) (k .segments) (shaped-now k d service passed) (player-now k d service passed) opcode,
-  )
+  -- and what is counted of it
+  pub call-ends : Ends allowed (size (signedWord n)) (serviceAt d service .player) (gone (k .groups) (k .tracks) (k .segments) opcode n allowed (serviceAt d service .player))
+  call-ends = goto-ends n allowed (serviceAt d service .player) (k .groups) (k .tracks) (k .segments) (shaped-now k d service passed) (player-now k d service passed) opcode

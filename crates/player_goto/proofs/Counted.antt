@@ -36,8 +36,8 @@ use Rattle.player_goto.specs.Goto.{ranOut, went, fromPosition, fromTrack
 abbrev AllMade : ℕ → ℕ → Gone → Type 0
 AllMade allowed m g = (g .outcome ≡ 1) × (g .steps ≡ m) × (m ≤ allowed)
 
-abbrev First : Player → Gone → Type 0
-First p g = ((g .outcome ≡ 2) ⊎ (g .outcome ≡ 3)) × (g .steps ≡ 0) × (g .player ≡ p)
+abbrev NotBegun : Player → Gone → Type 0
+NotBegun p g = ((g .outcome ≡ 2) ⊎ (g .outcome ≡ 3)) × (g .steps ≡ 0) × (g .player ≡ p)
 
 abbrev CouldNot : ℕ → ℕ → Player → Gone → Type 0
 CouldNot allowed m p g = (g .outcome ≡ 4) × (0 < g .steps) × (g .steps ≤ m) × (g .steps ≤ allowed) × (g .player ≡ p)
@@ -46,7 +46,7 @@ abbrev TooFew : ℕ → ℕ → Player → Gone → Type 0
 TooFew allowed m p g = (g .outcome ≡ ranOut) × (g .steps ≡ allowed) × (allowed < m) × (g .player ≡ p)
 
 abbrev pub Ends : ℕ → ℕ → Player → Gone → Type 0
-Ends allowed m p g = AllMade allowed m g ⊎ (First p g ⊎ (CouldNot allowed m p g ⊎ TooFew allowed m p g))
+Ends allowed m p g = AllMade allowed m g ⊎ (NotBegun p g ⊎ (CouldNot allowed m p g ⊎ TooFew allowed m p g))
 
 module _ (n allowed : ℕ) (p : Player) where
   -- a walk that was counted, and what it ends with

@@ -1,4 +1,5 @@
 -- The laws that belong to no one function.
-pub mod Ends
+pub mod Reached
 pub mod Agree
 pub mod Counted
+pub mod Unnamed

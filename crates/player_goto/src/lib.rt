@@ -14,14 +14,14 @@ use player_steps::SegmentsMade;
 use player_steps::TracksMade;
 
 // The three opcodes.
-pub const GOTO_SEGMENT: u32 = 0x24;
+const GOTO_SEGMENT: u32 = 0x24;
 
-pub const GOTO_TRACK: u32 = 0x34;
+const GOTO_TRACK: u32 = 0x34;
 
-pub const GOTO_GROUP: u32 = 0x44;
+const GOTO_GROUP: u32 = 0x44;
 
 // What stands in place of a result code where the allowed steps ran out.
-pub const RAN_OUT: u8 = 0;
+const RAN_OUT: u8 = 0;
 
 // A result code, or that the allowed steps ran out; the steps made, First or Last and one that cannot be made counted; the player as it would be.
 pub struct Gone {
@@ -35,9 +35,9 @@ fn is_offered_goto(mask: u32, opcode: u32) -> bool
     ensures { λ r. ⌜ r ≡ (isGoto opcode && offered mask opcode) ⌝ }
 {
     match opcode {
-        0x24 => player_opcodes::is_offered(mask, 0x24),
-        0x34 => player_opcodes::is_offered(mask, 0x34),
-        0x44 => player_opcodes::is_offered(mask, 0x44),
+        GOTO_SEGMENT => player_opcodes::is_offered(mask, 0x24),
+        GOTO_TRACK => player_opcodes::is_offered(mask, 0x34),
+        GOTO_GROUP => player_opcodes::is_offered(mask, 0x44),
         _ => false,
     }
 }

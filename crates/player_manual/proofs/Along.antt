@@ -13,7 +13,8 @@ use Rattle.player_walk.specs.declared.Near.the-variants.{At, Nothing}
 use Rattle.player_walk.specs.declared.Step.{Step}
 use Rattle.player_walk.specs.declared.Step.the-variants.{Previous, Next, First, Last, Goto}
 use Rattle.player_walk.proofs.Walk.{at-is, move-is}
-use Rattle.player_manual.specs.Made.{more, counted, steps, fromEnd, gotoBySteps, bySteps, size, found, onPlaces, landed, onto}
+use Rattle.player_manual.specs.Made.{more, counted, steps, fromEnd, gotoBySteps, bySteps, size, found}
+use Rattle.player_manual.specs.Places.{onPlaces, landed, onto}
 use Rattle.player_manual.specs.declared.Made.{Made}
 use Rattle.player_manual.specs.declared.Made.the-variants.{All, Stopped, RanOut}
 use Rattle.player_manual.proofs.Places.{Holds, placed}

@@ -2,10 +2,8 @@
 -- First or Last counted". Of any player of the five moves that `player_walk` has, on numbers of any meaning: tracks, groups, positions.
 -- Assumes nothing.
 use Prim.Native.Nat.{ℕ, zero, suc, _+_}
-use mathlib.Core.Bool.{Bool}
 use lib.IntN.{ℤ, pos, negsuc}
 use Rattle.player_walk.specs.Signed.{signedWord}
-use Rattle.player_walk.specs.Places.{placeAfter}
 use Rattle.player_walk.specs.declared.Near.{Near}
 use Rattle.player_walk.specs.declared.Near.the-variants.{At, Nothing}
 use Rattle.player_walk.specs.declared.Step.{Step}
@@ -56,17 +54,3 @@ abbrev pub found : Made → Near
 found (All x n) = At x
 found (Stopped n) = Nothing
 found (RanOut n) = Nothing
-
--- the five moves on the places of a list of `len` elements
-abbrev pub onPlaces : Bool → ℕ → Step → ℕ → Near
-onPlaces repeat len step k = placeAfter step repeat len k
-
--- an outcome on the places of a list, with what stands at the place
-abbrev pub landed : Near → ℕ → Made
-landed (At x) n = All x n
-landed Nothing n = Stopped n
-
-abbrev pub onto : (ℕ → Near) → Made → Made
-onto what (All k n) = landed (what k) n
-onto what (Stopped n) = Stopped n
-onto what (RanOut n) = RanOut n

@@ -2,7 +2,8 @@
 ghost use mathlib.Core.Path.{_≡_};
 ghost use Prim.Native.Nat.{_-_, _<_};
 ghost use Rattle.player_walk.specs.Places.{placeAfter};
-ghost use Rattle.player_manual.specs.Made.{more, steps, fromEnd, bySteps, onPlaces};
+ghost use Rattle.player_manual.specs.Made.{more, steps, fromEnd, bySteps};
+ghost use Rattle.player_manual.specs.Places.{onPlaces};
 
 // How a Goto by single steps ends. Steps are counted, First or Last among them.
 pub enum Made {

@@ -18,7 +18,8 @@ use Rattle.player_walk.specs.declared.Step.{Step}
 use Rattle.player_walk.specs.declared.Step.the-variants.{Goto}
 use Rattle.player_manual.specs.declared.Made.{Made}
 use Rattle.player_manual.specs.declared.Made.the-variants.{All, Stopped, RanOut}
-use Rattle.player_manual.specs.Made.{bySteps, onPlaces, onto, size, found}
+use Rattle.player_manual.specs.Made.{bySteps, size, found}
+use Rattle.player_manual.specs.Places.{onPlaces, onto}
 use Rattle.player_manual.proofs.Places.{Holds, Within, placed}
 use Rattle.player_manual.proofs.Along.{Along, along-from, on-places, along-agrees}
 use Rattle.player_manual.proofs.Leads.{keeps, leads-to}

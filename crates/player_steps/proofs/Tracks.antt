@@ -13,7 +13,8 @@ use Rattle.player_walk.specs.Steps.{at, place, moveIn}
 use Rattle.player_walk.specs.declared.Near.{Near}
 use Rattle.player_walk.specs.declared.Step.{Step}
 use Rattle.player_walk.specs.declared.Step.the-variants.{Goto}
-use Rattle.player_manual.specs.Made.{bySteps, onPlaces, onto, size, found}
+use Rattle.player_manual.specs.Made.{bySteps, size, found}
+use Rattle.player_manual.specs.Places.{onPlaces, onto}
 use Rattle.player_manual.proofs.Along.{Along, along-from, on-places, along-agrees}
 use Rattle.player_orders.specs.declared.By.{By}
 use Rattle.player_orders.specs.Order.{ordered, byOf, repeats, InRun}

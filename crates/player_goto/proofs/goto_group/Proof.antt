@@ -7,7 +7,7 @@ use Rattle.player_steps.proofs.Groups.{leads-current}
 use Rattle.player_moves.specs.Moves.{groupAfter}
 use Rattle.player_moves.specs.Control.{entered}
 use Rattle.player_goto.specs.Goto.{fromGroup, ended, groupGone}
-use Rattle.player_goto.proofs.Ends.{reached}
+use Rattle.player_goto.proofs.Reached.{reached}
 use borrow.Author.Needs.{needs}
 use Rattle.player_goto.proofs.goto_group.Statement.{statement}
 use Rattle.player_goto.proofs.goto_group.Tie as tie

@@ -11,7 +11,7 @@ use Rattle.player_moves.specs.Moves.{segmentAfter}
 use Rattle.player_moves.specs.Control.{success}
 use Rattle.player_moves.proofs.Past.{past-starts}
 use Rattle.player_goto.specs.Goto.{fromPosition, ended, segmentGone}
-use Rattle.player_goto.proofs.Ends.{reached}
+use Rattle.player_goto.proofs.Reached.{reached}
 use borrow.Author.Needs.{needs}
 use Rattle.player_goto.proofs.goto_segment.Statement.{statement}
 use Rattle.player_goto.proofs.goto_segment.Tie as tie

@@ -7,7 +7,7 @@ use Rattle.player_steps.specs.Stepping.{alongTracks, tracksMade}
 use Rattle.player_moves.specs.Moves.{trackAfter}
 use Rattle.player_moves.specs.Control.{success}
 use Rattle.player_goto.specs.Goto.{fromTrack, ended, trackGone}
-use Rattle.player_goto.proofs.Ends.{reached}
+use Rattle.player_goto.proofs.Reached.{reached}
 use borrow.Author.Needs.{needs}
 use Rattle.player_goto.proofs.goto_track.Statement.{statement}
 use Rattle.player_goto.proofs.goto_track.Tie as tie

@@ -4,7 +4,8 @@ use mathlib.Core.List.{List}
 use Prim.Native.Nat.{ℕ}
 use Rattle.player_walk.specs.Steps.{at, place}
 use Rattle.player_manual.specs.declared.Made.{Made}
-use Rattle.player_manual.specs.Made.{bySteps, onPlaces, onto}
+use Rattle.player_manual.specs.Made.{bySteps}
+use Rattle.player_manual.specs.Places.{onPlaces, onto}
 use Rattle.player_manual.proofs.Along.{landing}
 use Rattle.player_orders.specs.Order.{ordered, nearTrack}
 use borrow.Author.Needs.{needs}

@@ -6,7 +6,8 @@ use Rattle.ground.specs.Lists.{span, those}
 use Rattle.player_walk.specs.declared.Near.the-variants.{At}
 use Rattle.player_walk.specs.Steps.{at}
 use Rattle.player_manual.specs.declared.Made.{Made}
-use Rattle.player_manual.specs.Made.{bySteps, onto}
+use Rattle.player_manual.specs.Made.{bySteps}
+use Rattle.player_manual.specs.Places.{onto}
 use Rattle.player_manual.proofs.Along.{landing}
 use Rattle.player_groups.specs.Family.{isSibling, nearGroup}
 use Rattle.player_groups.proofs.Moves.{place-within}
