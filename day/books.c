@@ -14,7 +14,7 @@ typedef struct {
     uint32_t open_count;
     uint32_t pressed, refused, unasked, results, dropped, missing, told;
     uint32_t wrong; /* results that were not those of the device's oldest press */
-    int knows[CHARACTERISTIC_BOUND];
+    int subscribed[CHARACTERISTIC_BOUND];
     known_value known[CHARACTERISTIC_BOUND];
 } page;
 
@@ -24,7 +24,7 @@ static page pages[MCS_CLIENTS][MCS_SERVICES];
 typedef struct {
     uint32_t all, wrong;
 } tally;
-static tally calls, takes, agreements, places, titles, folders, nexts, gotos;
+static tally calls, takes, runs, agreements, pairs, places, titles, folders, nexts, gotos;
 
 static int count(tally *t, int right)
 {
@@ -77,18 +77,44 @@ int book_result(uint32_t who, uint32_t service, uint8_t opcode)
 
 /* ---- What is known */
 
-void book_value(uint32_t who, uint32_t service, uint32_t characteristic, const uint8_t *octets, uint32_t length)
+static const known_value NOTHING_KNOWN;
+
+void book_subscribed(uint32_t who, uint32_t service, uint32_t characteristic)
+{
+    pages[who][service].subscribed[characteristic] = 1;
+    pages[who][service].known[characteristic] = NOTHING_KNOWN;
+}
+
+void book_changed(uint32_t service, uint32_t characteristic)
+{
+    uint32_t who;
+    for (who = 0; who < MCS_CLIENTS; who++) {
+        pages[who][service].known[characteristic].changed = pages[who][service].subscribed[characteristic];
+    }
+}
+
+void book_value(uint32_t who, uint32_t service, uint32_t characteristic, known_by by, const uint8_t *octets, uint32_t length)
 {
     known_value *known = &pages[who][service].known[characteristic];
-    pages[who][service].knows[characteristic] = 1;
-    known->length = length;
-    memcpy(known->octets, octets, length);
+    if (pages[who][service].subscribed[characteristic]) {
+        known->by = by;
+        known->length = length;
+        memcpy(known->octets, octets, length);
+    }
+}
+
+uint32_t a_subscriber(uint32_t service, uint32_t characteristic)
+{
+    uint32_t who = 0;
+    while (who < MCS_CLIENTS && !pages[who][service].subscribed[characteristic]) {
+        who++;
+    }
+    return who;
 }
 
 const known_value *value_known(uint32_t who, uint32_t service, uint32_t characteristic)
 {
-    const page *p = &pages[who][service];
-    return p->knows[characteristic] ? &p->known[characteristic] : NULL;
+    return &pages[who][service].known[characteristic];
 }
 
 void book_lent(void)
@@ -96,12 +122,14 @@ void book_lent(void)
     uint32_t who, service;
     for (who = 0; who < MCS_CLIENTS; who++) {
         for (service = 0; service < MCS_SERVICES; service++) {
-            pages[who][service].knows[MCS_TITLE] = 0;
+            pages[who][service].known[MCS_TITLE] = NOTHING_KNOWN;
         }
     }
 }
 
-int book_agreement(int agrees) { return count(&agreements, agrees); }
+int book_quiet(int right) { return count(&runs, right); }
+int book_agreement(int right) { return count(&agreements, right); }
+int book_alike(int right) { return count(&pairs, right); }
 int book_title(int right) { return count(&titles, right); }
 int book_folder(int right) { return count(&folders, right); }
 int book_next(int right) { return count(&nexts, right); }
@@ -133,7 +161,8 @@ void book_leave(uint32_t who, const uint32_t held[MCS_SERVICES])
         p->dropped += held[service];
         p->missing += p->open_count > held[service] ? p->open_count - held[service] : 0;
         p->open_count = 0;
-        memset(p->knows, 0, sizeof p->knows);
+        memset(p->subscribed, 0, sizeof p->subscribed);
+        memset(p->known, 0, sizeof p->known);
     }
 }
 
@@ -219,7 +248,11 @@ int print_books(void)
     others = print_tally("calls to one player", &calls,
                          "the other, and what it owed, was the same after each, and the title was owed where it changed");
     others += print_tally("takes", &takes, "each to the device and of the slot whose turn it was, through both players");
-    others += print_tally("values compared when nothing was owed", &agreements, "each device agreed with the player it follows");
+    others += print_tally("runs of takes", &runs,
+                          "after each nothing was owed, and it had as many takes as there were things owed before it");
+    others += print_tally("values compared when nothing was owed", &agreements,
+                          "what the device was last told, or itself wrote, was what its player had");
+    others += print_tally("values of a player that two devices show, compared then", &pairs, "both showed the same");
     others += print_tally("places of a tape", &places,
                           "each where the clock on the wall, the speed and what was pressed have it, with nothing lost");
     others += print_tally("titles told, read or asked for", &titles,

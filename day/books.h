@@ -23,18 +23,30 @@ open_press oldest_press(uint32_t who, uint32_t service);
 /* A result of a player is handed to a device. Whether it is that of its oldest press there, which it then answers. */
 int book_result(uint32_t who, uint32_t service, uint8_t opcode);
 
-/* What a device knows of a slot of a player: what it was when the device subscribed, was told since, or has itself read or
- * written. */
+/* What a device knows of a slot of a player since it subscribed. Document 02, W-214: "what the client last took, or itself wrote
+ * with success since"; of the two the later one. What it reads beside that does not count. */
+typedef enum { BY_NOTHING, BY_NOTIFICATION, BY_OWN_WRITE } known_by;
 typedef struct {
+    int changed; /* a call has changed the value since */
+    known_by by;
     uint32_t length;
     uint8_t octets[MCS_OUTPUT_OCTETS];
 } known_value;
-void book_value(uint32_t who, uint32_t service, uint32_t characteristic, const uint8_t *octets, uint32_t length);
 
-/* Null where it knows none. */
+/* A device subscribes, and knows nothing yet; a call has changed a value of a player, which every device that is subscribed to it
+ * has to know from now on; and a device is told a value, or writes it with success. */
+void book_subscribed(uint32_t who, uint32_t service, uint32_t characteristic);
+void book_changed(uint32_t service, uint32_t characteristic);
+void book_value(uint32_t who, uint32_t service, uint32_t characteristic, known_by by, const uint8_t *octets, uint32_t length);
+
+/* A device that is subscribed to a slot, or MCS_CLIENTS where none is. */
+uint32_t a_subscriber(uint32_t service, uint32_t characteristic);
+
+/* Of what a device is not subscribed to it knows nothing, and nothing has changed. */
 const known_value *value_known(uint32_t who, uint32_t service, uint32_t characteristic);
 
-/* Other titles are lent, of which no device is told: what they knew of titles is of those that were lent before. */
+/* Other titles are lent, of which no device is told. W-214 speaks of "one text of renamed titles": what the devices knew of a title
+ * is of those that were lent before, and they have to know it again when a call next changes it. */
 void book_lent(void);
 
 /* A device comes; and it goes, and of each player the desk held so many results for it. */
@@ -59,18 +71,24 @@ int book_folder(int right);
 int book_next(int right);
 int book_goto(int right);
 
-/* A call to one player, and whether it left the other alone and made the title owed where it changed it, and nowhere else. A value
- * that a device knows, and whether its player has that value. A title that a device is told or reads, or that the desk is asked
- * for, and whether it is that of the track, the office's or the card's; or a call with a wrong one, and whether it was refused.
- * Each hands back what it was told. */
+/* A call to one player, and whether it left the other alone and made the title owed where it changed it, and nowhere else. A title
+ * that a device is told or reads, or that the desk is asked for, and whether it is that of the track, the office's or the card's;
+ * or a call with a wrong one, and whether it was refused. Each hands back what it was told. */
 int book_call(int right);
-int book_agreement(int agrees);
 int book_title(int right);
 
+/* A run of takes alone, and whether nothing was owed after as many as there were things owed, MCS_MOST_OWED or fewer. A value that
+ * a device has to know when nothing is owed, and whether it knows the one that its player has; and one that two devices have to
+ * know, and whether they know the same. Each hands back what it was told. */
+int book_quiet(int right);
+int book_agreement(int right);
+int book_alike(int right);
+
 /* Prints the books. Whether every result went to the device that pressed, at its player, in the order of its presses, and none is
- * missing; every take was in turn; every call left the other player alone, and made the title owed rightly; every device agreed
- * with its players; every tape was where it had to be; every title was that of its track; every folder was the catalogue's; and
- * every Next Track and every Goto that was taught led where it should. */
+ * missing; every take was in turn, and every run of them ended in time; every call left the other player alone, and made the title
+ * owed rightly; every device agreed with its players, and with the other devices; every tape was where it had to be; every title
+ * was that of its track; every folder was the catalogue's; and every Next Track and every Goto that was taught led where it
+ * should. */
 int print_books(void);
 
 #endif

@@ -1,8 +1,8 @@
 /* An office's day on a card: four devices on one desk with two players, the generic one and a named one, over the same tables.
  * The pedals are at the generic player, the screen at the named one, and the headset at both. A person sees each result go to
  * the device that asked, a press at one player leave the other alone, the screen draw the folders and name a track in them, a tape
- * that goes slower than it was recorded, the titles that the typists' office gives to tracks beside the card's, and what Goto does
- * step by step.
+ * that goes slower than it was recorded, the titles that the typists' office gives to tracks beside the card's, what Goto does step
+ * by step, and that all four devices agree when things go quiet.
  *
  *     day [CARD]      the card's file; without one, the sample card
  *
@@ -326,23 +326,46 @@ static void afternoon(void)
     tell_all();
 }
 
-static void evening(void)
+static void evening(uint32_t first, uint32_t last)
 {
-    print_heading("Half past five: nothing is owed any more, and what each device knows of its player is what the player has");
-    set_order(SCREEN, NAMED, 5);
-    set_speed(SCREEN, NAMED, 32);
-    press(SCREEN, NAMED, MCS_OPCODE_LAST_TRACK);
-    press(LEFT_PEDAL, GENERIC, MCS_OPCODE_FAST_FORWARD);
-    tell_all();
-    show_agreement();
-
-    print_heading("Six o'clock: the desk closes a group at each player, and a device presses once more at each");
+    print_heading("Five o'clock: the desk closes a group at each player, a device presses once more at each, and it opens others");
     close_group(GENERIC);
     close_group(NAMED);
     press(RIGHT_PEDAL, GENERIC, MCS_OPCODE_PLAY);
     press(LEFT_PEDAL, GENERIC, MCS_OPCODE_NEXT_TRACK);
     press(HEADSET, NAMED, MCS_OPCODE_PLAY);
+    open_group(GENERIC, first);
+    open_group(NAMED, last);
     tell_all();
+}
+
+/* Document 02, W-214: whatever was pressed and written, after takes alone every device shows what its players have. */
+static void going_home(uint32_t first)
+{
+    listed_tracks listed = tracks_in(MCS_OBJECT_OF_GROUP(first));
+
+    print_heading("Half past five: everybody hurries, and no one is told. One writes an order back; tracks are named and gone to");
+    set_speed(RIGHT_PEDAL, GENERIC, 16);
+    set_order(RIGHT_PEDAL, GENERIC, 8);
+    set_order(HEADSET, GENERIC, 3);
+    set_object(LEFT_PEDAL, GENERIC, MCS_NEXT_TRACK_OBJECT, listed.last);
+    press(LEFT_PEDAL, GENERIC, MCS_OPCODE_NEXT_TRACK);
+    press(RIGHT_PEDAL, GENERIC, MCS_OPCODE_FAST_FORWARD);
+    rename_player(NAMED, "Reading room, which closes at six and opens at eight");
+    set_object(SCREEN, NAMED, MCS_GROUP_OBJECT, MCS_OBJECT_OF_GROUP(first));
+    set_object(SCREEN, NAMED, MCS_NEXT_TRACK_OBJECT, listed.last);
+    press(HEADSET, NAMED, MCS_OPCODE_NEXT_TRACK);
+    set_object(HEADSET, NAMED, MCS_NEXT_TRACK_OBJECT, listed.first);
+    set_order(HEADSET, NAMED, 6);
+    set_speed(SCREEN, NAMED, 32);
+    press(SCREEN, NAMED, MCS_OPCODE_PLAY);
+    let_pass(NAMED, 100);
+
+    print_heading("Six o'clock: things go quiet, and the desk only tells, with each take one thing that is owed, until none is");
+    go_quiet();
+
+    print_heading("What has changed since a device subscribed: as it was last told or itself wrote it, and as its player has it");
+    show_agreement();
     leave(LEFT_PEDAL);
     leave(RIGHT_PEDAL);
     leave(HEADSET);
@@ -407,6 +430,7 @@ int main(int count, char **words)
     training(first);
     noon();
     afternoon();
-    evening();
+    evening(first, last);
+    going_home(first);
     return print_books() ? 0 : 1;
 }

@@ -58,7 +58,7 @@ static void begin_entry(uint32_t who, uint32_t service, uint32_t depth, const ch
 static void print_mark(uint32_t who, uint32_t service, uint32_t characteristic, uint64_t object, const char *mark)
 {
     const known_value *known = value_known(who, service, characteristic);
-    if (known != NULL && known->length == MCS_OBJECT_OCTETS && mcs_object_at(known->octets) == object) {
+    if (known->length == MCS_OBJECT_OCTETS && mcs_object_at(known->octets) == object) {
         printf(", %s", mark);
     }
 }

@@ -3,6 +3,7 @@
 #include <stdio.h>
 #include <string.h>
 
+#include "agreement.h"
 #include "books.h"
 #include "lines.h"
 #include "must.h"
@@ -49,6 +50,18 @@ static uint32_t values_owed(uint32_t who, uint32_t service)
     uint32_t owed = owed_to(who, service), count = 0, slot;
     for (slot = 0; slot < SLOTS; slot++) {
         count += slot_at(slot) != MCS_CONTROL_POINT ? owed >> slot & 1u : 0;
+    }
+    return count;
+}
+
+/* Of both players and to all devices: document 02, W-214, counts values and waiting results, 168 at most. */
+static uint32_t things_owed(void)
+{
+    uint32_t who, service, count = 0;
+    for (who = 0; who < MCS_CLIENTS; who++) {
+        for (service = 0; service < MCS_SERVICES; service++) {
+            count += values_owed(who, service) + waiting_of(who, service);
+        }
     }
     return count;
 }
@@ -175,6 +188,9 @@ static int title_owed_rightly(uint32_t service)
 static uint32_t called(uint32_t service, uint32_t number)
 {
     int left_alone = others_left_alone(service), owed_rightly = title_owed_rightly(service);
+    if (number == MCS_OK) {
+        note_changes(&desk, before, service);
+    }
     if (!book_call(left_alone && owed_rightly)) {
         begin_desk_line("WRONG", service);
         printf("%s", left_alone ? "the title is owed otherwise than the call changed it" : "the other player was altered");
@@ -337,7 +353,8 @@ void introduce(void)
            "teach: a Goto by single steps, each made on a copy of the desk. manual: what the manual's Goto says of it.\n"
            "time: what passes by the clock on the wall; at speed p a tape goes 2 to the power p/64 as far, at -64 half as far.\n"
            "'0:15.02+32768' is where a tape is: its position, and the rest behind it in 65,536ths of a hundredth of a second.\n"
-           "The takes go round the devices, and within a device on from its last, through generic and then named.\n");
+           "The takes go round the devices, and within a device on from its last, through generic and then named.\n"
+           "agrees: what a device was last told, or itself wrote, and what its player has, as far as its ATT_MTU reaches.\n");
 }
 
 void open_group(uint32_t service, uint32_t group)
@@ -463,31 +480,7 @@ uint32_t hand_out(uint64_t folder, uint8_t octets[MCS_MOST_GROUP_OBJECT])
     return length;
 }
 
-/* ---- What a device knows */
-
-/* Whether a player can be asked for a value, to hold what a device knows against it. The position is left out: while it plays it
- * runs on, and nobody is told. */
-static int is_compared(uint32_t characteristic)
-{
-    return (properties_of(characteristic) & MCS_MAY_READ) != 0 && characteristic != MCS_POSITION;
-}
-
-/* As many octets of a value as a notification holds. */
-static uint32_t notified_of(uint32_t who, uint32_t length)
-{
-    uint32_t most = DEVICES[who].mtu - 3u;
-    return length < most ? length : most;
-}
-
-/* The present value, as far as a notification reaches. A copy of the desk is asked, since the desk itself would note that the
- * device has read it. */
-static uint32_t value_now(uint32_t who, uint32_t service, uint32_t characteristic, uint8_t out[MCS_OUTPUT_OCTETS])
-{
-    struct mcs_desk asked = desk;
-    uint32_t length = 0;
-    must(mcs_desk_read(&asked, who, service, characteristic, 0, out, MCS_OUTPUT_OCTETS, &length), "read");
-    return notified_of(who, length);
-}
+/* ---- Object numbers */
 
 static uint64_t object_in(const uint8_t *octets, uint32_t length)
 {
@@ -497,18 +490,15 @@ static uint64_t object_in(const uint8_t *octets, uint32_t length)
 static uint64_t object_now(uint32_t who, uint32_t service, uint32_t characteristic)
 {
     uint8_t now[MCS_OUTPUT_OCTETS];
-    return object_in(now, value_now(who, service, characteristic, now));
+    return object_in(now, value_now(&desk, who, service, characteristic, now));
 }
 
 /* ---- The devices */
 
 static void subscribe(uint32_t who, uint32_t service, uint32_t characteristic)
 {
-    uint8_t now[MCS_OUTPUT_OCTETS];
     must(AT_PLAYER(service, mcs_desk_subscribe(&desk, who, service, characteristic)), "subscribe");
-    if (is_compared(characteristic)) {
-        book_value(who, service, characteristic, now, value_now(who, service, characteristic, now));
-    }
+    book_subscribed(who, service, characteristic);
 }
 
 void join(uint32_t who)
@@ -642,8 +632,8 @@ static void write_value(uint32_t who, uint32_t service, uint32_t characteristic,
     if (number == MCS_OK && write_sets_position(service, characteristic, value)) {
         book_position_set(service);
     }
-    if (number == MCS_OK && wants(who, service, characteristic)) {
-        book_value(who, service, characteristic, value, len);
+    if (number == MCS_OK) {
+        book_value(who, service, characteristic, BY_OWN_WRITE, value, len);
     }
     begin_line("write", service, who);
     printf("%s ", mcs_characteristic_words(characteristic));
@@ -696,9 +686,6 @@ static uint32_t read_at(uint32_t who, uint32_t service, uint32_t characteristic,
         print_reply(number);
     }
     end_line();
-    if (number == MCS_OK && offset == 0 && wants(who, service, characteristic)) {
-        book_value(who, service, characteristic, out, notified_of(who, length));
-    }
     return number == MCS_OK ? length : NOT_READ;
 }
 
@@ -800,12 +787,6 @@ static void show_result(const struct mcs_served *served, const uint8_t *value)
     }
 }
 
-static void print_with_words(uint32_t characteristic, const uint8_t *value, uint32_t len)
-{
-    printf("%s%s", mcs_characteristic_words(characteristic), characteristic == MCS_TRACK_CHANGED ? "" : " ");
-    print_value(characteristic, value, len);
-}
-
 static void show_take(uint32_t take, const struct mcs_served *served, const uint8_t *value, int right)
 {
     char label[16];
@@ -814,8 +795,10 @@ static void show_take(uint32_t take, const struct mcs_served *served, const uint
     if (served->characteristic == MCS_CONTROL_POINT) {
         show_result(served, value);
     } else {
-        print_with_words(served->characteristic, value, served->length);
-        book_value(served->client, served->service, served->characteristic, value, served->length);
+        printf("%s%s", mcs_characteristic_words(served->characteristic),
+               served->characteristic == MCS_TRACK_CHANGED ? "" : " ");
+        print_value(served->characteristic, value, served->length);
+        book_value(served->client, served->service, served->characteristic, BY_NOTIFICATION, value, served->length);
     }
     if (served->characteristic == MCS_TITLE) {
         print_if_wrong(right_title(served->service, 0, value, served->length, DEVICES[served->client].mtu - 3u), NOT_ITS_TITLE);
@@ -836,65 +819,61 @@ static void places_owed(uint32_t owed[MCS_CLIENTS])
     }
 }
 
-/* ---- Agreement */
-
-/* Holds what a device knows of a player against it, and shows it, or only what is wrong. */
-static void compare_known(uint32_t who, uint32_t service, int shown)
-{
-    uint32_t slot;
-    for (slot = 0; slot < SLOTS; slot++) {
-        uint32_t characteristic = slot_at(slot);
-        const known_value *known = value_known(who, service, characteristic);
-        if (known != NULL && is_compared(characteristic)) {
-            uint8_t now[MCS_OUTPUT_OCTETS];
-            uint32_t length = value_now(who, service, characteristic, now);
-            int right = book_agreement(length == known->length && memcmp(now, known->octets, length) == 0);
-            if (shown || !right) {
-                begin_line(right ? "agrees" : "WRONG", service, who);
-                print_with_words(characteristic, known->octets, known->length);
-                printf("%s", right ? "" : " is not what the player has");
-                end_line();
-            }
-        }
-    }
-}
-
-static void compare_all(int shown)
-{
-    uint32_t who, service;
-    for (who = 0; who < MCS_CLIENTS; who++) {
-        for (service = 0; service < MCS_SERVICES; service++) {
-            compare_known(who, service, shown);
-        }
-    }
-}
-
-void tell_all(void)
+/* Makes takes and no other call, until nothing is owed, or more is served than can be owed. How many served something. */
+static uint32_t take_all(void)
 {
     uint8_t out[MCS_OUTPUT_OCTETS];
     struct mcs_served served;
-    uint32_t take = 0, owed[MCS_CLIENTS];
+    uint32_t take = 0, things = things_owed(), owed[MCS_CLIENTS];
     show_owed();
     for (;;) {
         uint32_t place;
         keep_state();
         places_owed(owed);
         must(mcs_desk_take(&desk, out, sizeof out, &served), "take");
-        if (served.characteristic == MCS_NOTHING) {
+        if (served.characteristic == MCS_NOTHING || take == MCS_MOST_OWED) {
             break;
         }
         take += 1u;
         place = SLOTS * served.service + slot_of(served.characteristic);
         show_take(take, &served, out, book_take(owed, served.client, place, others_left_alone(served.service)));
     }
-    compare_all(0);
+    if (!book_quiet(served.characteristic == MCS_NOTHING && take == things && things_owed() == 0)) {
+        begin_desk_line("WRONG", NO_PLAYER);
+        printf("%u things were owed, %u takes were made, and %u are owed still", things, take, things_owed());
+        end_line();
+    }
+    return take;
+}
+
+void tell_all(void)
+{
+    take_all();
+    compare_devices(&desk, 0);
+}
+
+/* ---- At the end of the day */
+
+void go_quiet(void)
+{
+    uint32_t things = things_owed(), takes = take_all();
+    begin_desk_line("quiet", NO_PLAYER);
+    printf("%u things were owed, and at most %u can be; after %u takes %s is owed", things, MCS_MOST_OWED, takes,
+           things_owed() == 0 ? "nothing" : "SOMETHING");
+    end_line();
 }
 
 void show_agreement(void)
 {
-    uint32_t service;
-    for (service = 0; service < MCS_SERVICES; service++) {
-        show_player(service);
+    agreement all = compare_devices(&desk, 1);
+    begin_desk_line(all.wrong == 0 ? "agree" : "WRONG", NO_PLAYER);
+    paint(all.wrong == 0 ? BOLD : RED);
+    if (all.wrong == 0) {
+        printf("All four devices agree with the players that they follow, in %u values, and with each other wherever two show "
+               "the same, %u times",
+               all.values, all.pairs);
+    } else {
+        printf("THE DEVICES DO NOT AGREE: of %u comparisons %u went wrong", all.values + all.pairs, all.wrong);
     }
-    compare_all(1);
+    end_line();
 }

@@ -128,6 +128,7 @@ extern "C" {
 #define MCS_CLIENTS 4u          /* clients 0 to 3 */
 #define MCS_SERVICES 2u         /* services 0 and 1, with names below */
 #define MCS_OUTPUT_OCTETS 128u  /* the least output that a read or a take may be lent */
+#define MCS_MOST_OWED 168u      /* the most that can be owed: to each client, of both services, 13 values and 8 results */
 #define MCS_BLOCK_OCTETS 512u   /* a block of a card */
 #define MCS_CARD_OCTETS 65536u  /* the longest card */
 #define MCS_CARD_BLOCKS 89u     /* the most blocks that card write fills, with all four tables full: 45,568 octets */
@@ -444,7 +445,10 @@ uint32_t mcs_write(MCS_CATALOGUE, MCS_OFFICE_TITLES, uint8_t state[MCS_STATE_OCT
                    uint32_t characteristic, const uint8_t *value, size_t value_len, MCS_PLACE);
 
 /* Take: the next notification, to be sent now. served is the client, the service, the characteristic and the number of octets
- * over the front of out; characteristic 0, with the other three 0, where nothing is owed to anyone.
+ * over the front of out; characteristic 0, with the other three 0, where nothing is owed to anyone. Each take that serves leaves one
+ * thing less owed, so after at most MCS_MOST_OWED of them with no other call between nothing is owed. Then, of every characteristic
+ * that has changed since a client subscribed to it, but of 7 and 18, what the client was last sent, or has itself written with success
+ * since, is the present value as far as ATT_MTU - 3 octets reach, as long as one catalogue and one text of titles are lent.
  * Refusals: 200, 224, 205, 201. */
 uint32_t mcs_take(MCS_CATALOGUE, MCS_OFFICE_TITLES, uint8_t state[MCS_STATE_OCTETS], uint8_t *out, size_t out_len,
                   uint32_t served[4], MCS_PLACE);

@@ -1,4 +1,4 @@
-"""The manual's cases: Goto by single steps, beside ours (document 02, W-213), which vectors/script.py puts last.
+"""The manual's cases: Goto by single steps, beside ours (document 02, W-213), which vectors/script.py puts behind the clock's.
 
 Each call has its answer and the state of the player that it leaves beside it, worked out from documents 01 and 02. vectors/calls.py says how they are
 written. The manual's Goto leaves the state that there was, and every line of it shows that. Its answers are written out by hand; or a walk is, which is

@@ -7,9 +7,9 @@ them.
 A comment in quotation marks is a sentence of document 01, or of the request of document 02 that it names.
 """
 from calls import (
-    ALL, BAD_AND_WRONG, BAD_TITLES, CODE, CONNECTED, CUT, ENCRYPTED, ENCRYPTION, FIRST_GROUP, FIRST_SEGMENT, FIRST_TRACK, FORWARD, FRESH, GOTO_GROUP,
-    GOTO_SEGMENT, GOTO_TRACK, GROUP, HEADSET, LAST_GROUP, LAST_SEGMENT, LAST_TRACK, LEFT, LONG, LONGEST, MARK, MEDIA, MTU, NAME_FIRST, NAME_LENGTH,
-    NEXT, NEXT_GROUP, NEXT_SEGMENT, NEXT_TRACK, OPEN, OWED, OWN_PARENT, PAUSE, PLACE, PLAY, PLAYING_ORDER, PREVIOUS_GROUP, PREVIOUS_SEGMENT,
+    ALL, BAD_AND_WRONG, BAD_TITLES, CODE, CONNECTED, CUT, ENCRYPTED, ENCRYPTION, FIRST_GROUP, FIRST_SEGMENT, FIRST_TRACK, FORWARD, FRESH, GENERIC,
+    GOTO_GROUP, GOTO_SEGMENT, GOTO_TRACK, GROUP, HEADSET, LAST_GROUP, LAST_SEGMENT, LAST_TRACK, LEFT, LONG, LONGEST, MARK, MEDIA, MTU, NAME_FIRST,
+    NAME_LENGTH, NEXT, NEXT_GROUP, NEXT_SEGMENT, NEXT_TRACK, OPEN, OWED, OWN_PARENT, PAUSE, PLACE, PLAY, PLAYING_ORDER, PREVIOUS_GROUP, PREVIOUS_SEGMENT,
     PREVIOUS_TRACK, RELATIVE, REST, REWIND, RIGHT, RUNNING, SAMPLE, SCREEN, SEEKING_SPEED, SERVICES, STOP, SUBSCRIBED, TRACK, TURN, WAITING,
     activate, advance, case, connect, control, damage, deactivate, disconnect, group_object, octets, read, seen, set_name, start, subscribe, take,
     track_object, unsubscribe, word, write,
@@ -1809,6 +1809,15 @@ take('nothing')
 
 # ---- All that a service can owe
 
+def subscribe_to_all(services):
+    """The four clients connect with the least ATT_MTU, and subscribe to every slot of these services."""
+    for who in range(4):
+        connect(who, 23, ENCRYPTED, 'done')
+        for service in services:
+            for characteristic in SLOTS:
+                subscribe(who, characteristic, 'done', service=service)
+
+
 def every_slot_falls_due(name):
     """From Inactive: the fourteen slots of a service fall due to each of the four clients, all of which subscribed to them, and one result to each."""
     set_name(name, 'done', 'left 1; right 1; headset 1; screen 1')
@@ -1834,10 +1843,7 @@ def every_slot(name):
 # Both rounds go round once: the four clients, and the slots of each.
 case('fifty-six takes')
 start(b'A', ALL, 7, 'done', 'Inactive 3 0 0 | 0 0 0')
-for who in range(4):
-    connect(who, 23, ENCRYPTED, 'done')
-    for characteristic in SLOTS:
-        subscribe(who, characteristic, 'done')
+subscribe_to_all((GENERIC,))
 # The left pedal is served 18, so that both rounds go on behind it.
 control(LEFT, PLAY, 'Inactive 3 0 0 | 0 0 0', 'left 18')
 take('left 18 01 03')

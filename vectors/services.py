@@ -15,8 +15,8 @@ from calls import (
     subscribe, take, track_object, unsubscribe, word, write,
 )
 from office import (
-    EVERY, LONG_NAME, RAST, SLOTS, UEBERFAHRT, WRONG_PLAYERS, ZIEL,
-    come, every_slot, every_slot_falls_due, slots, the_others_refuse_the_state,
+    EVERY, LONG_NAME, RAST, UEBERFAHRT, WRONG_PLAYERS, ZIEL,
+    come, every_slot, every_slot_falls_due, slots, subscribe_to_all, the_others_refuse_the_state,
 )
 
 # "Refusals: 219, service number over 1"
@@ -859,11 +859,7 @@ take('nothing')
 # pedal's result of the named player comes with the 112th, and no sooner.
 case('the hundred and twelfth take')
 start(b'A', ALL, 7, 'done', 'Inactive 3 0 0 | 0 0 0', beside=(b'A', ALL, 9))
-for who in range(4):
-    connect(who, 23, ENCRYPTED, 'done')
-    for service in SERVICES:
-        for characteristic in SLOTS:
-            subscribe(who, characteristic, 'done', service=service)
+subscribe_to_all(SERVICES)
 # The left pedal is served 18 of the named player, so that both rounds go on behind it.
 control(LEFT, PLAY, 'Inactive 3 0 0 | 0 0 0', 'left 18', service=NAMED)
 take_named('left 18 01 03')

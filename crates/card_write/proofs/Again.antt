@@ -8,7 +8,7 @@ use native.Mathlib.Omega.{arith}
 use borrow.Author.Tests.{eqb-true}
 use lib.Dec.{eqb, leb}
 use lib.ListN.{length, take, drop, length-drop, take-append-drop}
-use Rattle.ground.specs.Words.{words, octetsOf}
+use Rattle.ground.specs.Words.{Octs, words, octetsOf}
 use Rattle.ground.proofs.Cases.{and-left}
 use Rattle.card_block.specs.Block.{recordSize}
 use Rattle.card_load.specs.Card.{blocks, lengthRule, blocksOf, lastOfKind, blocksRule, gather, octets}
@@ -17,7 +17,7 @@ use Rattle.ground.proofs.Words.{octets-length}
 use Rattle.catalogue_tables.specs.Tables.{Tables, tables}
 use Rattle.card_write.specs.Card.{kindBlocks, wordsTake, octetsTake, wordBlocks, textBlocks, joined, catalogueBlocks, cardOf}
 use Rattle.card_write.proofs.Loading.{groups-way, tracks-way, segments-way, text-way}
-use Rattle.ground.proofs.Octets.{Octs, octets-words}
+use Rattle.ground.proofs.Octets.{octets-words}
 use Rattle.card_write.proofs.Peeling.{Fine, fine-of, WayBack, Peeled, peel, kind-low}
 
 words-back : (kind unit : ℕ) → recordSize kind ≡ unit * 4 → WayBack octetsOf words kind unit

@@ -11,9 +11,10 @@ use borrow.Author.Tests.{eqb-true, eqb-false, leb-true, le-leb, eq-eqb, ne-eqb}
 use lib.Dec.{eqb, leb}
 use lib.ListN.{length, take, drop, length-append, length-take, length-drop, drop-of-length-le}
 use lib.Seq.{take-all, take-at, drop-at, length-take-le}
+use Rattle.ground.specs.Words.{Octs}
+use Rattle.ground.specs.Words.Octs.{no-octets, octet}
 use Rattle.ground.proofs.Cases.{true-or, le-or, and-left, and-right, and-both}
-use Rattle.ground.proofs.Octets.{Octs, octs-take, octs-drop}
-use Rattle.ground.proofs.Octets.Octs.{no-octets, octet}
+use Rattle.ground.proofs.Octets.{octs-take, octs-drop}
 use Rattle.card_block.specs.Block.{kindOf, countOf, recordSize, mostRecords, recordsEnd, recordsOf, kindRule, countRule, fullRule, blockRule}
 use Rattle.card_block.proofs.Records.{keeps-of, of-keeps, block-count, records-room}
 use Rattle.card_load.specs.Card.{blocks, lastOfKind, blocksRows, blocksRule, gather}

@@ -5,11 +5,7 @@ use Prim.Native.Nat.{ℕ, zero, suc, _+_, _<_, suc-le-suc}
 use native.Mathlib.Omega.{arith}
 use lib.ListN.{length, getD}
 use Rattle.ground.specs.Cases.{pick}
-use Rattle.ground.specs.Lists.{span, those}
-
-abbrev pub Each : {A : Type 0} → (A → Type 0) → List A → Type 0
-Each P [] = Unit
-Each P (x ∷ s) = P x × Each P s
+use Rattle.ground.specs.Lists.{Each, span, those}
 
 pub each-map : {A B : Type 0} (P : A → Type 0) (Q : B → Type 0) (f : A → B) → ((x : A) → P x → Q (f x)) → (s : List A) → Each P s → Each Q (map f s)
 each-map P Q f step [] e = tt

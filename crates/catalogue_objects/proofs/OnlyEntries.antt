@@ -10,10 +10,11 @@ use borrow.Author.Tests.{leb-true, ltb-true}
 use lib.Dec.{ltb}
 use lib.ListN.{length, getD, take, drop, length-drop, take-append-drop}
 use lib.Seq.{length-take-le, drop-drop}
-use Rattle.ground.specs.Words.{halfOf, wordOf, wordAt, sixOctets, octetsOfWord, words, octetsOf}
+use Rattle.ground.specs.Lists.{Each}
+use Rattle.ground.specs.Words.{Octs, halfOf, wordOf, wordAt, sixOctets, octetsOfWord, words, octetsOf}
+use Rattle.ground.specs.Words.Octs.{no-octets, octet}
 use Rattle.ground.proofs.Cases.{and-left, and-right}
-use Rattle.ground.proofs.Octets.{Octs, octs-drop, octets-words}
-use Rattle.ground.proofs.Octets.Octs.{no-octets, octet}
+use Rattle.ground.proofs.Octets.{octs-drop, octets-words}
 use Rattle.ground.proofs.Words.{word-drop}
 use Rattle.text.specs.Utf8.{textOf, isFine}
 use Rattle.text.proofs.Law.{only-fine, fine-is-text}
@@ -21,7 +22,6 @@ use Rattle.catalogue_objects.specs.declared.Kind.{Kind}
 use Rattle.catalogue_objects.specs.declared.Kind.the-variants.{Group, Segments}
 use Rattle.catalogue_objects.specs.Entries.{memberOctets, labelOctets, allOctets}
 use Rattle.catalogue_objects.specs.Reading.{sizeOf, labelSound, isEntry, wordsOf, Entries, entriesOf}
-use Rattle.catalogue_objects.proofs.Each.{Each}
 use Rattle.catalogue_objects.proofs.RoundTrip.{MemberFits, memberWords, LabelFits, labelWords}
 use Rattle.catalogue_objects.proofs.Steps.{some-octets, entries-end, entries-next, whole-next, entry-fits, entry-sound}
 

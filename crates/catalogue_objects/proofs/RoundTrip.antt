@@ -11,7 +11,7 @@ use lib.Dec.{ltb}
 use lib.ListN.{length, getD, drop, length-append, length-map}
 use lib.Seq.{take-at, drop-at}
 use Rattle.ground.specs.Limits.{mostGroups, mostTracks}
-use Rattle.ground.specs.Lists.{part, span}
+use Rattle.ground.specs.Lists.{Each, part, span}
 use Rattle.ground.specs.Words.{wordAt, halfAt, octetsOfWord, words, octetsOf}
 use Rattle.ground.proofs.Cases.{and-both}
 use Rattle.ground.proofs.Words.{word-drop, words-octets, six-low, six-high}
@@ -27,7 +27,7 @@ use Rattle.catalogue_objects.specs.declared.Kind.the-variants.{Group, Se
 use Rattle.catalogue_objects.specs.Entries.{Member, groupMember, trackMember, isChild, childrenOf, tracksOf, membersOf, Label, nameless, labelsOf, memberOctets, labelOctets, allOctets}
 use Rattle.catalogue_objects.specs.Objects.{groupOctets, segmentsOctets}
 use Rattle.catalogue_objects.specs.Reading.{labelHead, sizeOf, labelSound, isEntry, wordsOf, Entries, behind, entriesOf}
-use Rattle.catalogue_objects.proofs.Each.{Each, each-map, each-same, each-append, each-at, each-span, each-those}
+use Rattle.catalogue_objects.proofs.Each.{each-map, each-same, each-append, each-at, each-span, each-those}
 use Rattle.catalogue_objects.proofs.Octets.{member-long}
 use Rattle.catalogue_objects.proofs.Steps.{some-octets, entries-end, entries-next, long-enough}
 use Rattle.catalogue_objects.proofs.Stores.{half-of}

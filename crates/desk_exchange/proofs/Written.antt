@@ -16,6 +16,7 @@ use Rattle.catalogue_tables.specs.Tables.{Tables, groupCount, firstTrackOf}
 use Rattle.catalogue_tables.specs.Objects.{trackObjects, groupObjects}
 use Rattle.catalogue_check.specs.Catalogue.{Right}
 use Rattle.catalogue_check.proofs.Laws.{few-groups, few-tracks, track-exists}
+use Rattle.player_groups.specs.Family.{Current}
 use Rattle.player_state.specs.declared.Player.{Player}
 use Rattle.player_state.specs.Player.{isActive, withOrder}
 use Rattle.player_check.specs.Standing.{inGroup, groupRule, playerRule}
@@ -71,8 +72,8 @@ module _ (groups : List ℕ) (p : Player) (value : List ℕ) where
     unfolding ownTrack
     track-front = and-left (isActive p && leb trackObjects (objectOf value)) _ own
 
-    track-active : 0 < p .mode .media
-    track-active = active-above p (and-left (isActive p) _ track-front)
+    pub track-active : isActive p ≡ true
+    track-active = and-left (isActive p) _ track-front
 
     pub track-above : trackObjects ≤ objectOf value
     track-above = leb-true _ _ (and-right (isActive p) _ track-front)
@@ -87,8 +88,8 @@ module _ (groups : List ℕ) (p : Player) (value : List ℕ) where
     unfolding anyGroup
     group-front = and-left (isActive p && leb groupObjects (objectOf value)) _ any
 
-    group-active : 0 < p .mode .media
-    group-active = active-above p (and-left (isActive p) _ group-front)
+    pub group-active : isActive p ≡ true
+    group-active = and-left (isActive p) _ group-front
 
     pub group-above : groupObjects ≤ objectOf value
     group-above = leb-true _ _ (and-right (isActive p) _ group-front)
@@ -119,7 +120,7 @@ module _ (groups : List ℕ) (p : Player) (value : List ℕ) where
     order-allowed e = may-at 15 e
 
 -- what is in a list and is not the first there is behind it
-behind-first : (first : ℕ) (rest : List ℕ) (c : ℕ) → isIn (first ∷ rest) c ≡ true → eqb c first ≡ false → isIn rest c ≡ true
+pub behind-first : (first : ℕ) (rest : List ℕ) (c : ℕ) → isIn (first ∷ rest) c ≡ true → eqb c first ≡ false → isIn rest c ≡ true
 unfolding isIn
 behind-first first rest c among apart = rw (ne-eqb first c (λ e. eqb-false c first apart (sym e))) at among
 
@@ -140,6 +141,9 @@ module _ (k : Tables) (right : Right k) where
   pub group-small : (g : ℕ) → groupRule (k .groups) g ≡ true → g < mostGroups
   group-small g there = omega (arith, few-groups k right, group-there (k .groups) g there)
 
+  pub group-current : (g : ℕ) → groupRule (k .groups) g ≡ true → Current (k .groups) g
+  group-current g there = record { few = few-groups k right; there = group-there (k .groups) g there; used = group-used (k .groups) g there }
+
   module _ (p : Player) (stands : playerRule (k .groups) (k .tracks) p ≡ true) (value : List ℕ) where
     abbrev Stands : Player → Type 0
     Stands q = playerRule (k .groups) (k .tracks) q ≡ true
@@ -147,8 +151,8 @@ module _ (k : Tables) (right : Right k) where
     kept-entered : anyGroup (k .groups) p value ≡ true → Stands (groupWritten (k .groups) (k .tracks) (groupAt value) p)
     kept-entered any =
         let there = group-right (k .groups) p value any in
-        kept-group (k .groups) (k .tracks) (k .segments) (shaped k right) p stands (group-active (k .groups) p value any) (groupAt value)
-        (record { few = few-groups k right; there = group-there (k .groups) (groupAt value) there; used = group-used (k .groups) (groupAt value) there })
+        kept-group (k .groups) (k .tracks) (k .segments) (shaped k right) p stands (active-above p (group-active (k .groups) p value any)) (groupAt value)
+        (group-current (groupAt value) there)
 
     -- what holds of every player that stands holds of what a write leaves, but for the order, which the last characteristic sets
     by-written : (P : Player → Type 0) → ((q : Player) → Stands q → P q) → (c : ℕ) → allowed (k .groups) p c value ≡ true
@@ -160,11 +164,11 @@ module _ (k : Tables) (right : Right k) where
         (λ n8. by-test P (eqb c 11) _ _
         (λ e.
         let own = track-allowed (k .groups) p value c may (eqb-true c 11 e) in
-        holds _ (kept-track (k .groups) (k .tracks) (k .segments) (shaped k right) p stands (track-active (k .groups) p value own) _ (track-within (k .groups) p value own)))
+        holds _ (kept-track (k .groups) (k .tracks) (k .segments) (shaped k right) p stands (active-above p (track-active (k .groups) p value own)) _ (track-within (k .groups) p value own)))
         (λ n11. by-test P (eqb c 12) _ _
         (λ e.
         let own = next-allowed (k .groups) p value c may (eqb-true c 12 e) in
-        holds _ (kept-naming (k .groups) (k .tracks) p stands _ (track-active (k .groups) p value own) (track-within (k .groups) p value own)))
+        holds _ (kept-naming (k .groups) (k .tracks) p stands _ (active-above p (track-active (k .groups) p value own)) (track-within (k .groups) p value own)))
         (λ n12. by-test P (eqb c 14) _ _ (λ e. holds _ (kept-entered (group-allowed (k .groups) p value c may (eqb-true c 14 e))))
         (λ n14. order (λ writable other.
         order-left c (behind-first 14 _ c (behind-first 12 _ c (behind-first 11 _ c (behind-first 8 _ c (behind-first 7 _ c writable n7) n8) n11) n12) n14) other))))))

@@ -23,8 +23,8 @@ use Rattle.desk_slots.specs.Slots.{serviceCount, clientCount}
 use Rattle.desk_slots.specs.Characteristics.{readables, writables, isIn}
 use Rattle.desk_slots.proofs.SetLaws.{in-below}
 use Rattle.ground.specs.Limits.{leastOutput}
-use Rattle.ground.specs.Refusals.{Said, granted, refused, refusedWith, Row, row, accepted, saidBy}
-use Rattle.ground.proofs.Rows.{NoneApplies, accepted-said, all-of, none-of, said-of}
+use Rattle.ground.specs.Refusals.{Said, refused, refusedWith, Row, row, accepted, saidBy}
+use Rattle.ground.proofs.Rows.{NoneApplies, accepted-said, none-of, number-of, zero-accepts}
 use Rattle.desk_client.specs.declared.Link.{Link}
 use Rattle.desk_client.specs.declared.Account.{Account}
 use Rattle.desk_client.specs.Client.{mostResults, accountFits}
@@ -38,13 +38,14 @@ use Rattle.desk_state.specs.Desk.{linkAt, serviceAt, accountIn}
 use Rattle.desk_notices.specs.Owed.{byWriter}
 use Rattle.desk_replies.specs.Replies.{fronted, connectedRow, ofCharacteristic, linkOf, accountOf}
 use Rattle.player_values.specs.Values.{sourceOf, valueOf}
+use Rattle.desk_exchange.proofs.Orders.{write-order}
 use Rattle.desk_exchange.proofs.Written.{kept-written}
-use Rattle.desk_exchange.specs.Read.{valueNow, readerRows, afterRead, readOctets, readCall}
+use Rattle.desk_exchange.specs.Read.{valueNow, readerRows, afterRead, readCall}
 use Rattle.desk_exchange.specs.Write.{firstOctet, lengthRight, allowed, writeRows, writerRows, numberOf, becomingBy, outcomeOf, controlWritten, playerWritten, written, writeCall}
 use Rattle.desk_history.specs.Ledger.{Claims, Book, Ledger, inService, changing, becoming, reading, resulting, rowsOfRead, mayRead, mayWrite, outcome, resultOf, controlWriting, writing}
 use Rattle.desk_history.specs.Stored.{LikeLink, LikeAccount}
 use Rattle.desk_history.proofs.Likeness.{like-read, like-resulted}
-use Rattle.desk_history.proofs.Steps.{Ok, OkService, fine, fits, fit, ok-becoming, ok-account, ok-call, like-link, within as inside, ok-service, caller-rows}
+use Rattle.desk_history.proofs.Steps.{Ok, OkService, fine, fits, fit, ok-becoming, ok-account, guard, ok-call, like-link, within as inside, ok-service, caller-rows}
 
 -- behind 0x80 there is 0x07 and 0
 other : (t : Bool) → saidBy (row 0x07 t ∷ []) .number < 0x80
@@ -223,18 +224,11 @@ module _ (k : Lent) (right : lentRule k ≡ true) (L : Ledger) (d : Desk) (ok : 
   pub read-number : (who v c offset room : ℕ) → readCall k d who v c offset room .said .number ≡ saidBy (rowsOfRead k L who v c offset room) .number
   unfolding readCall
   read-number who v c offset room =
-      ap (λ (s : Said). s .number) (said-of d (fronted k (ltb room leastOutput) d ++ rows) _)
-      ∙ granted-0 (accepted (fronted k (ltb room leastOutput) d ++ rows)) refl
+      number-of d (fronted k (ltb room leastOutput) d ++ rows) _ refl
       ∙ ap (λ (s : Said). s .number) ((λ i. fronting (not (rules-kept k right i)) (not (renames-kept k right i)) (not (ok .1 i))) ∙ read-said who v c offset room)
     where
       rows : List Row
       rows = readerRows d who v c offset (length (valueNow k d v c))
-
-      -- a read that is accepted answers 0, whatever it hands out
-      granted-0 : (t : Bool) → accepted (fronted k (ltb room leastOutput) d ++ rows) ≡ t
-          → pick t (granted (length (readOctets k d who v c offset) ∷ [])) (saidBy (fronted k (ltb room leastOutput) d ++ rows)) .number ≡ saidBy (fronted k (ltb room leastOutput) d ++ rows) .number
-      granted-0 true e = ap (λ (s : Said). s .number) (all-of (fronted k (ltb room leastOutput) d ++ rows) (none-of (fronted k (ltb room leastOutput) d ++ rows) e))
-      granted-0 false e = refl
 
       -- behind 200, 224 and 201
       fronting : Bool → Bool → Bool → Said
@@ -257,6 +251,15 @@ module _ (k : Lent) (right : lentRule k ≡ true) (L : Ledger) (d : Desk) (ok : 
           connectedRow on
           ∷ (ofCharacteristic safe c 0x03 (isIn writables c)
           ++ (row 0x0D (not (lengthRight c value)) ∷ row 0x13 (not (allowed (k .groups) p c value)) ∷ row 0x11 (eqb c 18 && leb mostResults waiting) ∷ []))
+
+  -- and it answers 0 exactly there
+  pub write-number : (who v c : ℕ) (value : List ℕ) → eqb (writeCall k d who v c value .said .number) 0 ≡ mayWrite k L who v c value
+  unfolding writeCall
+  write-number who v c value =
+      ap (λ (n : ℕ). eqb n 0) (number-of d (fronted k false d ++ writerRows k d who v c value) _ refl)
+      ∙ zero-accepts (fronted k false d ++ writerRows k d who v c value)
+      (write-order k d who v c (linkOf d who .connected) (linkOf d who .encrypted) (allowed (k .groups) (serviceAt d v .player) c value) (accountOf d who v .waiting) value)
+      ∙ guard k right L d ok false (writerRows k d who v c value) ∙ write-rows who v c value
 
   -- what an accepted write tells
   module _ (who v c : ℕ) (value : List ℕ) (may : mayWrite k L who v c value ≡ true) where

@@ -4,7 +4,7 @@ use mathlib.Core.Bool.{Bool, true, false, not, _&&_, _||_, true≢false}
 use mathlib.Core.Logic.{_⊎_, inl, inr, ⊎-elim}
 use mathlib.Core.Option.{Option, none, some}
 use mathlib.Core.List.{List, [], _∷_, _++_}
-use Prim.Native.Nat.{ℕ, suc, _-_, _≤_, _<_, zero-le, suc-le-suc}
+use Prim.Native.Nat.{ℕ, suc, _-_, _≤_, _<_, zero-le}
 use native.Mathlib.Decide.{ℕ-discrete}
 use native.Mathlib.Nat.{le-refl, le-of-eq, le-trans}
 use native.Mathlib.Omega.{arith}
@@ -29,30 +29,37 @@ use Rattle.desk_notices.specs.Owed.{noWriter, byWriter}
 use Rattle.desk_console.specs.Console.{nameRows, activateRows, serviceRows, quietAdvance}
 use Rattle.desk_exchange.specs.Write.{playerWritten}
 use Rattle.desk_history.specs.Calls.{Call, setName, activate, deactivate, advance, connect, disconnect, subscribe, unsubscribe, read, write, take}
-use Rattle.desk_history.specs.Ledger.{Line, Claims, Book, Ledger, noClaims, lineOf, noLine, inService, changing, relinking, mayConnect, mayLeave, mayJoin, mayRead, mayWrite, mayTake, noticing, becoming, joining, leaving, reading, resulting, behind, serving, passing, owedAt, owedAny, nextIn, placeIn, servingAt, outcome, resultOf, controlWriting, writing, after}
+use Rattle.desk_history.specs.Ledger.{Line, Claims, Book, Ledger, noClaims, lineOf, noLine, inService, changing, relinking, mayConnect, mayLeave, mayJoin, mayRead, mayWrite, mayTake, noticing, becoming, joining, leaving, reading, resulting, behind, serving, passing, anyWaits as any, owes, owedAt, owedAny, nextIn, placeIn, servingAt, outcome, resultOf, controlWriting, writing, after}
 use Rattle.desk_history.specs.Rounds.{Handout, isFor, System, Laws}
 use Rattle.desk_history.specs.History.{answerIn, dueOut}
 use Rattle.desk_history.proofs.Serving.{backlog, backlogAt, owes-of, owed-any, any-owed}
 
 -- ---- what an account loses by a call that hands out nothing, while its interest in s is kept: nothing
-bit-up : (b d : Bool) → pick b 1 0 ≤ pick (b || d) 1 0
+abbrev bit : Bool → ℕ
+bit b = pick b 1 0
+
+bit-up : (b d : Bool) → bit b ≤ bit (b || d)
 bit-up true d = le-refl 1
 bit-up false d = zero-le
 
-bit-kept : (b t : Bool) → t ≡ false → pick b 1 0 ≤ pick (b && not t) 1 0
+bit-kept : (b t : Bool) → t ≡ false → bit b ≡ bit (b && not t)
 bit-kept true true e = clash (sym e)
-bit-kept true false e = le-refl 1
-bit-kept false t e = zero-le
+bit-kept true false e = refl
+bit-kept false t e = refl
 
 more : (l r : List Entry) → length l ≤ length (l ++ r)
 more l r = rw (length-append l r) (omega arith)
 
+abbrev NoLess : ℕ → ℕ → Type 0
+NoLess m n = m ≤ n
+
 -- of the two readings of a slot, by what it is
-by-slot : (s a b c d : ℕ) → (s ≡ controlSlot → a ≤ c) → ((s ≡ controlSlot → ⊥) → b ≤ d) → pick (eqb s controlSlot) a b ≤ pick (eqb s controlSlot) c d
-by-slot s a b c d f g =
+by-slot : (R : ℕ → ℕ → Type 0) (s a b c d : ℕ) → (s ≡ controlSlot → R a c) → ((s ≡ controlSlot → ⊥) → R b d)
+    → R (pick (eqb s controlSlot) a b) (pick (eqb s controlSlot) c d)
+by-slot R s a b c d f g =
     elim (ℕ-discrete s controlSlot) [
-      | yes e ↦ subst (λ (t : Bool). pick t a b ≤ pick t c d) (sym (eq-eqb s controlSlot e)) (f e)
-      | no n ↦ subst (λ (t : Bool). pick t a b ≤ pick t c d) (sym (ne-eqb s controlSlot n)) (g n)
+      | yes e ↦ subst (λ (t : Bool). R (pick t a b) (pick t c d)) (sym (eq-eqb s controlSlot e)) (f e)
+      | no n ↦ subst (λ (t : Bool). R (pick t a b) (pick t c d)) (sym (ne-eqb s controlSlot n)) (g n)
     ]
 
 module _ (s : ℕ) (x : Claims) where
@@ -60,7 +67,7 @@ module _ (s : ℕ) (x : Claims) where
   Held y = backlog x s ≤ backlog y s
 
   held-told : (k : Lent) (p q : Player) (cause : Cause) (who : ℕ) → Held (noticing k p q cause who x)
-  held-told k p q cause who = by-slot s _ _ _ _ (λ e. le-refl _) (λ n. bit-up (x .due s) _)
+  held-told k p q cause who = by-slot NoLess s _ _ _ _ (λ e. le-refl _) (λ n. bit-up (x .due s) _)
 
   kept-slot : (a b : Bool) → (a && not b) ≡ true → b ≡ false
   kept-slot true true e = clash e
@@ -70,12 +77,12 @@ module _ (s : ℕ) (x : Claims) where
   held-leaving : (t : ℕ) → leaving t x .wants s ≡ true → Held (leaving t x)
   held-leaving t e =
       let other : eqb t s ≡ false = kept-slot (x .wants s) (eqb t s) e in
-      by-slot s _ _ _ _
+      by-slot NoLess s _ _ _ _
       (λ q. le-of-eq (ap (λ (b : Bool). length (pick b [] (x .waiting))) (sym (sym (ap (eqb t) q) ∙ other))))
-      (λ n. bit-kept (x .due s) (eqb t s) other)
+      (λ n. le-of-eq (bit-kept (x .due s) (eqb t s) other))
 
   held-resulting : (e : Entry) → Held (resulting e x)
-  held-resulting e = by-slot s _ _ _ _ (λ q. grows (x .wants controlSlot)) (λ n. le-refl _)
+  held-resulting e = by-slot NoLess s _ _ _ _ (λ q. grows (x .wants controlSlot)) (λ n. le-refl _)
     where
       grows : (t : Bool) → length (x .waiting) ≤ length (pick t (x .waiting ++ (e ∷ [])) (x .waiting))
       grows true = more (x .waiting) (e ∷ [])
@@ -296,56 +303,58 @@ module _ (L : Ledger) (who p : ℕ) where
       go true = λ i. pick (ne-eqb c who n i) (serving (slotAt p) (L .service v .account c)) (L .service v .account c)
       go false = refl
 
-rest-length : (l : List Entry) → length l ≤ suc (length (behind l))
-rest-length [] = zero-le
-rest-length (x ∷ l) = le-refl (suc (length l))
+one-behind : (l : List Entry) → any l ≡ true → length l ≡ suc (length (behind l))
+one-behind [] e = clash e
+one-behind (x ∷ l) e = refl
 
-bit-one : (b : Bool) (n : ℕ) → pick b 1 0 ≤ suc n
-bit-one true n = suc-le-suc zero-le
-bit-one false n = zero-le
+bit-gone : (b t : Bool) → b ≡ true → t ≡ true → bit b ≡ suc (bit (b && not t))
+bit-gone b t owed same = rw (owed, same)
 
 module _ (x : Claims) (t : ℕ) where
-  -- serving a slot takes one thing from it
+  -- serving a slot that is owed takes one thing from it
   abbrev Takes : Bool → Type 0
   Takes b =
-      pick b (length (x .waiting)) (pick (x .due t) 1 0)
-      ≤ suc (pick b (length (pick b (behind (x .waiting)) (x .waiting))) (pick (x .due t && not (eqb t t)) 1 0))
+      pick b (any (x .waiting)) (x .due t) ≡ true
+      → pick b (length (x .waiting)) (bit (x .due t))
+      ≡ suc (pick b (length (pick b (behind (x .waiting)) (x .waiting))) (bit (x .due t && not (eqb t t))))
 
-  serving-takes : backlog x t ≤ suc (backlog (serving t x) t)
+  serving-takes : owes x t ≡ true → backlog x t ≡ suc (backlog (serving t x) t)
   serving-takes =
       elim (ℕ-discrete t controlSlot) [
-        | yes e ↦ subst Takes (sym (eq-eqb t controlSlot e)) (rest-length (x .waiting))
-        | no n ↦ subst Takes (sym (ne-eqb t controlSlot n)) (bit-one (x .due t) _)
+        | yes e ↦ subst Takes (sym (eq-eqb t controlSlot e)) (one-behind (x .waiting))
+        | no n ↦ subst Takes (sym (ne-eqb t controlSlot n)) (λ owed. bit-gone (x .due t) (eqb t t) owed (eq-eqb t t refl))
       ]
 
   -- and nothing from another
-  serving-keeps : (s : ℕ) → (s ≡ t → ⊥) → backlog x s ≤ backlog (serving t x) s
+  serving-keeps : (s : ℕ) → (s ≡ t → ⊥) → backlog x s ≡ backlog (serving t x) s
   serving-keeps s n =
       let other : eqb t s ≡ false = ne-eqb t s (λ e. n (sym e)) in
-      by-slot s _ _ _ _
-      (λ e. le-of-eq (ap (λ (b : Bool). length (pick b (behind (x .waiting)) (x .waiting))) (sym (sym (ap (eqb t) e) ∙ other))))
+      by-slot (λ m l. m ≡ l) s _ _ _ _
+      (λ e. ap (λ (b : Bool). length (pick b (behind (x .waiting)) (x .waiting))) (sym (sym (ap (eqb t) e) ∙ other)))
       (λ m. bit-kept (x .due s) (eqb t s) other)
 
 -- the same of the whole, by place
 module _ (L : Ledger) (who p : ℕ) where
-  place-takes : backlogAt L who p ≤ suc (backlogAt (servingAt L who p) who p)
-  place-takes =
-      subst (λ (x : Claims). backlogAt L who p ≤ suc (backlog x (slotAt p))) (sym (account-served L who p))
-      (serving-takes (L .service (serviceOf p) .account who) (slotAt p))
+  pub place-takes : owedAt L who p ≡ true → backlogAt L who p ≡ suc (backlogAt (servingAt L who p) who p)
+  place-takes owed =
+      serving-takes (L .service (serviceOf p) .account who) (slotAt p) owed ∙ ap (λ (x : Claims). suc (backlog x (slotAt p))) (sym (account-served L who p))
 
   unserved : (c q : ℕ) → servingAt L who p .service (serviceOf q) .account c ≡ L .service (serviceOf q) .account c
-      → backlogAt L c q ≤ backlogAt (servingAt L who p) c q
-  unserved c q e = le-of-eq (ap (λ (x : Claims). backlog x (slotAt q)) (sym e))
+      → backlogAt L c q ≡ backlogAt (servingAt L who p) c q
+  unserved c q e = ap (λ (x : Claims). backlog x (slotAt q)) (sym e)
 
-  place-keeps : (q : ℕ) → (q ≡ p → ⊥) → backlogAt L who q ≤ backlogAt (servingAt L who p) who q
+  pub place-keeps : (q : ℕ) → (q ≡ p → ⊥) → backlogAt L who q ≡ backlogAt (servingAt L who p) who q
   place-keeps q n =
       elim (ℕ-discrete (serviceOf q) (serviceOf p)) [
         | no m ↦ unserved who q (account-elsewhere L who p (serviceOf q) who m)
         | yes e ↦
-            subst (λ (v : ℕ). backlog (L .service v .account who) (slotAt q) ≤ backlog (servingAt L who p .service v .account who) (slotAt q)) (sym e)
-            (subst (λ (x : Claims). backlog (L .service (serviceOf p) .account who) (slotAt q) ≤ backlog x (slotAt q)) (sym (account-served L who p))
-            (serving-keeps (L .service (serviceOf p) .account who) (slotAt p) (slotAt q) (λ f. n (sym (place-again q) ∙ (λ i. placeOf (e i) (f i)) ∙ place-again p))))
+            subst (λ (v : ℕ). backlog (L .service v .account who) (slotAt q) ≡ backlog (servingAt L who p .service v .account who) (slotAt q)) (sym e)
+            (serving-keeps (L .service (serviceOf p) .account who) (slotAt p) (slotAt q) (λ f. n (sym (place-again q) ∙ (λ i. placeOf (e i) (f i)) ∙ place-again p))
+            ∙ ap (λ (x : Claims). backlog x (slotAt q)) (sym (account-served L who p)))
       ]
+
+  pub client-keeps : (c q : ℕ) → (c ≡ who → ⊥) → backlogAt L c q ≡ backlogAt (servingAt L who p) c q
+  client-keeps c q n = unserved c q (account-other L who p (serviceOf q) c n)
 
 -- an answer that is not for place p of client c is for another client, or for another place
 not-for : (c p : ℕ) (a : Handout) → isFor c p a ≡ false → (c ≡ a .client → ⊥) ⊎ ((c ≡ a .client) × (p ≡ a .place → ⊥))
@@ -445,7 +454,7 @@ module _ (k : Lent) where
       subst (λ (M : Ledger). backlogAt L c p ≤ suc (backlogAt M c p)) (sym (w .leaves))
       (subst (λ (n : ℕ). backlogAt L n p ≤ suc (backlogAt (servingNext L) n p)) (sym who)
       (subst (λ (q : ℕ). backlogAt L (nextIn L) q ≤ suc (backlogAt (servingNext L) (nextIn L) q)) (sym place)
-      (place-takes L (nextIn L) (placeIn L (nextIn L)))))
+      (le-of-eq (place-takes L (nextIn L) (placeIn L (nextIn L)) (slot-near L g (w .inside) .holds)))))
 
   kept-others : (call : Call) (L : Ledger) (a : Handout) (c p : ℕ) → InRange L → dueOut k call L ≡ some a → isFor c p a ≡ false
       → backlogAt L c p ≤ backlogAt (after k call L) c p
@@ -455,9 +464,9 @@ module _ (k : Lent) where
       let place = ap (λ (x : Handout). x .place) (w .is) in
       subst (λ (M : Ledger). backlogAt L c p ≤ backlogAt M c p) (sym (w .leaves))
       (⊎-elim
-      (λ (n : c ≡ a .client → ⊥). unserved L (nextIn L) (placeIn L (nextIn L)) c p (account-other L (nextIn L) (placeIn L (nextIn L)) (serviceOf p) c (λ q. n (q ∙ sym client))))
+      (λ (n : c ≡ a .client → ⊥). le-of-eq (client-keeps L (nextIn L) (placeIn L (nextIn L)) c p (λ q. n (q ∙ sym client))))
       (λ r. subst (λ (n : ℕ). backlogAt L n p ≤ backlogAt (servingNext L) n p) (sym (r .0 ∙ client))
-      (place-keeps L (nextIn L) (placeIn L (nextIn L)) p (λ q. r .1 (q ∙ sym place))))
+      (le-of-eq (place-keeps L (nextIn L) (placeIn L (nextIn L)) p (λ q. r .1 (q ∙ sym place)))))
       (not-for c p a f))
 
   -- something waits, so it is owed

@@ -41,12 +41,12 @@ use Rattle.desk_history.specs.Calls.{Call, setName, activate, deactivate
 use Rattle.desk_history.specs.Ledger.{Ledger, opening, lineOf, inService, changing, relinking, becoming, joining, serving, owes, anyBelow, owedAny, nextIn, placeIn, servingAt, taking, mayConnect, mayJoin, mayWrite, mayTake, writing, after}
 use Rattle.desk_history.specs.Rounds.{isFor, countFor, prepend, answers}
 use Rattle.desk_history.specs.History.{answerIn, dueOut, ledgerAt, onward, subscribedAt, Stays, bound}
-use Rattle.desk_history.specs.Reached.{oneTrack, plain, comes, everything, takes, reachedHistory}
+use Rattle.desk_history.specs.Reached.{oneTrack, plain, comes, everything, takes, everyChange, reachedHistory}
 use Rattle.desk_history.proofs.LedgerLaws.{ledgerSystem}
 
 module _ (k : Lent) where
   -- what an accepted call makes of the ledger, and whether it is accepted; calls that the history does not make are left as they are
-  abbrev sure : Call → Ledger → Ledger
+  abbrev pub sure : Call → Ledger → Ledger
   sure (setName v name) L = inService v (λ b. becoming k (noWriter false) (renamed name (b .player)) b) L
   sure (activate v g) L = inService v (λ b. becoming k (noWriter false) (activated (k .groups) (k .tracks) g (b .player)) b) L
   sure (deactivate v) L = after k (deactivate v) L
@@ -59,7 +59,7 @@ module _ (k : Lent) where
   sure (write who v c value) L = inService v (writing k who c value) L
   sure (take room) L = after k (take room) L
 
-  abbrev fits : Call → Ledger → Bool
+  abbrev pub fits : Call → Ledger → Bool
   fits (setName v name) L = accepted (nameRows v name)
   fits (activate v g) L = accepted (activateRows k v g)
   fits (deactivate v) L = true
@@ -85,11 +85,11 @@ module _ (k : Lent) where
   after-is (write who v c value) L e = λ i. pick (e i) (sure (write who v c value) L) L
   after-is (take room) L e = refl
 
-  abbrev sureAll : List Call → Ledger → Ledger
+  abbrev pub sureAll : List Call → Ledger → Ledger
   sureAll [] L = L
   sureAll (c ∷ cs) L = sureAll cs (sure c L)
 
-  abbrev fitAll : List Call → Ledger → Bool
+  abbrev pub fitAll : List Call → Ledger → Bool
   fitAll [] L = true
   fitAll (c ∷ cs) L = fits c L && fitAll cs (sure c L)
 
@@ -174,7 +174,7 @@ all-changes = refl
 abbrev round : ℕ → List (ℕ × ℕ)
 round p = (0, p) ∷ (1, p) ∷ (2, p) ∷ (3, p) ∷ []
 
-abbrev owing : Ledger
+abbrev pub owing : Ledger
 owing = sureAll oneTrack changes there
 
 -- the generic service's name is served first to all
@@ -215,7 +215,7 @@ others-served = refl
 
 -- ---- the ledger after it
 module _ (k : Lent) (gen nam : Beginning) where
-  sure-onward : (cs h : List Call) (L : Ledger) → ledgerAt k gen nam h ≡ L → fitAll k cs L ≡ true → ledgerAt k gen nam (onward k gen nam h cs) ≡ sureAll k cs L
+  pub sure-onward : (cs h : List Call) (L : Ledger) → ledgerAt k gen nam h ≡ L → fitAll k cs L ≡ true → ledgerAt k gen nam (onward k gen nam h cs) ≡ sureAll k cs L
   sure-onward [] h L e f = e
   sure-onward (c ∷ cs) h L e f =
       sure-onward cs (c ∷ h) (sure k c L) (ap (after k c) e ∙ after-is k c L (and-left (fits k c L) (fitAll k cs (sure k c L)) f)) (and-right (fits k c L) (fitAll k cs (sure k c L)) f)
@@ -270,6 +270,13 @@ ledger-1 = sure-onward oneTrack plain plain coming [] begun refl all-come
 
 ledger-2 : ledgerAt oneTrack plain plain h2 ≡ owing
 ledger-2 = sure-onward oneTrack plain plain changes h1 there ledger-1 all-changes
+
+-- what is owed when every value of both services has changed
+every-change-parts : h2 ≡ goesOn [] everyChange
+every-change-parts = refl
+
+pub every-change-owes : ledgerAt oneTrack plain plain (goesOn [] everyChange) ≡ owing
+every-change-owes = subst (λ (h : List Call). ledgerAt oneTrack plain plain h ≡ owing) every-change-parts ledger-2
 
 ledger-3 : ledgerAt oneTrack plain plain h3 ≡ servedAll oneTrack (round 0) owing
 ledger-3 = served-onward oneTrack plain plain (round 0) h2 owing ledger-2 names-served

@@ -36,9 +36,13 @@ everything v =
 abbrev pub takes : ℕ → List Call
 takes n = replicate n (take 128)
 
+-- all four come, and every value of both services changes
+abbrev pub everyChange : List Call
+everyChange = comes 0 ++ (comes 1 ++ (comes 2 ++ (comes 3 ++ (everything 0 ++ everything 1))))
+
 -- the generic service's name is handed to all four, and changes again
 abbrev before : List Call
-before = comes 0 ++ (comes 1 ++ (comes 2 ++ (comes 3 ++ (everything 0 ++ (everything 1 ++ (takes 4 ++ (setName 0 (0x43 ∷ []) ∷ [])))))))
+before = everyChange ++ (takes 4 ++ (setName 0 (0x43 ∷ []) ∷ []))
 
 -- newest call first
 abbrev pub reachedHistory : List Call

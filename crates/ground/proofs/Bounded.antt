@@ -1,4 +1,4 @@
--- Laws of `allBelow` and `sumBelow`: a loop's turn and end, and what they tell of each number. Assumes nothing.
+-- Laws of `allBelow` and `sumBelow`: a loop's turn and end, what they tell of each number, and two sums beside each other. Assumes nothing.
 use mathlib.Core.Path.{_≡_, refl, ap, _∙_}
 use mathlib.Core.Bool.{Bool, true, _&&_}
 use mathlib.Core.Logic.{⊎-elim}
@@ -51,3 +51,25 @@ module _ (f : ℕ → ℕ) where
   -- each part of a sum lies within it
   pub sum-within : (n i : ℕ) → i < n → sumBelow i f + f i ≤ sumBelow n f
   sum-within n i h = omega (arith, sum-turn i, sum-grows n (i + 1) (omega arith))
+
+-- two sums, part by part: no less, the same, and one more where one part has one more
+module _ (f g : ℕ → ℕ) where
+  pub sum-at-most : (n : ℕ) → ((i : ℕ) → i < n → f i ≤ g i) → sumBelow n f ≤ sumBelow n g
+  unfolding sumBelow
+  sum-at-most zero h = omega arith
+  sum-at-most (suc n) h = omega (arith, sum-at-most n (λ i l. h i (omega arith)), h n (omega arith))
+
+  pub sum-same : (n : ℕ) → ((i : ℕ) → i < n → f i ≡ g i) → sumBelow n f ≡ sumBelow n g
+  unfolding sumBelow
+  sum-same zero h = refl
+  sum-same (suc n) h = λ k. sum-same n (λ i l. h i (omega arith)) k + h n (omega arith) k
+
+  pub sum-one-more : (n j : ℕ) → j < n → f j ≡ suc (g j) → ((i : ℕ) → (i ≡ j → ⊥) → f i ≡ g i) → sumBelow n f ≡ suc (sumBelow n g)
+  unfolding sumBelow
+  sum-one-more zero j h e same = absurd (not-suc-le-zero h)
+  sum-one-more (suc n) j h e same =
+      let q : j ≤ n = omega arith in
+      ⊎-elim
+      (λ (w : j ≡ n). omega (arith, sum-same n (λ i l. same i (λ r. omega (arith, r))), ap f w, ap g w))
+      (λ (l : j < n). omega (arith, sum-one-more n j l e same, same n (λ r. omega (arith, r))))
+      (eq-or-lt-of-le q)

@@ -3,9 +3,11 @@ use mathlib.Core.Path.{_≡_, refl, sym, ap, _∙_}
 use mathlib.Core.Bool.{Bool, true, false, _&&_, not}
 use mathlib.Core.List.{List, [], _∷_, _++_}
 use Prim.Native.Nat.{ℕ}
+use borrow.Author.Tests.{eqb-true, not-true}
+use lib.Dec.{eqb}
 use Rattle.ground.specs.Cases.{pick}
-use Rattle.ground.specs.Refusals.{Said, granted, refusedWith, Row, answered, accepted, saidThrough, saidBy, Left, keeping}
-use Rattle.ground.proofs.Cases.{past, clash, and-both}
+use Rattle.ground.specs.Refusals.{Said, granted, refusedWith, Row, answered, accepted, saidThrough, saidBy, Left, keeping, table, inOrder}
+use Rattle.ground.proofs.Cases.{past, clash, and-left, and-right, and-both}
 
 -- no row applies
 abbrev pub NoneApplies : List Row → Type 0
@@ -136,3 +138,42 @@ said-of {S} s rows work = ap (λ (l : Left S). l .said) (by-accepted (keeping s)
     at : (t : Bool) → pick t work (keeping s (saidBy rows)) .said ≡ pick t (work .said) (saidBy rows)
     at true = refl
     at false = refl
+
+-- a call whose work says 0 has the number that its rows say
+pub number-of : {S : Type 0} (s : S) (rows : List Row) (work : Left S) → work .said .number ≡ 0 → answered (keeping s) rows work .said .number ≡ saidBy rows .number
+number-of s rows work zero = ap (λ (said : Said). said .number) (said-of s rows work) ∙ at (accepted rows) refl
+  where
+    at : (t : Bool) → accepted rows ≡ t → pick t (work .said) (saidBy rows) .number ≡ saidBy rows .number
+    at true e = zero ∙ ap (λ (said : Said). said .number) (all-of rows (none-of rows e))
+    at false e = refl
+
+-- no refusal has the number 0, so that rows of the table say 0 exactly where they accept
+abbrev noneIsZero : List ℕ → Bool
+noneIsZero [] = true
+noneIsZero (n ∷ numbers) = not (eqb n 0) && noneIsZero numbers
+
+zero-accepted : (numbers : List ℕ) (rows : List Row) → noneIsZero numbers ≡ true → inOrder numbers rows ≡ true → eqb (saidBy rows .number) 0 ≡ accepted rows
+zero-accepted numbers [] nonzero ordered = refl
+zero-accepted [] (r ∷ rows) nonzero ordered = clash ordered
+zero-accepted (n ∷ numbers) (r ∷ rows) nonzero ordered =
+    at (eqb n (r .number)) refl ordered (zero-accepted numbers rows others) (zero-accepted numbers (r ∷ rows) others)
+  where
+    others : noneIsZero numbers ≡ true
+    others = and-right (not (eqb n 0)) (noneIsZero numbers) nonzero
+
+    first : (t : Bool) → eqb (r .number) 0 ≡ false → eqb (saidBy rows .number) 0 ≡ accepted rows
+        → eqb (pick t (refusedWith (r .number) (r .values)) (saidBy rows) .number) 0 ≡ (not t && accepted rows)
+    first true e ih = e
+    first false e ih = ih
+
+    at : (t : Bool) → eqb n (r .number) ≡ t → pick t (inOrder numbers rows) (inOrder numbers (r ∷ rows)) ≡ true
+        → (inOrder numbers rows ≡ true → eqb (saidBy rows .number) 0 ≡ accepted rows)
+        → (inOrder numbers (r ∷ rows) ≡ true → eqb (saidBy (r ∷ rows) .number) 0 ≡ accepted (r ∷ rows))
+        → eqb (saidBy (r ∷ rows) .number) 0 ≡ accepted (r ∷ rows)
+    at true e h behind same =
+        first (r .applies)
+        (ap (λ (m : ℕ). eqb m 0) (sym (eqb-true n (r .number) e)) ∙ not-true (eqb n 0) (and-left (not (eqb n 0)) (noneIsZero numbers) nonzero)) (behind h)
+    at false e h behind same = same h
+
+pub zero-accepts : (rows : List Row) → inOrder table rows ≡ true → eqb (saidBy rows .number) 0 ≡ accepted rows
+zero-accepts rows ordered = zero-accepted table rows refl ordered

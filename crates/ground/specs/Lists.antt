@@ -1,4 +1,4 @@
--- Parts of lists, and what holds of, or is summed over, the numbers below a bound.
+-- Parts of lists, what holds of each element, and what holds of, or is summed over, the numbers below a bound.
 -- Assumes nothing.
 use mathlib.Core.Bool.{Bool, true, _&&_}
 use mathlib.Core.List.{List, [], _∷_, _++_}
@@ -31,6 +31,11 @@ tableAfter said front old = pick (said .isGranted) (filled front old) old
 abbrev pub mapFrom : {A : Type 0} → (ℕ → A → A) → ℕ → List A → List A
 mapFrom f i [] = []
 mapFrom f i (x ∷ s) = f i x ∷ mapFrom f (suc i) s
+
+-- P holds of each element
+abbrev pub Each : {A : Type 0} → (A → Type 0) → List A → Type 0
+Each P [] = Unit
+Each P (x ∷ s) = P x × Each P s
 
 -- each number below n passes the test
 unfoldable pub allBelow : ℕ → (ℕ → Bool) → Bool

@@ -1,8 +1,13 @@
 -- Little endian numbers in octets.
 -- Assumes nothing.
 use mathlib.Core.List.{List, [], _∷_, _++_}
-use Prim.Native.Nat.{ℕ, _+_, _*_, _/_, _%_}
+use Prim.Native.Nat.{ℕ, _+_, _*_, _/_, _%_, _<_}
 use lib.ListN.{getD}
+
+-- a list of octets
+pub data Octs : List ℕ → Type 0 where
+  no-octets : Octs []
+  octet : {x : ℕ} {s : List ℕ} → x < 256 → Octs s → Octs (x ∷ s)
 
 abbrev pub halfOf : ℕ → ℕ → ℕ
 halfOf a b = a + b * 256

@@ -47,7 +47,7 @@ silent k (take room) d e = clash (sym e)
 
 module _ (k : Lent) (gen nam : Beginning) where
   -- what C hears of one call is what the desk of the history hands out
-  hears-made : {h : List Call} {call : Call} {state state′ : List ℕ} {o : Option Handout} → Run k gen nam h state → Made k call state state′ o → o ≡ handedOut k call (deskAt k gen nam h)
+  pub hears-made : {h : List Call} {call : Call} {state state′ : List ℕ} {o : Option Handout} → Run k gen nam h state → Made k call state state′ o → o ≡ handedOut k call (deskAt k gen nam h)
   hears-made {h} run (other call t l) = silent k call (deskAt k gen nam h) t
   hears-made {h} run (taken {state} {out = out} {a = a} {b = b} {c = c} {e = e} t) =
       let m = means k gen nam run in

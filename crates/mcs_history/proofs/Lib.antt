@@ -2,4 +2,5 @@
 pub mod Meaning
 pub mod Hearing
 pub mod Demand3
+pub mod Quiet
 pub mod Contracts

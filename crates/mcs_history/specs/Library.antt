@@ -19,7 +19,8 @@ use Rattle.desk_exchange.specs.Read.{readCall, readOctets}
 use Rattle.desk_take.specs.Take.{takeCall, takeOctets}
 use Rattle.desk_history.specs.Calls.{Call, setName, activate, deactivate, advance, connect, disconnect, subscribe, unsubscribe, read, write, take, left}
 use Rattle.desk_history.specs.Rounds.{Handout, prepend}
-use Rattle.desk_history.specs.History.{handoutsTo, Handed, handedBy}
+use Rattle.desk_history.specs.History.{subscribedAt, handoutsTo, Handed, handedBy}
+use Rattle.desk_quiet.specs.Known.{learntBy}
 use Rattle.mcs_state.specs.Codec.{deskOf}
 use Rattle.mcs_told.specs.Calls.{Leaves, wordsAfter}
 
@@ -73,6 +74,17 @@ module _ (k : Lent) (generic named : Beginning) where
 abbrev pub heardBy : {k : Lent} {generic named : Beginning} → ℕ → ℕ → {h : List Call} {state : List ℕ} → Run k generic named h state → List Handed
 heardBy who v (started l) = []
 heardBy who v (then {h = h} {o = o} run m) = heardBy who v run ++ handedBy (length h) (handoutsTo who v controlSlot (prepend o []))
+
+-- the number that a call returned
+abbrev pub answeredWith : {k : Lent} {call : Call} {state state′ : List ℕ} {o : Option Handout} → Made k call state state′ o → ℕ
+answeredWith (other {number = number} call no-take l) = number
+answeredWith (taken {number = number} t) = number
+
+-- what client who has learnt of slot s of service v since it subscribed, newest first: what it heard, and what it wrote itself by a call that returned 0
+abbrev pub learntFrom : {k : Lent} {generic named : Beginning} → ℕ → ℕ → ℕ → {h : List Call} {state : List ℕ} → Run k generic named h state → List (List ℕ)
+learntFrom who v s (started l) = []
+learntFrom {k = k} {generic = generic} {named = named} who v s (then {h = h} {call = call} {o = o} run m) =
+    pick (subscribedAt k generic named who v s h) (learntBy who v s call (answeredWith m) o ++ learntFrom who v s run) []
 
 -- from these octets on: further calls, first call first, and all that C hears, first answer first
 pub data Onward (k : Lent) : List ℕ → List Call → List Handout → Type 0 where

@@ -8,5 +8,6 @@ pub mod Kept
 pub mod Names
 pub mod Alone
 pub mod Tracks
+pub mod Arrived
 pub mod Clocked
 pub mod Cases01
