@@ -3,6 +3,7 @@
 #include "catalogue.h"
 #include "lend.h"
 #include "places.h"
+#include "quiet.h"
 #include "titles.h"
 
 #include <string.h>
@@ -17,6 +18,7 @@ void remember(run *r)
 void forget_history(run *r)
 {
     memset(&r->waited, 0, sizeof r->waited);
+    stop_following(r);
     memset(r->exchanged, 0, sizeof r->exchanged);
 }
 
@@ -44,6 +46,7 @@ static void note_undo(run *r, const step *s, uint32_t what)
     u->number = s->number;
     u->what = what;
     table_changed(r, s->who);
+    stop_following(r);
 }
 
 static void alter_state(run *r, const step *s)
@@ -100,6 +103,7 @@ static void new_titles(run *r, uint32_t how)
     }
     table_changed(r, RENAMES);
     table_changed(r, OFFICE);
+    forget_titles(r);
     for (uint32_t k = 0; k < MCS_SERVICES; k++) {
         int same = title_shown(r, k, is) == length[k] && memcmp(was[k], is, length[k]) == 0;
         for (uint32_t client = 0; !same && client < MCS_CLIENTS; client++) {

@@ -1,6 +1,6 @@
 /* The cases of document 01, the bounds of both documents, bad blocks, bad texts, what random calls meet late, those of two
- * services, those of objects and their numbers, those of the office's titles, those of the clock, and those of the manual's Goto, on
- * both programs. */
+ * services, those of objects and their numbers, those of the office's titles, those of the clock, those of the manual's Goto, and
+ * those of the screens when things go quiet, on both programs. */
 #ifndef CASES_H
 #define CASES_H
 
@@ -20,5 +20,6 @@ unsigned long play_entries(FILE *out, run *r);
 unsigned long play_renames(FILE *out, run *r);
 unsigned long play_clock(FILE *out, run *r);
 unsigned long play_gotos(FILE *out, run *r);
+unsigned long play_quiet(FILE *out, run *r);
 
 #endif

@@ -2,6 +2,7 @@
 #include "count_clock.h"
 #include "count_manual.h"
 #include "count_objects.h"
+#include "count_quiet.h"
 #include "count_services.h"
 #include "count_titles.h"
 #include "judge.h"
@@ -430,6 +431,7 @@ void count_call(const run *r, const step *s, uint32_t share)
         count_numbers(r, s);
         count_titles(r, s);
         count_clock(r, s);
+        count_quiet(r, s);
     }
     if (s->kind == MANUAL_GOTO && number == 0) {
         count_manual(r, s);
@@ -710,6 +712,7 @@ static void tell_all(void)
     tell_titles();
     tell_clock();
     tell_manual();
+    tell_quiet();
     tell_truths();
     tell_places();
     tell_cards();

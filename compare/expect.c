@@ -111,13 +111,18 @@ void activate(uint32_t group, uint32_t number)
     makes(s, number);
 }
 
-void connect_client(uint32_t client)
+void connect_with(uint32_t client, uint32_t mtu)
 {
     step s = blank(CONNECT);
     s.who = client;
-    s.number = 23;
+    s.number = mtu;
     s.what = 1;
     makes(s, 0);
+}
+
+void connect_client(uint32_t client)
+{
+    connect_with(client, 23);
     subscribe_to(client, MCS_CONTROL_POINT);
 }
 
@@ -131,12 +136,15 @@ void subscribe_to(uint32_t client, uint32_t characteristic)
 
 void set_name(const char *name) { makes(with_octets(blank(SET_NAME), name, (uint32_t)strlen(name)), 0); }
 
-void write_value(uint32_t characteristic, const void *octets, uint32_t length)
+void write_by(uint32_t client, uint32_t characteristic, const void *octets, uint32_t length)
 {
     step s = with_octets(blank(WRITE), octets, length);
+    s.who = client;
     s.what = characteristic;
     makes(s, 0);
 }
+
+void write_value(uint32_t characteristic, const void *octets, uint32_t length) { write_by(0, characteristic, octets, length); }
 
 void write_position(int64_t n)
 {
@@ -221,13 +229,18 @@ void stands_at(uint32_t group, uint32_t track, uint32_t position)
     expect("the position", s.position, position);
 }
 
+void begin_desk(const char *what, const catalogue_lines *lines)
+{
+    static tables t;
+    now_trying(what);
+    tables_of_lines(lines, &t);
+    begin_run(both, &t);
+    start_desk(MCS_ALL_OPCODES);
+}
+
 void stand(const char *what, uint8_t order, uint32_t track, uint32_t position)
 {
-    static tables sample;
-    now_trying(what);
-    sample_catalogue(&sample);
-    begin_run(both, &sample);
-    start_desk(MCS_ALL_OPCODES);
+    begin_desk(what, &SAMPLE_LINES);
     activate(1, 0);
     connect_client(0);
     commands(MCS_OPCODE_GOTO_TRACK, (int64_t)track + 1, MCS_RESULT_SUCCESS);

@@ -40,10 +40,12 @@ void carries(uint32_t track, uint32_t octet);
 
 void start_desk(uint32_t mask); /* that of the service that is tried; the player beside it has all opcodes */
 void activate(uint32_t group, uint32_t number);
-void connect_client(uint32_t client); /* encrypted, and subscribed to the control point */
+void connect_with(uint32_t client, uint32_t mtu); /* encrypted */
+void connect_client(uint32_t client);             /* the same, with ATT_MTU 23, and subscribed to the control point */
 void set_name(const char *name);
 void subscribe_to(uint32_t client, uint32_t characteristic);
-void write_value(uint32_t characteristic, const void *octets, uint32_t length);
+void write_by(uint32_t client, uint32_t characteristic, const void *octets, uint32_t length);
+void write_value(uint32_t characteristic, const void *octets, uint32_t length); /* by client 0 */
 void write_position(int64_t n);
 void advance_by(uint32_t hundredths);
 void read_name(uint32_t offset, uint32_t number);
@@ -63,6 +65,9 @@ void poke_number(uint32_t at, uint32_t number, uint32_t octets);
 
 ref_player meant(void);
 void stands_at(uint32_t group, uint32_t track, uint32_t position);
+
+/* A desk over a catalogue, as start leaves it. */
+void begin_desk(const char *what, const catalogue_lines *lines);
 
 /* A desk on the sample: group 1 in that order, on that track at that position, with client 0. */
 void stand(const char *what, uint8_t order, uint32_t track, uint32_t position);

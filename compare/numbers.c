@@ -76,13 +76,18 @@ int ends_elsewhere(const standing *was, const standing *is)
     return was->media == MCS_INACTIVE || is->media == MCS_INACTIVE || is->group != was->group || is->track != was->track;
 }
 
-int slot_bit(const uint8_t state[MCS_STATE_OCTETS], uint32_t service, uint32_t client, uint32_t part, uint32_t characteristic)
+uint32_t bit_of(uint32_t characteristic)
 {
     uint32_t bit = 0;
-    while (slot_at(bit) != characteristic) {
+    while (bit < SLOTS && slot_at(bit) != characteristic) {
         bit++;
     }
-    return (word_at(state + MCS_AT_SERVICE(service) + MCS_IN_ACCOUNT(client) + part) >> bit & 1u) != 0;
+    return bit;
+}
+
+int slot_bit(const uint8_t state[MCS_STATE_OCTETS], uint32_t service, uint32_t client, uint32_t part, uint32_t characteristic)
+{
+    return (word_at(state + MCS_AT_SERVICE(service) + MCS_IN_ACCOUNT(client) + part) >> bit_of(characteristic) & 1u) != 0;
 }
 
 int read_mark(const uint8_t state[MCS_STATE_OCTETS], uint32_t service, uint32_t client, uint32_t characteristic)

@@ -29,6 +29,9 @@ uint32_t named_or_next(const tables *t, const standing *p, uint8_t opcode, int64
 /* Whether a call that began there and ended here is on another track or group, or was or is on none. */
 int ends_elsewhere(const standing *was, const standing *is);
 
+/* The bit of a characteristic's slot in a set of slots; SLOTS where it has none. */
+uint32_t bit_of(uint32_t characteristic);
+
 /* Whether the slot of a characteristic is in the set of slots at a part of a client's account with a service. */
 int slot_bit(const uint8_t state[MCS_STATE_OCTETS], uint32_t service, uint32_t client, uint32_t part, uint32_t characteristic);
 

@@ -1,11 +1,13 @@
 #include "play.h"
+#include "count_quiet.h"
 #include "damage.h"
 
 #include <string.h>
 
-#define ROUND 64u
+/* More than a start and all that opens a desk. */
+#define ROUND 192u
 
-int goes_on(const play *p) { return p->going && p->t->count + ROUND <= MOST_STEPS; }
+int goes_on(const play *p) { return p->going && p->t->count + ROUND + 2u * STEPS_TO_GO_QUIET <= MOST_STEPS; }
 
 step *new_step(play *p) { return &p->t->steps[p->t->count]; }
 
@@ -17,6 +19,8 @@ void take_step(play *p)
         p->differed = 1;
     } else if (is_call(s)) {
         count_call(p->r, s, p->share);
+    } else if (s->kind == READ_SCREENS) {
+        count_screens(p->r);
     }
 }
 
@@ -77,6 +81,20 @@ void cannot_be(play *p, const char *why)
         p->going = 0;
         p->differed = p->unshrinkable = 1;
     }
+}
+
+/* "Once only takes with enough room are called" (document 02, W-214); also where the state is of another's making. */
+void go_quiet(play *p)
+{
+    uint32_t said_nothing = 0;
+    p->share = FROM_HISTORY;
+    for (uint32_t k = 1; k < STEPS_TO_GO_QUIET && said_nothing < 2 && p->going; k++) {
+        draw_this_call(&p->d, p->r, TAKE, NONE, new_step(p));
+        take_step(p);
+        expect_standing(p);
+        said_nothing += p->r->second_said.served[SERVED_CHARACTERISTIC] == MCS_NOTHING;
+    }
+    bare_step(p, READ_SCREENS, 0);
 }
 
 void expect_standing(play *p)

@@ -21,7 +21,7 @@ typedef struct {
     int unshrinkable;
 } play;
 
-/* Whether a round of a few dozen steps may begin. */
+/* Whether a round of a few dozen steps may begin, with things going quiet in it and behind it. */
 int goes_on(const play *p);
 
 /* Where the next step is to be drawn; take_step then does it. Nothing may be drawn unless the play is going. */
@@ -56,6 +56,9 @@ void start_and_open(play *p);
 void open_desk(play *p);
 void set_valid_state(play *p);
 void set_any_state(play *p);
+
+/* How each of them ends, and some pause: takes until nothing is owed, and a look at what every client then knows. */
+void go_quiet(play *p);
 
 /* Catalogue, titles and state were made right, so the last call cannot have refused them. */
 void expect_standing(play *p);

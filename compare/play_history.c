@@ -85,14 +85,18 @@ void play_history(play *p)
 {
     uint32_t calls = one_in(&p->d, 8) ? between(&p->d, 2000, 5000) : between(&p->d, 100, 1200), left = 0;
     mood m = random_mood(&p->d, FEW);
+    int one_text = one_in(&p->d, 2); /* of the office, in the whole history */
     start_and_open(p);
     for (uint32_t k = 0; k < calls && goes_on(p); k++) {
         if (left == 0) {
             m = random_mood(&p->d, FEW);
             left = between(&p->d, 10, 120);
+            if (one_in(&p->d, 8)) {
+                go_quiet(p);
+            }
         }
         left--;
-        if (one_in(&p->d, 40)) {
+        if (!one_text && one_in(&p->d, 40)) {
             exchange_titles(p);
         }
         call_in(p, &m);
@@ -102,4 +106,5 @@ void play_history(play *p)
             open_desk(p);
         }
     }
+    go_quiet(p);
 }

@@ -99,6 +99,7 @@ void play_states(play *p)
         }
         bare_step(p, PUT_BACK, 0);
     }
+    go_quiet(p);
 }
 
 void play_catalogues(play *p)
@@ -118,6 +119,7 @@ void play_catalogues(play *p)
         call_in(p, &even);
         bare_step(p, PUT_BACK, 0);
     }
+    go_quiet(p);
 }
 
 /* 224 comes behind 200 and before all others, so that much else may be wrong too. */
@@ -144,6 +146,7 @@ void play_titles(play *p)
         call_in(p, &even);
         bare_step(p, PUT_BACK, 0);
     }
+    go_quiet(p);
 }
 
 void play_any_tables(play *p)

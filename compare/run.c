@@ -9,6 +9,7 @@
 #include "numbers.h"
 #include "octets.h"
 #include "places.h"
+#include "quiet.h"
 #include "titles.h"
 
 #include <stdio.h>
@@ -17,6 +18,7 @@
 void lend_tables(run *r, const tables *t)
 {
     r->lent = *t;
+    stop_following(r);
     for (uint32_t table = 0; table < LENT_TABLES; table++) {
         table_changed(r, table);
     }
@@ -115,6 +117,19 @@ static int services_are_right(run *r, const step *s)
     wrong = wrong == NULL && a->number == 0 ? wrong_clock(&r->lent, s, octets, r->octets) : wrong;
     wrong = wrong == NULL ? wrong_manual(&r->lent, s, a, octets, r->octets) : wrong;
     return wrong == NULL || differs(r, wrong);
+}
+
+/* What either program has its clients know, from its own answers, is what they have to know. */
+static int screens_are_right(run *r, const step *s)
+{
+    static const char *const PROGRAM[PROGRAMS] = {"the library", "the second program"};
+    for (uint32_t program = 0; program < PROGRAMS; program++) {
+        const char *wrong = is_call(s) ? wrong_screens(r, program, s) : unlike_reads(r, program);
+        if (wrong != NULL) {
+            return differs_in(r, PROGRAM[program], wrong);
+        }
+    }
+    return 1;
 }
 
 /* After an accepted call every octet is what it has to be; and where nothing of what they mean has changed, what it was. */
@@ -266,13 +281,16 @@ static int do_call(run *r, const step *s)
         drop_exchanged(r, s);
     }
     return wrong_octets_are_refused(r, s) && (r->library_said.number != 0 ? states_stay(r) : same_states(r, s)) &&
-           services_are_right(r, s);
+           services_are_right(r, s) && screens_are_right(r, s);
 }
 
 int do_step(run *r, const step *s)
 {
     if (is_call(s)) {
         return do_call(r, s);
+    }
+    if (s->kind == READ_SCREENS) {
+        return screens_are_right(r, s);
     }
     alter(r, s);
     return 1;

@@ -31,6 +31,35 @@ typedef struct {
     uint32_t of_served; /* the takes before the last one, of what that one served */
 } waits;
 
+/* What a client knows of a value: nothing, what it was last handed out, or what it has itself written since. */
+enum { NOT_KNOWN, BY_TAKE, BY_WRITE };
+
+/* A slot of a client, since the call by which it subscribed (document 02, W-214). */
+typedef struct {
+    uint8_t subscribed;
+    uint8_t again;   /* it had been subscribed before, in the same connection */
+    uint8_t changed; /* some call left another value than it found */
+    uint8_t by;      /* how the client knows the octets */
+    uint32_t length;
+    uint8_t octets[MCS_OUTPUT_OCTETS];
+} knowledge;
+
+/* What the clients of one program know, from the calls and its answers alone, and the takes that it has answered without another
+ * call between them. */
+typedef struct {
+    int following;                     /* since a start, with one catalogue */
+    uint32_t mtu[MCS_CLIENTS];         /* ATT_MTU; 0 while the client is not connected */
+    uint32_t connections[MCS_CLIENTS]; /* how often it has connected */
+    knowledge of[MCS_CLIENTS][PLACES];
+    int taking;         /* the last call was an accepted take */
+    int quiet;          /* and it said that nothing is owed */
+    uint32_t takes;     /* how many serving takes came last */
+    uint32_t owed_then; /* what was owed before the first of them */
+    int known_already;  /* how the client knew what the last take handed out, where it did; else NOT_KNOWN */
+} screens;
+
+enum { OF_LIBRARY, OF_SECOND, PROGRAMS };
+
 /* What a step altered in the tables since they were remembered. */
 typedef struct {
     uint8_t kind;
@@ -56,6 +85,7 @@ typedef struct {
     uint8_t octets_before[MCS_STATE_OCTETS]; /* the library's state before the last call */
     ref_state before;         /* the second program's */
     waits waited;             /* for what is owed now, and in the last take for what it served */
+    screens shown[PROGRAMS];  /* what either program's clients know */
     uint32_t exchanged[MCS_SERVICES]; /* the clients that have read a title at 0 in whose place the office has since lent another,
                                        * without a change, as bits */
     int unchanged;            /* the last call was accepted, was no start, and left the meaning of the state as it was */

@@ -68,6 +68,7 @@ const char *const STEP_NAME[KINDS] = {
     [CUT_SHEET] = "the cue sheet or object has",
     [POKE_SHEET] = "an octet of the object:",
     [WRITTEN_OBJECT] = "the object is what was written last",
+    [READ_SCREENS] = "what the clients know is held against reads",
     [KEEP] = "state, catalogue and titles are remembered",
     [PUT_BACK] = "state, catalogue and titles are as remembered",
 };

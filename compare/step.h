@@ -25,6 +25,7 @@ enum {
     CUT_SHEET,         /* it is lent with at most `number` octets */
     POKE_SHEET,        /* octet `number` of it is `what` */
     WRITTEN_OBJECT,    /* it is what was written last */
+    READ_SCREENS,      /* what the clients know is held against what is read, where the last take said that nothing is owed */
     KEEP,              /* state, catalogue and titles are remembered */
     PUT_BACK,          /* and are again as they were */
     KINDS

@@ -4,7 +4,10 @@
 
 #include "run.h"
 
-#define MOST_STEPS 6000u
+#define MOST_STEPS 8000u
+
+/* As many takes as there can be something to hand out, two that say that nothing is owed, and a look at the screens. */
+#define STEPS_TO_GO_QUIET (MCS_MOST_OWED + 3u)
 
 typedef struct {
     tables catalogue;

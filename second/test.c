@@ -1,6 +1,7 @@
 /* Tests of the second program: cases whose answers were worked out by hand from the documents, then random calls, which are
- * made for the sanitizers, and whose 200, 207, 224, order of takes, titles, object numbers, clock and manual's Goto are worked out a
- * second time. That it gives the library's answers is not tried here; the comparison does that.
+ * made for the sanitizers, and whose 200, 207, 224, order of takes, titles, object numbers, clock, manual's Goto and what clients
+ * know when nothing is owed are worked out a second time. That it gives the library's answers is not tried here; the comparison
+ * does that.
  *
  * Usage: test [histories [seed]]. A comment in quotation marks is a sentence of document 01; among the cue sheets, and where it
  * names a request, one of document 02. */
@@ -1249,23 +1250,28 @@ static void owe_everything(void)
     }
     EACH(0, 8) OWES_IN(k % 2, k / 2, 0x3FFF);
 }
+/* What is then handed out, by place. */
+static const struct { const char *octets; uint32_t len; } EVERYTHING[ROUND] = {
+    {"Zero", 4}, {"", 0}, {"\xC3\x9C" "berfahrt", 10}, {"\x70\x17\x00\x00", 4}, {"\x00\x00\x00\x00", 4},
+    {"\x02", 1}, {"\x20", 1}, {"\x00\x10\x00\x00\x00\x00", 6}, {"\x01\x10\x00\x00\x00\x00", 6},
+    {"\x00\x20\x00\x00\x00\x00", 6}, {"\x01\x20\x00\x00\x00\x00", 6}, {"\x06", 1}, {"\x03", 1}, {"\x04\x01", 2},
+    {"One", 3}, {"", 0}, {"Ziel", 4}, {"\x84\x03\x00\x00", 4}, {"\x00\x00\x00\x00", 4},
+    {"\x03", 1}, {"\x20", 1}, {"\x03\x10\x00\x00\x00\x00", 6}, {"\x03\x10\x00\x00\x00\x00", 6},
+    {"\x00\x20\x00\x00\x00\x00", 6}, {"\x03\x20\x00\x00\x00\x00", 6}, {"\x08", 1}, {"\x03", 1}, {"\x04\x01", 2}};
+/* Whether the next take serves a place of a client with that. */
+static int serves(uint32_t client, uint32_t at)
+{
+    return IN(at / SLOTS, takes(client, SLOT[at % SLOTS], EVERYTHING[at].octets, EVERYTHING[at].len));
+}
 
 /* W-208: "only the order of takes is shared, a client's slots running through the generic service and then the other", W-209: "per
  * client there are now 28 slots and the bound is 112" */
 static void round_cases(void)
 {
-    static const struct { const char *octets; uint32_t len; } VALUE[ROUND] = {
-        {"Zero", 4}, {"", 0}, {"\xC3\x9C" "berfahrt", 10}, {"\x70\x17\x00\x00", 4}, {"\x00\x00\x00\x00", 4},
-        {"\x02", 1}, {"\x20", 1}, {"\x00\x10\x00\x00\x00\x00", 6}, {"\x01\x10\x00\x00\x00\x00", 6},
-        {"\x00\x20\x00\x00\x00\x00", 6}, {"\x01\x20\x00\x00\x00\x00", 6}, {"\x06", 1}, {"\x03", 1}, {"\x04\x01", 2},
-        {"One", 3}, {"", 0}, {"Ziel", 4}, {"\x84\x03\x00\x00", 4}, {"\x00\x00\x00\x00", 4},
-        {"\x03", 1}, {"\x20", 1}, {"\x03\x10\x00\x00\x00\x00", 6}, {"\x03\x10\x00\x00\x00\x00", 6},
-        {"\x00\x20\x00\x00\x00\x00", 6}, {"\x03\x20\x00\x00\x00\x00", 6}, {"\x08", 1}, {"\x03", 1}, {"\x04\x01", 2}};
     /* 112 takes, of which none answers that nothing is owed: the clients by turns, and each client's places in order. */
     lend_sample(); owe_everything();
     EACH(0, 4 * ROUND) {
-        CHECK(IN(k / 4 / SLOTS, takes(k % 4, SLOT[k / 4 % SLOTS], VALUE[k / 4].octets, VALUE[k / 4].len)));
-        EQUAL(s.links[k % 4].mark, k / 4);
+        CHECK(serves(k % 4, k / 4)); EQUAL(s.links[k % 4].mark, k / 4);
     }
     CHECK(takes(0, 0, "", 0)); EQUAL(s.turn, 3);
     EACH(0, 4) EQUAL(s.links[k].mark, 27);
@@ -1276,7 +1282,7 @@ static void round_cases(void)
         s.links[0].mark = mark;
         EACH(1, ROUND + 1) {
             uint32_t next = (mark + k) % ROUND;
-            CHECK(IN(next / SLOTS, takes(0, SLOT[next % SLOTS], VALUE[next].octets, VALUE[next].len))); EQUAL(s.links[0].mark, next);
+            CHECK(serves(0, next)); EQUAL(s.links[0].mark, next);
         }
         CHECK(takes(0, 0, "", 0)); s = owes_all;
     }
@@ -1321,6 +1327,30 @@ static void round_cases(void)
     EQUAL(IN(0, set_name("H")) || IN(1, set_name("I")), 0); CHECK(takes(0, 0, "", 0));
     EQUAL(IN(0, subscribes(0, 1)) || IN(1, subscribes(0, 1)) || IN(1, set_name("J")) || IN(0, set_name("K")), 0);
     CHECK(IN(0, takes(0, 1, "K", 1)) && IN(1, takes(0, 1, "J", 1)) && takes(0, 0, "", 0));
+}
+
+/* W-214: all that is owed, values and results that wait. */
+static uint32_t owed_to_all(void)
+{
+    uint32_t all = 0;
+    EACH(0, 8 * SLOTS) {
+        const ref_account *a = &s.services[k / SLOTS % 2].accounts[k / SLOTS / 2];
+        all += SLOT[k % SLOTS] == 18 ? a->waiting : a->owed >> k % SLOTS & 1;
+    }
+    return all;
+}
+/* W-214: "after at most 168 takes nothing more is owed": all four are owed all 13 values of either service, and eight results
+ * there, of which one is handed out with the 28 places, and the others by turns behind them. No rung is above 32. */
+static void most_owed_cases(void)
+{
+    lend_sample(); owe_everything();
+    EACH(0, 7 * 8) EQUAL(IN(k % 2, commands(k / 2 % 4, FORWARD, 0)), 0);
+    EACH(0, 8) EQUAL(IN(k % 2, commands(k / 2, FORWARD, 0)), 0x11);
+    EQUAL(owed_to_all(), 168);
+    EACH(0, 168) {
+        CHECK(serves(k % 4, k < 4 * ROUND ? k / 4 : k / 4 % 2 == 0 ? 13 : 27)); EQUAL(owed_to_all(), 167 - k);
+    }
+    CHECK(takes(0, 0, "", 0) && takes(0, 0, "", 0)); EQUAL(owed_to_all(), 0);
 }
 
 /* 201 looks at the layout, at both players and at all records, in every call that takes a state, whichever service it is to. */
@@ -3837,6 +3867,153 @@ static void history(void)
     EACH(0, 150) random_catalogue();
 }
 
+/* ---- W-214: what a client knows when nothing is owed */
+
+/* A slot since the client subscribed to it: whether it changed, how the client last heard of it, and what. `again` says that it had
+ * been subscribed to before, since the client connected. */
+enum { UNHEARD, TOOK, WROTE };
+typedef struct { int on, again, changed, how; uint32_t len; uint8_t octets[128]; } hearing;
+static hearing heard[4][ROUND];
+static uint32_t mtu_of[4];
+static hearing *heard_of(uint32_t client, uint32_t what)
+{
+    uint32_t slot = 0;
+    while (SLOT[slot] != what) slot++;
+    return &heard[client][service * SLOTS + slot];
+}
+static void hear(hearing *h, int how, const uint8_t *octets, uint32_t len)
+{
+    CHECK(len <= sizeof h->octets);
+    h->how = how; h->len = len; memcpy(h->octets, octets, len % (sizeof h->octets + 1));
+}
+
+/* The values by place, as client 0 reads them on a copy of the state, on which it is connected with ATT_MTU 517. The number of the
+ * track stands for 4, which is empty and cannot be read, and tells when it changes. Of 18 there is no value. */
+static struct { uint32_t len; uint8_t octets[128]; } values[ROUND];
+static void look(uint32_t at)
+{
+    copies t = copy_lent();
+    ref_state there;
+    memcpy(&there, &s, sizeof s);
+    if (there.links[0].connected) EQUAL(ref_disconnect(LENT_ALL(t), &there, 0, PLACE), 0);
+    EQUAL(ref_connect(LENT_ALL(t), &there, 0, 517, 1, PLACE), 0);
+    EACH(at * SLOTS, at * SLOTS + SLOTS - 1) {
+        uint32_t what = SLOT[k % SLOTS] == 4 ? 11 : SLOT[k % SLOTS];
+        memset(&values[k], 0, sizeof values[k]);
+        EQUAL(ref_read(LENT_ALL(t), &there, 0, at, what, 0, values[k].octets, sizeof values[k].octets, &values[k].len, PLACE), 0);
+    }
+    free_copies(t);
+}
+/* The values of a service are looked at anew, and those that are others have changed for whoever is subscribed. */
+static void note_changes(uint32_t at)
+{
+    uint8_t before[sizeof values];
+    memcpy(before, values, sizeof values);
+    look(at);
+    EACH(0, 4 * ROUND) {
+        hearing *h = &heard[k / ROUND][k % ROUND];
+        if (memcmp(before + k % ROUND * sizeof values[0], &values[k % ROUND], sizeof values[0]) != 0) h->changed |= h->on;
+    }
+}
+
+/* A call, and what it tells. A player of which no octet has changed has the values that it had. */
+static uint32_t hears(int call, uint32_t client, uint32_t what, uint32_t number, const void *octets, size_t len, size_t room)
+{
+    ref_state was;
+    uint32_t refusal;
+    hearing *h;
+    memcpy(&was, &s, sizeof s);
+    refusal = makes(call, client, what, number, octets, len, room);
+    if (refusal != 0) return refusal;
+    EACH(0, 2) if (memcmp(&was.services[k].player, &s.services[k].player, sizeof was.services[k].player) != 0) note_changes(k);
+    if (call == CONNECT || call == DISCONNECT) memset(heard[client], 0, sizeof heard[client]);
+    if (call == CONNECT) mtu_of[client] = number;
+    if (call == TAKE) { client = said.served[0]; service = said.served[1]; what = said.served[2]; }
+    if ((call != TAKE && call != WRITE && call != SUBSCRIBE && call != UNSUBSCRIBE) || what == 0) return 0;
+    h = heard_of(client, what);
+    if (call == SUBSCRIBE && !h->on) { h->on = 1; h->changed = h->how = 0; }
+    if (call == UNSUBSCRIBE) { h->again |= h->on; h->on = 0; }
+    if (call == TAKE) { CHECK(h->on); hear(h, TOOK, said.out, said.served[3]); }
+    if (call == WRITE && h->on) hear(h, WROTE, octets, (uint32_t)len);
+    return 0;
+}
+
+/* How often a slot that changed was known by a take and by its client's own write, by characteristic; had been subscribed to again;
+ * was longer than ATT_MTU − 3; and had not changed, so that nothing is said of it. And the most takes that were needed. */
+static unsigned long known[3][23], known_again, known_cut, not_changed, most_takes;
+static int is_known(const hearing *h, uint32_t slot, uint32_t mtu)
+{
+    uint32_t len = SLOT[slot % SLOTS] == 4 ? 0 : values[slot].len, most = mtu - 3;
+    known_again += h->again != 0; known_cut += len > most; known[h->how][SLOT[slot % SLOTS]]++;
+    return h->how != UNHEARD && h->len == (len < most ? len : most) && memcmp(h->octets, values[slot].octets, h->len) == 0;
+}
+/* "Once only takes with enough room are called": as many serve as things are owed, and then none. Then of "every subscribed slot
+ * but 7 and 18 that changed since subscribing" what the client last took, or itself wrote since, "is the present value as far as
+ * ATT_MTU − 3 reaches". */
+static void goes_quiet(void)
+{
+    ref_state was;
+    uint32_t owed = owed_to_all(), takes_made = 0;
+    EQUAL(hears(TAKE, 0, 0, 0, NULL, 0, ROOM + below(32)), 0);
+    for (; said.served[2] != 0 && takes_made < 1000; takes_made++) EQUAL(hears(TAKE, 0, 0, 0, NULL, 0, ROOM + below(32)), 0);
+    EQUAL(takes_made, owed); CHECK(takes_made <= 168); EQUAL(owed_to_all(), 0);
+    most_takes = takes_made > most_takes ? takes_made : most_takes;
+    memcpy(&was, &s, sizeof s); CHECK(takes(0, 0, "", 0)); CHECK(memcmp(&was, &s, sizeof s) == 0);
+    look(0); look(1);
+    EACH(0, 4 * ROUND) {
+        const hearing *h = &heard[k / ROUND][k % ROUND];
+        uint32_t what = SLOT[k % SLOTS];
+        not_changed += h->on && !h->changed;
+        if (h->on && h->changed && what != 7 && what != 18) CHECK(is_known(h, k % ROUND, mtu_of[k / ROUND]));
+    }
+}
+
+/* One of the calls by which values change, and by which clients hear of them. Some are refused. */
+static void random_hearing(void)
+{
+    static const int CALL[14] = {ADVANCE, ADVANCE, ADVANCE, SET_NAME, ACTIVATE, ACTIVATE, SUBSCRIBE, SUBSCRIBE, UNSUBSCRIBE, TAKE,
+                                 TAKE, READ, CONNECT, DISCONNECT};
+    static const uint32_t WRITES[12] = {7, 8, 8, 11, 12, 12, 14, 15, 15, 18, 18, 18};
+    static const char *const NAME[4] = {"", "Desk", "Door", "The desk at which the interviews of the autumn are typed"};
+    int call = one_in(2) ? WRITE : CALL[below(14)];
+    uint32_t client = below(4), what = call == WRITE ? WRITES[below(12)] : SLOT[below(SLOTS)];
+    uint32_t number = one_in(2) ? below(4) : below(7000);
+    const char *name = NAME[below(4)];
+    uint8_t octets[6];
+    size_t len = what == 7 ? 4 : what >= 11 && what <= 14 ? 6 : 1, room = one_in(12) ? below(ROOM) : ROOM + below(32);
+    service = below(2);
+    if (call == DISCONNECT && !one_in(3)) call = one_in(4) ? DEACTIVATE : TAKE;
+    if (call == ACTIVATE || call == READ) number = call == READ ? 0 : below(4);
+    if (call == CONNECT) { what = 1; number = 22 + below(498); }
+    put_number(octets, what == 7 ? (long)below(8000) - 1000 : (long)below(9));
+    if (len == 6) memcpy(octets, random_number(what), 6);
+    if (what == 18) {
+        octets[0] = OPCODE[below(21)]; put_number(octets + 1, (long)below(9) - 4); len = CARRIES_NUMBER(octets[0]) ? 5 : 1;
+    }
+    if (call == SET_NAME) (void)hears(call, 0, 0, 0, name, strlen(name), 0);
+    else (void)hears(call, client, what, number, octets, call == WRITE ? len : 0, room);
+    if (call == UNSUBSCRIBE && one_in(2)) (void)hears(SUBSCRIBE, client, what, 0, NULL, 0, 0);
+}
+
+/* From a fresh start, with one catalogue and one text of renamed titles, things go quiet now and then. */
+static void quiet_history(void)
+{
+    lend_sample();
+    if (one_in(2)) nest_groups();
+    if (one_in(3)) lent.words[TRACKS][6 * below(4)] = UNKNOWN;
+    lend_random_titles();
+    service = below(2); EQUAL(start(one_in(4) ? any() : ALL_OPCODES), 0);
+    memset(heard, 0, sizeof heard); look(0); look(1);
+    EACH(0, 4) if (!one_in(6)) EQUAL(hears(CONNECT, k, 1, 23 + (one_in(2) ? 0 : below(495)), NULL, 0, 0), 0);
+    EACH(0, 4 * ROUND) {
+        service = k / SLOTS % 2; if (!one_in(4)) (void)hears(SUBSCRIBE, k / ROUND, SLOT[k % SLOTS], 0, NULL, 0, 0);
+    }
+    EACH(0, 3) {
+        for (uint32_t calls = below(80); calls > 0; calls--) random_hearing();
+        goes_quiet();
+    }
+}
+
 int main(int argc, char **argv)
 {
     unsigned long histories = argc > 1 ? strtoul(argv[1], NULL, 10) : 300, made = 0;
@@ -3854,15 +4031,21 @@ int main(int argc, char **argv)
     service = 1; every_speed_cases(); hour_cases();
     service = 0;
     catalogue_cases(); title_cases();
-    start_cases(); number_cases(); apart_cases(); both_owed_cases(); mark_cases(); round_cases(); both_states_cases();
+    start_cases(); number_cases(); apart_cases(); both_owed_cases(); mark_cases(); round_cases(); most_owed_cases();
+    both_states_cases();
     rename_refusal_cases(); both_titles_cases(); manual_refusal_cases(); manual_sweep_cases(); manual_full_cases();
     object_cases(); object_read_cases(); card_cases(); reason_cases(); short_cases(); writer_cases(); sheet_cases();
     for (unsigned long k = 0; k < histories; k++) history();
+    for (unsigned long k = 0; k < 10 * histories; k++) quiet_history();
     EACH(0, CALLS) { CHECK(histories < 40 || (accepted[k] > 0 && refused[k] > 0)); made += accepted[k] + refused[k]; }
     EACH(0, 4) CHECK(histories < 40 || kinds[k] > 5 * histories);
     EACH(0, MET) CHECK(histories < 40 || met[k] > histories / 3);
     EACH(0, 15) CHECK(histories < 40 || shown[k / 5][k % 5] > histories / 3);
     EACH(0, 3) CHECK(histories < 40 || objects[k] > histories);
-    printf("checks: %lu, failures: %lu; random histories: %lu, calls: %lu\n", checks, failures, histories, made);
+    EACH(0, SLOTS - 1) CHECK(histories < 40 || SLOT[k] == 7 || known[TOOK][SLOT[k]] > histories);
+    EACH(0, 5) CHECK(histories < 40 || known[WROTE]["\x08\x0B\x0C\x0E\x0F"[k] & 31] > histories / 3);
+    CHECK(histories < 40 || (known_again > histories && known_cut > histories && not_changed > histories && most_takes > 56));
+    printf("checks: %lu, failures: %lu; random histories: %lu, calls: %lu; ", checks, failures, histories, made);
+    printf("until nothing was owed: %lu times, by at most %lu takes\n", 30 * histories, most_takes);
     return failures == 0 ? 0 : 1;
 }

@@ -123,13 +123,17 @@ module _ (k : Lent) (right : lentRule k ≡ true) (gen nam : Beginning) (gt : te
   abbrev roomAt : ℕ → ℕ
   roomAt p = pick (isControl (slotAt p)) mostResults 1
 
-  pub most-owed : (h : List Call) → owedCount (ledger h) ≤ mostOwed
+  all-rooms : sumBelow clientCount (λ c. sumBelow placeCount roomAt) ≡ mostOwed
   unfolding sumBelow slotAt
+  all-rooms = refl
+
+  pub most-owed : (h : List Call) → owedCount (ledger h) ≤ mostOwed
   most-owed h =
-      sum-at-most (owedTo (ledger h)) (λ c. sumBelow placeCount roomAt) clientCount
+      subst (λ (n : ℕ). owedCount (ledger h) ≤ n) all-rooms
+      (sum-at-most (owedTo (ledger h)) (λ c. sumBelow placeCount roomAt) clientCount
       (λ c client. sum-at-most (backlogAt (ledger h) c) roomAt placeCount
       (λ p place. fits (eqb (slotAt p) controlSlot) (ledger h .service (serviceOf p) .account c .due (slotAt p)) _
-      (few-waiting h c (serviceOf p) client (service-there p place))))
+      (few-waiting h c (serviceOf p) client (service-there p place)))))
     where
       fits : (t b : Bool) (n : ℕ) → n ≤ mostResults → pick t n (pick b 1 0) ≤ pick t mostResults 1
       fits true b n few = few

@@ -161,14 +161,6 @@ module _ (k : Lent) (who v s : ℕ) where
         go false w w′ = stays (λ d. d) refl (unchanged (b .player)) refl
     relinking-in false by line L = same-fate (L .link who) (L .service v)
 
-    -- a call that is no write, and hands out nothing
-    blank : (number : ℕ) (L M : Ledger) → FateIn L M [] → FateIn L M (pick (eqb number 0) [] [])
-    blank number L M f = go (eqb number 0)
-      where
-        go : (t : Bool) → FateIn L M (pick t [] [])
-        go true = f
-        go false = f
-
     -- ---- a write
     module _ (right : Right (catalogueOf k)) (L : Ledger) (room : 23 ≤ L .link who .mtu) where
       abbrev book : Book
@@ -221,14 +213,12 @@ module _ (k : Lent) (who v s : ℕ) where
           go false = told x (byWriter by c) (playerWritten (catalogueOf k) (book .player) c value) book (unspared-by by c apart)
 
       write-fate : (by w c : ℕ) (value : List ℕ) (number : ℕ) → Octs value → eqb number 0 ≡ mayWrite k L by w c value
-          → FateIn L (pick (mayWrite k L by w c value) (inService w (writing k by c value) L) L) (pick (eqb number 0) (ownWrite who v s (write by w c value)) [])
+          → FateIn L (pick (mayWrite k L by w c value) (inService w (writing k by c value) L) L) (ownWrite who v s number (write by w c value))
       write-fate by w c value number octets said =
-          subst (λ (t : Bool). FateIn L (pick (mayWrite k L by w c value) (inService w (writing k by c value) L) L) (pick t (ownWrite who v s (write by w c value)) [])) (sym said)
-          (go (mayWrite k L by w c value) refl)
+          subst
+          (λ (t : Bool). FateIn L (pick (mayWrite k L by w c value) (inService w (writing k by c value) L) L) (pick (t && (eqb who by && (eqb v w && eqb about c))) (value ∷ []) []))
+          (sym said) (go (mayWrite k L by w c value) refl)
         where
-          own : List (List ℕ)
-          own = pick (eqb who by && (eqb v w && eqb about c)) (value ∷ []) []
-
           -- to this service
           here-written : v ≡ w → mayWrite k L by w c value ≡ true → (t : Bool) → (eqb who by && eqb about c) ≡ t
               → FateOf (L .link who) (L .link who) book (writing k by c value book) (pick t (value ∷ []) [])
@@ -241,7 +231,8 @@ module _ (k : Lent) (who v s : ℕ) where
               (own-known value octets ((λ i. mayWrite k L (me i) (same i) (it i) value) ∙ may))))))
           here-written same may false mine wants wants′ = others-write by c value mine (L .link who) wants wants′
 
-          go : (t : Bool) → mayWrite k L by w c value ≡ t → FateIn L (pick t (inService w (writing k by c value) L) L) (pick t own [])
+          go : (t : Bool) → mayWrite k L by w c value ≡ t
+              → FateIn L (pick t (inService w (writing k by c value) L) L) (pick (t && (eqb who by && (eqb v w && eqb about c))) (value ∷ []) [])
           go true may = at (eqb v w) refl
             where
               at : (u : Bool) → eqb v w ≡ u
@@ -315,9 +306,8 @@ module _ (k : Lent) (who v s : ℕ) where
         serving-fate false mine wants wants′ =
             stays (λ d. sym (still-due mine) ∙ d) same-shown (ap (changesFrom (L .service v .player)) same-player ∙ unchanged (L .service v .player)) refl
 
-      take-fate : (room number : ℕ)
-          → FateIn L (after k (take room) L) (handoutsTo who v s (prepend (dueOut k (take room) L) []) ++ pick (eqb number 0) [] [])
-      take-fate room number = go (mayTake room) (leb clientCount (nextIn L)) (eqb number 0)
+      take-fate : (room : ℕ) → FateIn L (after k (take room) L) (handoutsTo who v s (prepend (dueOut k (take room) L) []) ++ [])
+      take-fate room = go (mayTake room) (leb clientCount (nextIn L))
         where
           n : ℕ
           n = nextIn L
@@ -328,18 +318,13 @@ module _ (k : Lent) (who v s : ℕ) where
           octets : List ℕ
           octets = octetsIn k (L .service (serviceOf (placeIn L (nextIn L)))) (nextIn L) (L .link (nextIn L)) (slotAt (placeIn L (nextIn L)))
 
-          ended : (l : List (List ℕ)) (t : Bool) → l ≡ l ++ pick t [] []
-          ended l true = sym (append-nil l)
-          ended l false = sym (append-nil l)
-
-          go : (t u z : Bool)
-              → FateIn L (pick t (pick u L (servingNext L)) L)
-              (handoutsTo who v s (prepend (pick t (pick u none (some (answerIn k L (nextIn L)))) none) []) ++ pick z [] [])
-          go true true z = subst (FateIn L L) (ended [] z) (same-fate (L .link who) (L .service v))
-          go true false z =
-              subst (FateIn L (servingNext L)) (ended (pick (eqb who n && eqb (placeOf v s) p) (octets ∷ []) []) z)
+          go : (t u : Bool)
+              → FateIn L (pick t (pick u L (servingNext L)) L) (handoutsTo who v s (prepend (pick t (pick u none (some (answerIn k L (nextIn L)))) none) []) ++ [])
+          go true true = same-fate (L .link who) (L .service v)
+          go true false =
+              subst (FateIn L (servingNext L)) (sym (append-nil (pick (eqb who n && eqb (placeOf v s) p) (octets ∷ []) [])))
               (serving-fate n p (eqb who n && eqb (placeOf v s) p) refl)
-          go false u z = subst (FateIn L L) (ended [] z) (same-fate (L .link who) (L .service v))
+          go false u = same-fate (L .link who) (L .service v)
 
       -- ---- every call; a write was answered 0 exactly where it was accepted
       abbrev pub Answered : Call → ℕ → Type 0
@@ -357,22 +342,21 @@ module _ (k : Lent) (who v s : ℕ) where
 
       pub fate : Right (catalogueOf k) → 23 ≤ L .link who .mtu → (call : Call) (number : ℕ) → WritesOctets call → Answered call number
           → FateIn L (after k call L) (learntBy who v s call number (dueOut k call L))
-      fate right m (setName w name) number o a = blank number L (after k (setName w name) L) (told-in (accepted (nameRows w name)) w (λ p. noWriter false) (renamed name) L (λ p. unspared false))
+      fate right m (setName w name) number o a = (told-in (accepted (nameRows w name)) w (λ p. noWriter false) (renamed name) L (λ p. unspared false))
       fate right m (activate w g) number o a =
-          blank number L (after k (activate w g) L) (told-in (accepted (activateRows k w g)) w (λ p. noWriter false) (activated (k .groups) (k .tracks) g) L (λ p. unspared false))
-      fate right m (deactivate w) number o a = blank number L (after k (deactivate w) L) (told-in (accepted (serviceRows w)) w (λ p. noWriter false) deactivated L (λ p. unspared false))
+          (told-in (accepted (activateRows k w g)) w (λ p. noWriter false) (activated (k .groups) (k .tracks) g) L (λ p. unspared false))
+      fate right m (deactivate w) number o a = (told-in (accepted (serviceRows w)) w (λ p. noWriter false) deactivated L (λ p. unspared false))
       fate right m (advance w step) number o a =
-          blank number L (after k (advance w step) L)
           (told-in (accepted (serviceRows w)) w (λ p. noWriter (quietAdvance (k .tracks) step p)) (advanced (k .groups) (k .tracks) step) L (λ p. unspared (quietAdvance (k .tracks) step p)))
-      fate right m (connect by mtu encrypted) number o a = blank number L (after k (connect by mtu encrypted) L) (relinking-in (mayConnect L by mtu) by (lineOf true encrypted mtu) L)
-      fate right m (disconnect by) number o a = blank number L (after k (disconnect by) L) (relinking-in (mayLeave L by) by noLine L)
-      fate right m (subscribe by w c) number o a = blank number L (after k (subscribe by w c) L) (changing-in (mayJoin L by w c) w by (joining (slotOf c)) L (λ x w′ d. d))
-      fate right m (unsubscribe by w c) number o a = blank number L (after k (unsubscribe by w c) L) (changing-in (mayJoin L by w c) w by (leaving (slotOf c)) L (λ x. left-alone (x .wants s) (x .due s) (eqb (slotOf c) s)))
+      fate right m (connect by mtu encrypted) number o a = (relinking-in (mayConnect L by mtu) by (lineOf true encrypted mtu) L)
+      fate right m (disconnect by) number o a = (relinking-in (mayLeave L by) by noLine L)
+      fate right m (subscribe by w c) number o a = (changing-in (mayJoin L by w c) w by (joining (slotOf c)) L (λ x w′ d. d))
+      fate right m (unsubscribe by w c) number o a = (changing-in (mayJoin L by w c) w by (leaving (slotOf c)) L (λ x. left-alone (x .wants s) (x .due s) (eqb (slotOf c) s)))
         where
           left-alone : (wants due t : Bool) → (wants && not t) ≡ true → (due && not t) ≡ false → due ≡ false
           left-alone wants due true w d = clash (sym (and-fails wants refl) ∙ w)
           left-alone wants true false w d = d
           left-alone wants false false w d = refl
-      fate right m (read by w c offset room) number o a = blank number L (after k (read by w c offset room) L) (changing-in (mayRead k L by w c offset room) w by (reading c offset) L (λ x w′ d. d))
+      fate right m (read by w c offset room) number o a = (changing-in (mayRead k L by w c offset room) w by (reading c offset) L (λ x w′ d. d))
       fate right m (write by w c value) number o a = write-fate right L m by w c value number o a
-      fate right m (take room) number o a = take-fate room number
+      fate right m (take room) number o a = take-fate room

@@ -9,6 +9,7 @@ use mathlib.Core.List.{List, [], _∷_, _++_}
 use Prim.Native.Nat.{ℕ, _<_}
 use lib.Dec.{eqb}
 use Rattle.ground.specs.Cases.{pick}
+use Rattle.ground.specs.Lists.{Each}
 use Rattle.ground.specs.Words.{Octs}
 use Rattle.catalogue_titles.specs.Lent.{Lent}
 use Rattle.player_state.specs.declared.Player.{Player}
@@ -27,24 +28,24 @@ pub record Claimed (s : ℕ) : Type 0 where
   pub but-position : characteristicOf s ≡ 7 → ⊥
   pub but-results : characteristicOf s ≡ 18 → ⊥
 
--- the octets of a write by client who to slot s of service v
-abbrev pub ownWrite : ℕ → ℕ → ℕ → Call → List (List ℕ)
-ownWrite who v s (setName w name) = []
-ownWrite who v s (activate w g) = []
-ownWrite who v s (deactivate w) = []
-ownWrite who v s (advance w step) = []
-ownWrite who v s (connect by mtu encrypted) = []
-ownWrite who v s (disconnect by) = []
-ownWrite who v s (subscribe by w c) = []
-ownWrite who v s (unsubscribe by w c) = []
-ownWrite who v s (read by w c offset room) = []
-ownWrite who v s (write by w c value) = pick (eqb who by && (eqb v w && eqb (characteristicOf s) c)) (value ∷ []) []
-ownWrite who v s (take room) = []
+-- what client who "itself wrote with success" to slot s of service v by a call that answered this number; 0 says that it was accepted
+abbrev pub ownWrite : ℕ → ℕ → ℕ → ℕ → Call → List (List ℕ)
+ownWrite who v s number (setName w name) = []
+ownWrite who v s number (activate w g) = []
+ownWrite who v s number (deactivate w) = []
+ownWrite who v s number (advance w step) = []
+ownWrite who v s number (connect by mtu encrypted) = []
+ownWrite who v s number (disconnect by) = []
+ownWrite who v s number (subscribe by w c) = []
+ownWrite who v s number (unsubscribe by w c) = []
+ownWrite who v s number (read by w c offset room) = []
+ownWrite who v s number (write by w c value) =
+    pick (eqb number 0 && (eqb who by && (eqb v w && eqb (characteristicOf s) c))) (value ∷ []) []
+ownWrite who v s number (take room) = []
 
--- what client who learns of slot s of service v by a call with this number, which hands out this: "what the client .. took", and what it "itself wrote with
--- success", which the number 0 says
+-- what it learns of the slot by a call that answered this number and handed out this: what it took, and what it wrote
 abbrev pub learntBy : ℕ → ℕ → ℕ → Call → ℕ → Option Handout → List (List ℕ)
-learntBy who v s call number o = handoutsTo who v s (prepend o []) ++ pick (eqb number 0) (ownWrite who v s call) []
+learntBy who v s call number o = handoutsTo who v s (prepend o []) ++ ownWrite who v s number call
 
 -- the newest of what was learnt
 abbrev pub newest : List (List ℕ) → Option (List ℕ)
@@ -76,7 +77,7 @@ module _ (k : Lent) (generic named : Beginning) (who v s : ℕ) where
   abbrev pub presentAt : List Call → List ℕ
   presentAt h = octetsIn k (ledgerAt k generic named h .service v) who (ledgerAt k generic named h .link who) s
 
--- what a call writes is octets, each below 256
+-- what a call writes is octets, each below 256; and so of every call of a history
 abbrev pub WritesOctets : Call → Type 0
 WritesOctets (setName w name) = Unit {0}
 WritesOctets (activate w g) = Unit {0}
@@ -91,5 +92,4 @@ WritesOctets (write by w c value) = Octs value
 WritesOctets (take room) = Unit {0}
 
 abbrev pub AllOctets : List Call → Type 0
-AllOctets [] = Unit {0}
-AllOctets (c ∷ h) = WritesOctets c × AllOctets h
+AllOctets h = Each WritesOctets h
