@@ -28,15 +28,18 @@ data Tells (changed : Bool) (learnt : List (List ℕ)) (now : List ℕ) : Type 0
   untouched : changed ≡ false → learnt ≡ [] → Tells changed learnt now
   knows : newest learnt ≡ some now → Tells changed learnt now
 
+-- 18 has the control point's slot
+pub slot-not-18 : (s : ℕ) → (characteristicOf s ≡ 18 → ⊥) → s ≡ controlSlot → ⊥
+unfolding characteristicOf
+slot-not-18 s not-control e = not-control (ap characteristicOf e)
+
 module _ (k : Lent) (right : lentRule k ≡ true) (gen nam : Beginning) (gt : textRule (gen .name) ≡ true) (nt : textRule (nam .name) ≡ true) where
   abbrev ledger : List Call → Ledger
   ledger h = ledgerAt k gen nam h
 
   module _ (who v s : ℕ) (client : who < clientCount) (slot : s < slotCount) (not-position : characteristicOf s ≡ 7 → ⊥) (not-control : characteristicOf s ≡ 18 → ⊥) where
-    -- 18 has the last slot
     no-results : s ≡ controlSlot → ⊥
-    unfolding characteristicOf
-    no-results e = not-control (ap characteristicOf e)
+    no-results = slot-not-18 s not-control
 
     abbrev shown : List Call → List ℕ
     shown h = shownTo k who v s (ledger h .link who) (ledger h .service v .player)

@@ -1,25 +1,27 @@
 -- When things go quiet (document 02, W-214), sentence by sentence: "over any history from a fresh start with one catalogue and one text of renamed titles that
 -- 224 does not refuse". A history is any list of calls with any arguments, accepted or refused; what is owed is the ledger's, from the calls and the rules
 -- alone; what is learnt is what the takes hand out and what the writes that are answered 0 carry (`specs/Known.antt`). Assumes nothing.
-use mathlib.Core.Path.{_≡_, refl, sym, _∙_}
+use mathlib.Core.Path.{_≡_, refl, sym, ap, _∙_}
 use mathlib.Core.Bool.{Bool, true, false}
 use mathlib.Core.Option.{none, some}
 use mathlib.Core.List.{List, _∷_}
 use Prim.Native.Nat.{ℕ, zero, suc, _-_, _≤_, _<_}
 use native.Mathlib.Omega.{arith}
-use borrow.Author.Tests.{leb-false}
+use borrow.Author.Tests.{ne-eqb, leb-false}
 use lib.Dec.{leb}
-use lib.ListN.{length}
+use lib.ListN.{length, take as firsts}
 use Rattle.ground.specs.Cases.{pick}
 use Rattle.ground.proofs.Cases.{clash}
 use Rattle.catalogue_titles.specs.Lent.{Lent, lentRule}
 use Rattle.player_check.specs.Standing.{textRule}
-use Rattle.desk_slots.specs.Slots.{serviceCount, clientCount, serviceOf, slotAt}
+use Rattle.desk_slots.specs.Slots.{serviceCount, clientCount, characteristicOf, serviceOf, slotAt}
 use Rattle.desk_slots.proofs.PlaceLaws.{service-there, slot-there}
+use Rattle.desk_client.specs.Client.{controlSlot}
+use Rattle.player_values.specs.Values.{sourceOf, valueOf}
 use Rattle.desk_console.specs.Console.{Beginning}
 use Rattle.desk_history.specs.Calls.{Call, take}
 use Rattle.desk_history.specs.Ledger.{Ledger, owes, nextIn, placeIn, mayTake}
-use Rattle.desk_history.specs.History.{answerIn, handedOut, ledgerAt, deskAt, onward, subscribedAt}
+use Rattle.desk_history.specs.History.{oldest, answerIn, handedOut, ledgerAt, deskAt, onward, subscribedAt}
 use Rattle.desk_history.specs.Reached.{oneTrack, plain, takes}
 use Rattle.desk_history.proofs.LedgerLaws.{slot-near}
 use Rattle.desk_history.proofs.Agree.{hands-at, in-range}
@@ -29,7 +31,7 @@ use Rattle.desk_quiet.specs.Known.{Claimed, newest, changedSince, learnt
 use Rattle.desk_quiet.specs.Full.{fullHistory}
 use Rattle.desk_quiet.proofs.Count.{owedCount, none-owed, quiet-owes-nothing, takes-count, most-owed}
 use Rattle.desk_quiet.proofs.Full.{full-owes}
-use Rattle.desk_quiet.proofs.Known.{knows-present}
+use Rattle.desk_quiet.proofs.Known.{slot-not-18, knows-present}
 
 -- "168": to each of four clients, by both services, thirteen values and eight results
 pub hundred-sixty-eight : mostOwed ≡ 168
@@ -88,6 +90,24 @@ module _ (k : Lent) (right : lentRule k ≡ true) (gen nam : Beginning) (gt : te
         takes-write-nothing : (h ks : List Call) → OnlyTakes ks → AllOctets h → AllOctets (then h ks)
         takes-write-nothing h ks no-call o = o
         takes-write-nothing h ks (a-take {room = room} {ks = rest} enough more) o = takes-write-nothing (take room ∷ h) rest more (tt, o)
+
+  -- so two clients with one ATT_MTU know the same of it
+  pub two-know-the-same : (a b v s : ℕ) → a < clientCount → b < clientCount → v < serviceCount → Claimed s → (h : List Call) → AllOctets h → Quiet (ledger h)
+      → subscribedAt k gen nam a v s h ≡ true → subscribedAt k gen nam b v s h ≡ true
+      → changedSince k gen nam a v s h ≡ true → changedSince k gen nam b v s h ≡ true → ledger h .link a .mtu ≡ ledger h .link b .mtu
+      → newest (learnt k gen nam a v s h) ≡ newest (learnt k gen nam b v s h)
+  two-know-the-same a b v s a-client b-client service claimed h octets quiet a-wants b-wants a-changed b-changed same =
+      known-unless-owed a v s a-client service claimed h octets a-wants (quiet a v s a-client service (claimed .slot)) a-changed
+      ∙ ap some (present a ∙ (λ i. firsts (same i - 3) (valueOf (sourceOf k) (ledger h .service v .player) (characteristicOf s))) ∙ sym (present b))
+      ∙ sym (known-unless-owed b v s b-client service claimed h octets b-wants (quiet b v s b-client service (claimed .slot)) b-changed)
+    where
+      -- whatever waits for the client at 18
+      present : (who : ℕ)
+          → presentAt k gen nam who v s h ≡ firsts (ledgerAt k gen nam h .link who .mtu - 3) (valueOf (sourceOf k) (ledgerAt k gen nam h .service v .player) (characteristicOf s))
+      present who =
+          let L = ledgerAt k gen nam h in
+          ap (λ (t : Bool). firsts (L .link who .mtu - 3) (pick t (oldest (L .service v .account who .waiting)) (valueOf (sourceOf k) (L .service v .player) (characteristicOf s))))
+          (ne-eqb s controlSlot (slot-not-18 s (claimed .but-results)))
 
 -- and 168 is reached: after this history and 167 takes something is owed still
 pub hundred-sixty-eight-reached : Quiet (ledgerAt oneTrack plain plain (onward oneTrack plain plain fullHistory (takes 167))) → ⊥
