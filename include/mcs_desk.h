@@ -19,8 +19,9 @@
  *           notify(served.client, served.service, served.characteristic, value, served.length);
  *       }
  *
- *   It may take later, or stop in between where the radio has no room: what is owed stays owed. A value is the one of the
- *   moment of the take, so it takes when it can send.
+ *   It may take later, or stop in between where the radio has no room: what is owed stays owed, and is never more than
+ *   MCS_MOST_OWED things. A value is the one of the moment of the take, so it takes when it can send. When nothing is owed, every
+ *   client knows the present values of what has changed since it subscribed, but for the position (mcs_take).
  * - Every call looks at the whole catalogue, so its cost grows with the tables: microseconds for a few tracks, milliseconds on
  *   a small chip for a full catalogue. No call belongs into an interrupt.
  * - A desk is two services of the host's GATT server, MCS_GENERIC and MCS_NAMED, with the same characteristics. The host knows
