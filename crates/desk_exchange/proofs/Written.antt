@@ -120,7 +120,7 @@ module _ (groups : List ℕ) (p : Player) (value : List ℕ) where
     order-allowed e = may-at 15 e
 
 -- what is in a list and is not the first there is behind it
-pub behind-first : (first : ℕ) (rest : List ℕ) (c : ℕ) → isIn (first ∷ rest) c ≡ true → eqb c first ≡ false → isIn rest c ≡ true
+behind-first : (first : ℕ) (rest : List ℕ) (c : ℕ) → isIn (first ∷ rest) c ≡ true → eqb c first ≡ false → isIn rest c ≡ true
 unfolding isIn
 behind-first first rest c among apart = rw (ne-eqb first c (λ e. eqb-false c first apart (sym e))) at among
 

@@ -139,6 +139,36 @@ module _ (k : Lent) (right : lentRule k ≡ true) (links : List Link) (b : Book)
           (kept-written (catalogueOf k) (is-right (catalogueOf k) (rules-kept k right)) (s .player) (fine k links b s ok) value c writable e
           (subst (λ (p : Player). allowed (k .groups) p c value ≡ true) (sym (ok .0 .player)) may))
 
+-- ---- what a write tells that the ledger's rows accept
+module _ (k : Lent) (L : Ledger) (who v c : ℕ) (value : List ℕ) (may : mayWrite k L who v c value ≡ true) where
+  abbrev waiting : ℕ
+  waiting = length (L .service v .account who .waiting)
+
+  passed : NoneApplies (writeRows who v (L .link who .on) (L .link who .safe) (allowed (k .groups) (L .service v .player) c value) waiting c value)
+  passed = none-of (writeRows who v (L .link who .on) (L .link who .safe) (allowed (k .groups) (L .service v .player) c value) waiting c value) may
+
+  w-there : who < clientCount
+  w-there = leb-false clientCount who (passed .0)
+
+  w-service : v < serviceCount
+  w-service = leb-false serviceCount v (passed .1 .0)
+
+  w-on : L .link who .on ≡ true
+  w-on = not-false _ (passed .1 .1 .0)
+
+  pub w-in : isIn writables c ≡ true
+  w-in = not-false _ (passed .1 .1 .1 .1 .0)
+
+  pub w-long : lengthRight c value ≡ true
+  w-long = not-false _ (passed .1 .1 .1 .1 .1 .1 .0)
+
+  pub w-allowed : allowed (k .groups) (L .service v .player) c value ≡ true
+  w-allowed = not-false _ (passed .1 .1 .1 .1 .1 .1 .1 .0)
+
+  -- a control write finds room for its result
+  w-room : eqb c 18 ≡ true → waiting < mostResults
+  w-room e = leb-false mostResults waiting (sym (λ i. e i && leb mostResults waiting) ∙ passed .1 .1 .1 .1 .1 .1 .1 .1 .0)
+
 module _ (k : Lent) (right : lentRule k ≡ true) (L : Ledger) (d : Desk) (ok : Ok k L d) where
   -- ---- a read: what its rows say is what they say of what the ledger knows
   read-said : (who v c offset room : ℕ)
@@ -261,39 +291,13 @@ module _ (k : Lent) (right : lentRule k ≡ true) (L : Ledger) (d : Desk) (ok : 
       (write-order k d who v c (linkOf d who .connected) (linkOf d who .encrypted) (allowed (k .groups) (serviceAt d v .player) c value) (accountOf d who v .waiting) value)
       ∙ guard k right L d ok false (writerRows k d who v c value) ∙ write-rows who v c value
 
-  -- what an accepted write tells
-  module _ (who v c : ℕ) (value : List ℕ) (may : mayWrite k L who v c value ≡ true) where
-    abbrev waiting : ℕ
-    waiting = length (L .service v .account who .waiting)
-
-    passed : NoneApplies (writeRows who v (L .link who .on) (L .link who .safe) (allowed (k .groups) (L .service v .player) c value) waiting c value)
-    passed = none-of (writeRows who v (L .link who .on) (L .link who .safe) (allowed (k .groups) (L .service v .player) c value) waiting c value) may
-
-    w-there : who < clientCount
-    w-there = leb-false clientCount who (passed .0)
-
-    w-service : v < serviceCount
-    w-service = leb-false serviceCount v (passed .1 .0)
-
-    w-on : linkOf d who .connected ≡ true
-    w-on = like-link k right L d ok who w-there .on ∙ not-false _ (passed .1 .1 .0)
-
-    w-in : isIn writables c ≡ true
-    w-in = not-false _ (passed .1 .1 .1 .1 .0)
-
-    w-allowed : allowed (k .groups) (L .service v .player) c value ≡ true
-    w-allowed = not-false _ (passed .1 .1 .1 .1 .1 .1 .1 .0)
-
-    -- a control write finds room for its result
-    w-room : eqb c 18 ≡ true → waiting < mostResults
-    w-room e = leb-false mostResults waiting (sym (λ i. e i && leb mostResults waiting) ∙ passed .1 .1 .1 .1 .1 .1 .1 .1 .0)
-
   pub write-step : (who v c : ℕ) (value : List ℕ) → Ok k (pick (mayWrite k L who v c value) (inService v (writing k who c value) L) L) (writeCall k d who v c value .state)
   unfolding writeCall
   write-step who v c value =
       ok-call k right L d ok false (mayWrite k L who v c value) (writerRows k d who v c value) _ (inService v (writing k who c value) L) (write-rows who v c value)
       (λ e.
-      let t = w-service who v c value e in
+      let t = w-service k L who v c value e in
+      let h = w-there k L who v c value e in
       ok-service k right L d ok v t (writing k who c value) _
       (written-step k right (d .links) (L .service v) (serviceAt d v) (inside k right L d ok v t) who value c
-      (w-there who v c value e) (w-on who v c value e) (w-in who v c value e) (w-allowed who v c value e) (w-room who v c value e)))
+      h (like-link k right L d ok who h .on ∙ w-on k L who v c value e) (w-in k L who v c value e) (w-allowed k L who v c value e) (w-room k L who v c value e)))

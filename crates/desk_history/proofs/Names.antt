@@ -108,7 +108,7 @@ module _ (p : Player) where
   abbrev NoneElsewhere : Player → Type 0
   NoneElsewhere q = endsHere p q ≡ false → q .upcoming ≡ 0
 
-neither : (a b : Bool) → (a || b) ≡ false → (a ≡ false) × (b ≡ false)
+pub neither : (a b : Bool) → (a || b) ≡ false → (a ≡ false) × (b ≡ false)
 neither true b e = clash (sym e)
 neither false b e = (refl, e)
 

@@ -7,15 +7,14 @@ use mathlib.Core.List.{List, [], _∷_, _++_, append-nil}
 use Prim.Native.Nat.{ℕ, _-_, _≤_, _<_}
 use native.Mathlib.Decide.{ℕ-discrete}
 use native.Mathlib.Omega.{arith}
-use borrow.Author.Tests.{eq-eqb, ne-eqb, eqb-true, not-false}
+use borrow.Author.Tests.{eq-eqb, ne-eqb, eqb-true}
 use lib.Dec.{eqb, leb}
-use lib.ListN.{length, take as firsts}
+use lib.ListN.{take as firsts}
 use lib.Seq.{take-all}
 use Rattle.ground.specs.Cases.{pick}
 use Rattle.ground.specs.Words.{Octs}
 use Rattle.ground.specs.Refusals.{accepted}
 use Rattle.ground.proofs.Cases.{clash, and-left, and-right, and-both, and-fails}
-use Rattle.ground.proofs.Rows.{NoneApplies, none-of}
 use Rattle.catalogue_check.specs.Catalogue.{Right}
 use Rattle.catalogue_titles.specs.Lent.{Lent, catalogueOf}
 use Rattle.player_state.specs.declared.Player.{Player}
@@ -23,21 +22,23 @@ use Rattle.player_state.specs.Player.{renamed, deactivated}
 use Rattle.player_moves.specs.Clock.{advanced, activated}
 use Rattle.player_values.specs.Values.{sourceOf, valueOf}
 use Rattle.desk_slots.specs.Slots.{slotCount, clientCount, slotOf, characteristicOf, placeOf, serviceOf, slotAt}
-use Rattle.desk_slots.specs.Characteristics.{writables, writerKnows, isIn}
+use Rattle.desk_slots.specs.Characteristics.{writerKnows, isIn}
 use Rattle.desk_slots.proofs.PlaceLaws.{service-of-place, slot-of-place, place-again}
 use Rattle.desk_client.specs.Client.{controlSlot}
 use Rattle.desk_notices.specs.declared.Cause.{Cause}
-use Rattle.desk_notices.specs.Changes.{changed, trackChanged}
-use Rattle.desk_notices.specs.Owed.{fallsDue, spared, noWriter, byWriter}
+use Rattle.desk_notices.specs.Changes.{changed}
+use Rattle.desk_notices.specs.Owed.{spared, noWriter, byWriter}
 use Rattle.desk_notices.proofs.Differing.{changed-not, unchanged-self}
 use Rattle.desk_console.specs.Console.{nameRows, activateRows, serviceRows, quietAdvance}
-use Rattle.desk_exchange.specs.Write.{lengthRight, allowed, writeRows, playerWritten}
+use Rattle.desk_exchange.specs.Write.{playerWritten}
 use Rattle.desk_history.specs.Calls.{Call, setName, activate, deactivate, advance, connect, disconnect, subscribe, unsubscribe, read, write, take}
 use Rattle.desk_history.specs.Ledger.{Line, Claims, Book, Ledger, noClaims, lineOf, noLine, inService, changing, relinking, becoming, joining, leaving, reading, resulting, serving, passing, nextIn, placeIn, servingAt, mayConnect, mayLeave, mayJoin, mayRead, mayWrite, mayTake, outcome, resultOf, controlWriting, writing, after}
 use Rattle.desk_history.specs.Rounds.{prepend}
 use Rattle.desk_history.specs.History.{oldest, octetsIn, answerIn, dueOut, handoutsTo}
+use Rattle.desk_history.proofs.Exchanges.{w-in, w-long, w-allowed}
+use Rattle.desk_history.proofs.Names.{neither}
 use Rattle.desk_history.proofs.LedgerLaws.{servingNext, account-served, account-elsewhere, account-other}
-use Rattle.desk_quiet.specs.Known.{ownWrite, learntBy, WritesOctets}
+use Rattle.desk_quiet.specs.Known.{ownWrite, learntBy, slotChanges, WritesOctets}
 use Rattle.desk_quiet.proofs.Writer.{writer-knows, written-known}
 
 -- by what is owed before and after, what is read before and after, whether it changed, and what was learnt
@@ -46,48 +47,46 @@ pub data Fate (due due′ : Bool) (was now : List ℕ) (changes : Bool) (learns 
   falls : due′ ≡ true → Fate due due′ was now changes learns
   learns-it : learns ≡ now ∷ [] → Fate due due′ was now changes learns
 
-either : (a b : Bool) → (a || b) ≡ false → (a ≡ false) × (b ≡ false)
-either true b e = clash (sym e)
-either false b e = (refl, e)
-
 module _ (k : Lent) (who v s : ℕ) where
-  -- the characteristic, what of its value the client is shown, and whether it changes from one book of its service to another
+  -- the characteristic, and what of its value the client is shown
   abbrev about : ℕ
   about = characteristicOf s
 
   abbrev pub shownTo : Line → Player → List ℕ
   shownTo x p = firsts (x .mtu - 3) (valueOf (sourceOf k) p about)
 
-  abbrev pub changesFrom : Player → Player → Bool
-  changesFrom p q = fallsDue (changed (sourceOf k) p q about) (trackChanged p q) about
+  -- and that is what a take hands out
+  pub shown-octets : (s ≡ controlSlot → ⊥) → (b : Book) (x : Line) → octetsIn k b who x s ≡ shownTo x (b .player)
+  shown-octets no-results b x =
+      ap (λ (t : Bool). firsts (x .mtu - 3) (pick t (oldest (b .account who .waiting)) (valueOf (sourceOf k) (b .player) about))) (ne-eqb s controlSlot no-results)
 
   -- of a client that is subscribed before and after
   abbrev FateOf : Line → Line → Book → Book → List (List ℕ) → Type 0
   FateOf x y b d learns =
       b .account who .wants s ≡ true → d .account who .wants s ≡ true
-      → Fate (b .account who .due s) (d .account who .due s) (shownTo x (b .player)) (shownTo y (d .player)) (changesFrom (b .player) (d .player)) learns
+      → Fate (b .account who .due s) (d .account who .due s) (shownTo x (b .player)) (shownTo y (d .player)) (slotChanges k s (b .player) (d .player)) learns
 
   -- no player changes from itself
-  unchanged : (p : Player) → changesFrom p p ≡ false
+  unchanged : (p : Player) → slotChanges k s p p ≡ false
   unchanged p = let u = unchanged-self (sourceOf k) p about in λ i. u .0 i || (u .1 i && (eqb about 4 || eqb about 7))
 
   -- what waits for the client and what it wants stays with the player
   kept : (x : Line) (b d : Book) → d .player ≡ b .player → (d .account who .wants s ≡ true → d .account who .due s ≡ false → b .account who .due s ≡ false) → FateOf x x b d []
   kept x b d same still w w′ =
-      stays (still w′) (ap (shownTo x) same) (ap (changesFrom (b .player)) same ∙ unchanged (b .player)) refl
+      stays (still w′) (ap (shownTo x) same) (ap (slotChanges k s (b .player)) same ∙ unchanged (b .player)) refl
 
   same-fate : (x : Line) (b : Book) → FateOf x x b b []
   same-fate x b = kept x b b refl (λ w d. d)
 
   -- the service's player becomes another, and the client is not spared
   told : (x : Line) (cause : Cause) (q : Player) (b : Book) → spared cause who about ≡ false → FateOf x x b (becoming k cause q b) []
-  told x cause q b owed w w′ = go (changesFrom (b .player) q) refl
+  told x cause q b owed w w′ = go (slotChanges k s (b .player) q) refl
     where
-      due′ : becoming k cause q b .account who .due s ≡ (b .account who .due s || (true && (changesFrom (b .player) q && not false)))
-      due′ = λ i. b .account who .due s || (w i && (changesFrom (b .player) q && not (owed i)))
+      due′ : becoming k cause q b .account who .due s ≡ (b .account who .due s || (true && (slotChanges k s (b .player) q && not false)))
+      due′ = λ i. b .account who .due s || (w i && (slotChanges k s (b .player) q && not (owed i)))
 
-      go : (t : Bool) → changesFrom (b .player) q ≡ t
-          → Fate (b .account who .due s) (becoming k cause q b .account who .due s) (shownTo x (b .player)) (shownTo x q) (changesFrom (b .player) q) []
+      go : (t : Bool) → slotChanges k s (b .player) q ≡ t
+          → Fate (b .account who .due s) (becoming k cause q b .account who .due s) (shownTo x (b .player)) (shownTo x q) (slotChanges k s (b .player) q) []
       go true e = falls (due′ ∙ (λ i. b .account who .due s || (true && (e i && true))) ∙ or-true (b .account who .due s))
         where
           or-true : (a : Bool) → (a || true) ≡ true
@@ -95,8 +94,8 @@ module _ (k : Lent) (who v s : ℕ) where
           or-true false = refl
       go false e =
           stays
-          (λ z. either (b .account who .due s) _ (sym (due′ ∙ (λ i. b .account who .due s || (true && (e i && true)))) ∙ z) .0)
-          (ap (firsts (x .mtu - 3)) (sym (changed-not (sourceOf k) (b .player) q about .0 (either (changed (sourceOf k) (b .player) q about) _ e .0))))
+          (λ z. neither (b .account who .due s) _ (sym (due′ ∙ (λ i. b .account who .due s || (true && (e i && true)))) ∙ z) .0)
+          (ap (firsts (x .mtu - 3)) (sym (changed-not (sourceOf k) (b .player) q about .0 (neither (changed (sourceOf k) (b .player) q about) _ e .0))))
           e refl
 
   module _ (client : who < clientCount) (not-position : about ≡ 7 → ⊥) (not-control : about ≡ 18 → ⊥) where
@@ -156,7 +155,7 @@ module _ (k : Lent) (who v s : ℕ) where
 
         go : (u : Bool) → b .account who .wants s ≡ true → pick u noClaims (b .account who) .wants s ≡ true
             → Fate (b .account who .due s) (pick u noClaims (b .account who) .due s) (shownTo (L .link who) (b .player)) (shownTo (pick u line (L .link who)) (b .player))
-            (changesFrom (b .player) (b .player)) []
+            (slotChanges k s (b .player) (b .player)) []
         go true w w′ = clash w′
         go false w w′ = stays (λ d. d) refl (unchanged (b .player)) refl
     relinking-in false by line L = same-fate (L .link who) (L .service v)
@@ -166,26 +165,12 @@ module _ (k : Lent) (who v s : ℕ) where
       abbrev book : Book
       book = L .service v
 
-      -- one that was accepted, by what its rows have asked
-      module _ (by w c : ℕ) (value : List ℕ) (may : mayWrite k L by w c value ≡ true) where
-        passed : NoneApplies (writeRows by w (L .link by .on) (L .link by .safe) (allowed (k .groups) (L .service w .player) c value) (length (L .service w .account by .waiting)) c value)
-        passed = none-of (writeRows by w (L .link by .on) (L .link by .safe) (allowed (k .groups) (L .service w .player) c value) (length (L .service w .account by .waiting)) c value) may
-
-        writable : isIn writables c ≡ true
-        writable = not-false _ (passed .1 .1 .1 .1 .0)
-
-        long : lengthRight c value ≡ true
-        long = not-false _ (passed .1 .1 .1 .1 .1 .1 .0)
-
-        may-be : allowed (k .groups) (L .service w .player) c value ≡ true
-        may-be = not-false _ (passed .1 .1 .1 .1 .1 .1 .1 .0)
-
       -- its own write of this slot: it is shown what it wrote
       own-known : (value : List ℕ) → Octs value → mayWrite k L who v about value ≡ true
           → shownTo (L .link who) (writing k who about value book .player) ≡ value
       own-known value octets may =
-          let known = written-known k right (book .player) value octets about (writer-knows about (writable who v about value may) not-position not-control)
-          (long who v about value may) (may-be who v about value may) in
+          let known = written-known k right (book .player) value octets about (writer-knows about (w-in k L who v about value may) not-position not-control)
+          (w-long k L who v about value may) (w-allowed k L who v about value may) in
           ap (λ (t : Bool). shownTo (L .link who) (pick t (controlWriting k who value book) (becoming k (byWriter who about) (playerWritten (catalogueOf k) (book .player) about value) book) .player)) (ne-eqb about 18 not-control)
           ∙ ap (firsts (L .link who .mtu - 3)) (known .0) ∙ take-all (L .link who .mtu - 3) value (omega (arith, known .1))
 
@@ -204,7 +189,7 @@ module _ (k : Lent) (who v s : ℕ) where
               → pick u (resulting (resultOf k book value) (becoming k (byWriter by 18) q book .account who)) (becoming k (byWriter by 18) q book .account who) .wants s ≡ true
               → Fate (book .account who .due s)
               (pick u (resulting (resultOf k book value) (becoming k (byWriter by 18) q book .account who)) (becoming k (byWriter by 18) q book .account who) .due s)
-              (shownTo x (book .player)) (shownTo x q) (changesFrom (book .player) q) []
+              (shownTo x (book .player)) (shownTo x q) (slotChanges k s (book .player) q) []
           result true = told x (byWriter by 18) q book e
           result false = told x (byWriter by 18) q book e
 
@@ -247,9 +232,6 @@ module _ (k : Lent) (who v s : ℕ) where
     slot-is slot p e = (sym (service-of-place v s slot) ∙ ap serviceOf e, sym (slot-of-place v s slot) ∙ ap slotAt e)
 
     module _ (slot : s < slotCount) (no-results : s ≡ controlSlot → ⊥) (L : Ledger) where
-      pub shown-octets : (b : Book) (x : Line) → octetsIn k b who x s ≡ shownTo x (b .player)
-      shown-octets b x = ap (λ (t : Bool). firsts (x .mtu - 3) (pick t (oldest (b .account who .waiting)) (valueOf (sourceOf k) (b .player) about))) (ne-eqb s controlSlot no-results)
-
       -- serving a place alters no player and no ATT_MTU
       module _ (n p : ℕ) where
         abbrev served : Ledger
@@ -302,9 +284,9 @@ module _ (k : Lent) (who v s : ℕ) where
             let me = eqb-true who n (and-left (eqb who n) (eqb (placeOf v s) p) mine) in
             let it = slot-is slot p (eqb-true (placeOf v s) p (and-right (eqb who n) (eqb (placeOf v s) p) mine)) in
             learns-it (ap (λ (o : List ℕ). o ∷ [])
-            (sym (λ i. octetsIn k (L .service (it .0 i)) (me i) (L .link (me i)) (it .1 i)) ∙ shown-octets (L .service v) (L .link who) ∙ sym same-shown))
+            (sym (λ i. octetsIn k (L .service (it .0 i)) (me i) (L .link (me i)) (it .1 i)) ∙ shown-octets no-results (L .service v) (L .link who) ∙ sym same-shown))
         serving-fate false mine wants wants′ =
-            stays (λ d. sym (still-due mine) ∙ d) same-shown (ap (changesFrom (L .service v .player)) same-player ∙ unchanged (L .service v .player)) refl
+            stays (λ d. sym (still-due mine) ∙ d) same-shown (ap (slotChanges k s (L .service v .player)) same-player ∙ unchanged (L .service v .player)) refl
 
       take-fate : (room : ℕ) → FateIn L (after k (take room) L) (handoutsTo who v s (prepend (dueOut k (take room) L) []) ++ [])
       take-fate room = go (mayTake room) (leb clientCount (nextIn L))
@@ -342,21 +324,21 @@ module _ (k : Lent) (who v s : ℕ) where
 
       pub fate : Right (catalogueOf k) → 23 ≤ L .link who .mtu → (call : Call) (number : ℕ) → WritesOctets call → Answered call number
           → FateIn L (after k call L) (learntBy who v s call number (dueOut k call L))
-      fate right m (setName w name) number o a = (told-in (accepted (nameRows w name)) w (λ p. noWriter false) (renamed name) L (λ p. unspared false))
+      fate right m (setName w name) number o a = told-in (accepted (nameRows w name)) w (λ p. noWriter false) (renamed name) L (λ p. unspared false)
       fate right m (activate w g) number o a =
-          (told-in (accepted (activateRows k w g)) w (λ p. noWriter false) (activated (k .groups) (k .tracks) g) L (λ p. unspared false))
-      fate right m (deactivate w) number o a = (told-in (accepted (serviceRows w)) w (λ p. noWriter false) deactivated L (λ p. unspared false))
+          told-in (accepted (activateRows k w g)) w (λ p. noWriter false) (activated (k .groups) (k .tracks) g) L (λ p. unspared false)
+      fate right m (deactivate w) number o a = told-in (accepted (serviceRows w)) w (λ p. noWriter false) deactivated L (λ p. unspared false)
       fate right m (advance w step) number o a =
-          (told-in (accepted (serviceRows w)) w (λ p. noWriter (quietAdvance (k .tracks) step p)) (advanced (k .groups) (k .tracks) step) L (λ p. unspared (quietAdvance (k .tracks) step p)))
-      fate right m (connect by mtu encrypted) number o a = (relinking-in (mayConnect L by mtu) by (lineOf true encrypted mtu) L)
-      fate right m (disconnect by) number o a = (relinking-in (mayLeave L by) by noLine L)
-      fate right m (subscribe by w c) number o a = (changing-in (mayJoin L by w c) w by (joining (slotOf c)) L (λ x w′ d. d))
-      fate right m (unsubscribe by w c) number o a = (changing-in (mayJoin L by w c) w by (leaving (slotOf c)) L (λ x. left-alone (x .wants s) (x .due s) (eqb (slotOf c) s)))
+          told-in (accepted (serviceRows w)) w (λ p. noWriter (quietAdvance (k .tracks) step p)) (advanced (k .groups) (k .tracks) step) L (λ p. unspared (quietAdvance (k .tracks) step p))
+      fate right m (connect by mtu encrypted) number o a = relinking-in (mayConnect L by mtu) by (lineOf true encrypted mtu) L
+      fate right m (disconnect by) number o a = relinking-in (mayLeave L by) by noLine L
+      fate right m (subscribe by w c) number o a = changing-in (mayJoin L by w c) w by (joining (slotOf c)) L (λ x w′ d. d)
+      fate right m (unsubscribe by w c) number o a = changing-in (mayJoin L by w c) w by (leaving (slotOf c)) L (λ x. left-alone (x .wants s) (x .due s) (eqb (slotOf c) s))
         where
           left-alone : (wants due t : Bool) → (wants && not t) ≡ true → (due && not t) ≡ false → due ≡ false
           left-alone wants due true w d = clash (sym (and-fails wants refl) ∙ w)
           left-alone wants true false w d = d
           left-alone wants false false w d = refl
-      fate right m (read by w c offset room) number o a = (changing-in (mayRead k L by w c offset room) w by (reading c offset) L (λ x w′ d. d))
+      fate right m (read by w c offset room) number o a = changing-in (mayRead k L by w c offset room) w by (reading c offset) L (λ x w′ d. d)
       fate right m (write by w c value) number o a = write-fate right L m by w c value number o a
       fate right m (take room) number o a = take-fate room

@@ -104,7 +104,7 @@ module _ (k : Lent) (right : lentRule k ≡ true) (gen nam : Beginning) (gt : te
         → changedSince k gen nam who v s h ≡ true → newest (learnt k gen nam who v s h) ≡ some (presentAt k gen nam who v s h)
     knows-present h octets wants unowed changed =
         tell (told h octets wants (sym (λ i. pick (ne-eqb s controlSlot no-results i) (anyWaits (ledger h .service v .account who .waiting)) (due h)) ∙ unowed))
-        ∙ ap some (sym (shown-octets k who v s client not-position not-control slot no-results (ledger h) (ledger h .service v) (ledger h .link who)))
+        ∙ ap some (sym (shown-octets k who v s no-results (ledger h .service v) (ledger h .link who)))
       where
         tell : Tells (changedSince k gen nam who v s h) (learnt k gen nam who v s h) (shown h) → newest (learnt k gen nam who v s h) ≡ some (shown h)
         tell (untouched e f) = clash (sym e ∙ changed)

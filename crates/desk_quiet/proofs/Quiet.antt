@@ -7,7 +7,7 @@ use mathlib.Core.Option.{none, some}
 use mathlib.Core.List.{List, _∷_}
 use Prim.Native.Nat.{ℕ, zero, suc, _-_, _≤_, _<_}
 use native.Mathlib.Omega.{arith}
-use borrow.Author.Tests.{ne-eqb, leb-false}
+use borrow.Author.Tests.{leb-false}
 use lib.Dec.{leb}
 use lib.ListN.{length, take as firsts}
 use Rattle.ground.specs.Cases.{pick}
@@ -16,12 +16,11 @@ use Rattle.catalogue_titles.specs.Lent.{Lent, lentRule}
 use Rattle.player_check.specs.Standing.{textRule}
 use Rattle.desk_slots.specs.Slots.{serviceCount, clientCount, characteristicOf, serviceOf, slotAt}
 use Rattle.desk_slots.proofs.PlaceLaws.{service-there, slot-there}
-use Rattle.desk_client.specs.Client.{controlSlot}
 use Rattle.player_values.specs.Values.{sourceOf, valueOf}
 use Rattle.desk_console.specs.Console.{Beginning}
 use Rattle.desk_history.specs.Calls.{Call, take}
 use Rattle.desk_history.specs.Ledger.{Ledger, owes, nextIn, placeIn, mayTake}
-use Rattle.desk_history.specs.History.{oldest, answerIn, handedOut, ledgerAt, deskAt, onward, subscribedAt}
+use Rattle.desk_history.specs.History.{answerIn, handedOut, ledgerAt, deskAt, onward, subscribedAt}
 use Rattle.desk_history.specs.Reached.{oneTrack, plain, takes}
 use Rattle.desk_history.proofs.LedgerLaws.{slot-near}
 use Rattle.desk_history.proofs.Agree.{hands-at, in-range}
@@ -31,6 +30,7 @@ use Rattle.desk_quiet.specs.Known.{Claimed, newest, changedSince, learnt
 use Rattle.desk_quiet.specs.Full.{fullHistory}
 use Rattle.desk_quiet.proofs.Count.{owedCount, none-owed, quiet-owes-nothing, takes-count, most-owed}
 use Rattle.desk_quiet.proofs.Full.{full-owes}
+use Rattle.desk_quiet.proofs.Fate.{shownTo, shown-octets}
 use Rattle.desk_quiet.proofs.Known.{slot-not-18, knows-present}
 
 -- "168": to each of four clients, by both services, thirteen values and eight results
@@ -102,12 +102,9 @@ module _ (k : Lent) (right : lentRule k ≡ true) (gen nam : Beginning) (gt : te
       ∙ sym (known-unless-owed b v s b-client service claimed h octets b-wants (quiet b v s b-client service (claimed .slot)) b-changed)
     where
       -- whatever waits for the client at 18
-      present : (who : ℕ)
-          → presentAt k gen nam who v s h ≡ firsts (ledgerAt k gen nam h .link who .mtu - 3) (valueOf (sourceOf k) (ledgerAt k gen nam h .service v .player) (characteristicOf s))
+      present : (who : ℕ) → presentAt k gen nam who v s h ≡ shownTo k who v s (ledgerAt k gen nam h .link who) (ledgerAt k gen nam h .service v .player)
       present who =
-          let L = ledgerAt k gen nam h in
-          ap (λ (t : Bool). firsts (L .link who .mtu - 3) (pick t (oldest (L .service v .account who .waiting)) (valueOf (sourceOf k) (L .service v .player) (characteristicOf s))))
-          (ne-eqb s controlSlot (slot-not-18 s (claimed .but-results)))
+          shown-octets k who v s (slot-not-18 s (claimed .but-results)) (ledgerAt k gen nam h .service v) (ledgerAt k gen nam h .link who)
 
 -- and 168 is reached: after this history and 167 takes something is owed still
 pub hundred-sixty-eight-reached : Quiet (ledgerAt oneTrack plain plain (onward oneTrack plain plain fullHistory (takes 167))) → ⊥

@@ -52,14 +52,17 @@ abbrev pub newest : List (List ℕ) → Option (List ℕ)
 newest [] = none
 newest (o ∷ l) = some o
 
+-- a call that finds the player p and leaves q "changes its value"; that of 4 is always empty, and it changes with the track number
+abbrev pub slotChanges : Lent → ℕ → Player → Player → Bool
+slotChanges k s p q = fallsDue (changed (sourceOf k) p q (characteristicOf s)) (trackChanged p q) (characteristicOf s)
+
 module _ (k : Lent) (generic named : Beginning) (who v s : ℕ) where
   abbrev pub playerAt : List Call → Player
   playerAt h = ledgerAt k generic named h .service v .player
 
-  -- the call c, made after h, "changes its value"; that of 4 is always empty, and it changes with the track number
+  -- the call c, made after h, changes the slot
   abbrev pub changedBy : Call → List Call → Bool
-  changedBy c h =
-      fallsDue (changed (sourceOf k) (playerAt h) (playerAt (c ∷ h)) (characteristicOf s)) (trackChanged (playerAt h) (playerAt (c ∷ h))) (characteristicOf s)
+  changedBy c h = slotChanges k s (playerAt h) (playerAt (c ∷ h))
 
   -- "changed since subscribing": by a call that found the client subscribed, since the last one that did not
   abbrev pub changedSince : List Call → Bool

@@ -76,13 +76,13 @@ module _ (k : Lent) (gen nam : Beginning) where
       subst (λ (d : Desk). Shown k d who v characteristic offset out told out′ told′) (means k gen nam run) p
 
   module _ {h : List Call} {state : List ℕ} (run : Run k gen nam h state) where
-    right : lentRule k ≡ true
+    pub right : lentRule k ≡ true
     right = began-right k gen nam run .0
 
-    gt : textRule (gen .name) ≡ true
+    pub gt : textRule (gen .name) ≡ true
     gt = began-right k gen nam run .1
 
-    nt : textRule (nam .name) ≡ true
+    pub nt : textRule (nam .name) ≡ true
     nt = began-right k gen nam run .2
 
     abbrev ledger : Ledger
