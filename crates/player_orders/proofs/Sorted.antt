@@ -3,7 +3,7 @@ use mathlib.Core.Path.{_≡_, refl, sym, ap, _∙_, subst}
 use mathlib.Core.Bool.{Bool, true, false}
 use mathlib.Core.Logic.{_⊎_, inl, inr, ⊎-elim}
 use mathlib.Core.List.{List, [], _∷_}
-use Prim.Native.Nat.{ℕ, zero, suc, _<_, _≤_, suc-le-suc}
+use Prim.Native.Nat.{ℕ, zero, suc, _+_, _<_, _≤_, suc-le-suc}
 use native.Mathlib.Nat.{le-of-suc-le-suc, not-suc-le-zero, eq-or-lt-of-le, le-of-lt}
 use native.Mathlib.Omega.{arith}
 use borrow.Author.Tests.{lt-ltb, le-ltb, eq-eqb, ne-eqb}
@@ -147,9 +147,22 @@ module _ (f : ℕ → ℕ) where
         insert-sorted t (sort before l) (q .0) (sort-all before P l (q .1)) (sort-sorted l (q .1) (a .1))
         (sort-all before (λ u. f u ≡ f t → ⊥) l (a .0))
 
-  below-none : (x : ℕ) (l : List ℕ) → All (λ u. x ≤ f u) l → below f x l ≡ 0
+  pub below-none : (x : ℕ) (l : List ℕ) → All (λ u. x ≤ f u) l → below f x l ≡ 0
   below-none x [] a = refl
   below-none x (u ∷ l) a = rw (le-ltb (f u) x (a .0)) (below-none x l (a .1))
+
+  pub below-all : (x : ℕ) (l : List ℕ) → All (λ u. f u < x) l → below f x l ≡ length l
+  below-all x [] a = refl
+  below-all x (u ∷ l) a = rw (lt-ltb (f u) x (a .0)) (ap suc (below-all x l (a .1)))
+
+  -- where no key lies from x up to z, as many are below the one as below the other
+  pub below-same : (x z : ℕ) (l : List ℕ) → x ≤ z → All (λ u. x ≤ f u → z ≤ f u) l → below f x l ≡ below f z l
+  below-same x z [] h a = refl
+  below-same x z (u ∷ l) h a = go (le-or x (f u)) (below-same x z l h (a .1))
+    where
+      go : (x ≤ f u) ⊎ (f u < x) → below f x l ≡ below f z l → below f x (u ∷ l) ≡ below f z (u ∷ l)
+      go (inl q) e = rw (le-ltb (f u) x q, le-ltb (f u) z (a .0 q)) e
+      go (inr q) e = rw (lt-ltb (f u) x q, lt-ltb (f u) z (omega arith)) (ap suc e)
 
   -- the rank of what stands at k is k
   pub rank-at : (l : List ℕ) (k : ℕ) → Sorted l → k < length l → below f (f (getD l k 0)) l ≡ k
@@ -158,6 +171,14 @@ module _ (f : ℕ → ℕ) where
   rank-at (t ∷ l) (suc k) s h =
       let h′ = le-of-suc-le-suc h in
       rw (lt-ltb (f t) (f (getD l k 0)) (all-at (λ v. f t < f v) l k (s .0) h′)) (ap suc (rank-at l k (s .1) h′))
+
+  -- and with its own key one more is counted
+  pub rank-after : (l : List ℕ) (k : ℕ) → Sorted l → k < length l → below f (f (getD l k 0) + 1) l ≡ suc k
+  rank-after [] k s h = absurd (not-suc-le-zero h)
+  rank-after (t ∷ l) zero s h = rw (lt-ltb (f t) (f t + 1) (omega arith)) (ap suc (below-none (f t + 1) l (map-all (λ v. f t < f v) (λ v. f t + 1 ≤ f v) l (λ v q. omega arith) (s .0))))
+  rank-after (t ∷ l) (suc k) s h =
+      let h′ = le-of-suc-le-suc h in
+      rw (lt-ltb (f t) (f (getD l k 0) + 1) (omega (arith, all-at (λ v. f t < f v) l k (s .0) h′))) (ap suc (rank-after l k (s .1) h′))
 
   -- so the rank of a member is its place
   pub rank-place : (l : List ℕ) (t : ℕ) → Sorted l → Different l → In t l → below f (f t) l ≡ place t l

@@ -16,10 +16,11 @@ use Rattle.ground.specs.Lists.{span}
 use Rattle.catalogue_tables.specs.Tables.{stampOf}
 use Rattle.player_walk.specs.Steps.{place}
 use Rattle.player_orders.specs.declared.By.{By}
+use Rattle.player_orders.specs.declared.By.the-variants.{Number, Rising, Falling}
 use Rattle.player_orders.specs.Order.{comesBefore, ordered}
 use Rattle.player_orders.specs.Keys.{major, keyOf, below}
 use Rattle.player_orders.proofs.Compare.{key-compares}
-use Rattle.player_orders.proofs.Sorted.{all-at, All, In, Apart, Different, Sorted, sort-sorted, sort-in, sort-all, sort-apart, length-sort, below-sort, rank-place, place-at, in-index}
+use Rattle.player_orders.proofs.Sorted.{all-at, All, In, Apart, Different, Sorted, sort-sorted, sort-in, sort-all, sort-apart, length-sort, below-sort, below-none, below-all, rank-place, rank-after, place-at, in-index}
 
 pub span-all : (P : ℕ → Type 0) (i n : ℕ) → ((u : ℕ) → i ≤ u → u < i + n → P u) → All P (span i n)
 span-all P i zero h = tt
@@ -45,6 +46,11 @@ span-step i e h =
 
 pub span-done : (i e : ℕ) → e ≤ i → span i (e - i) ≡ []
 span-done i e h = let q : e - i ≡ 0 = omega arith in rw q
+
+key-top : (by : By) (tracks : List ℕ) (t : ℕ) → t < 0xFFFF_FFFF → stampOf tracks t < 0x1_0000_0000 → keyOf by tracks t < 0xFFFF_FFFF_FFFF_FFFF
+key-top Number tracks t h g = omega arith
+key-top Rising tracks t h g = omega arith
+key-top Falling tracks t h g = omega arith
 
 module _ (by : By) (tracks : List ℕ) where
   -- a key's low 32 bits are the track's number
@@ -115,6 +121,25 @@ module _ (by : By) (tracks : List ℕ) where
       -- a track's rank in the run is its place in the order
       pub rank-is : (t : ℕ) → first ≤ t → t < first + count → below (keyOf by tracks) (keyOf by tracks t) (span first count) ≡ place t (ordered by tracks first count)
       rank-is t a b = as-many (keyOf by tracks t) ∙ rank-place (keyOf by tracks) (ordered by tracks first count) t is-sorted different (member t a b)
+
+      pub after-is : (t : ℕ) → first ≤ t → t < first + count → below (keyOf by tracks) (keyOf by tracks t + 1) (span first count) ≡ suc (place t (ordered by tracks first count))
+      after-is t a b =
+          let i = at-member t a b in
+          as-many (keyOf by tracks t + 1)
+          ∙ rw (i .2) at (rank-after (keyOf by tracks) (ordered by tracks first count) (i .0) is-sorted (i .1))
+          ∙ ap suc (sym (rw (i .2) at (apart-places (i .0) (i .1))))
+
+      pub top : (u : ℕ) → u < first + count → keyOf by tracks u < 0xFFFF_FFFF_FFFF_FFFF
+      top u h = key-top by tracks u (omega arith) (words (u * 6 + 1))
+
+      pub below-top : below (keyOf by tracks) 0xFFFF_FFFF_FFFF_FFFF (span first count) ≡ length (ordered by tracks first count)
+      below-top =
+          below-all (keyOf by tracks) 0xFFFF_FFFF_FFFF_FFFF (span first count) (span-all (λ u. keyOf by tracks u < 0xFFFF_FFFF_FFFF_FFFF) first count (λ u a b. top u b))
+          ∙ length-span first count
+          ∙ sym how-many
+
+pub below-zero : (f : ℕ → ℕ) (i n : ℕ) → below f 0 (span i n) ≡ 0
+below-zero f i n = below-none f 0 (span i n) (span-all (λ u. 0 ≤ f u) i n (λ u a b. omega arith))
 
 -- a turn of a loop that counts the keys below x
 module _ (f : ℕ → ℕ) (x i e n y T : ℕ) (h : i < e) (ey : y ≡ f i) (inv : n + below f x (span i (e - i)) ≡ T) where

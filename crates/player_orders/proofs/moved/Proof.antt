@@ -1,45 +1,24 @@
--- `player_orders::moved`: the move on places, from the place of t.
-use mathlib.Core.Path.{_∙_}
+-- `player_orders::moved`: both ways lead to one track.
 use borrow.Author.Needs.{needs}
-use Rattle.player_orders.proofs.Moves.{moves}
 use Rattle.player_orders.proofs.moved.Statement.{statement}
 use Rattle.player_orders.proofs.moved.Tie as tie
-
-rank-requires : tie.Need-rank-requires
-rank-requires c κs = search needs
-
-place-after-requires : tie.Need-place-after-requires
-place-after-requires c κs = search needs
-
-enum-known-p : tie.Need-enum-known-p
-enum-known-p c = search needs
-
-nth-requires : tie.Need-nth-requires
-nth-requires c κs = search needs
 
 enum-told : tie.Need-enum-told
 enum-told c = search needs
 
+moved-by-places-requires : tie.Need-moved-by-places-requires
+moved-by-places-requires c κs = search needs
+
+moved-by-keys-requires : tie.Need-moved-by-keys-requires
+moved-by-keys-requires c κs = search needs
+
 returns : tie.Need-returns
-returns c =
-    let p = c .before .before .before .before in
-    let s = p .before .before .before in
-    c .nth .ensures ∙ moves _ _ _ _ (s .pre .small) _ _ _ _ _ _ (s .pre .low) (s .pre .high) (p .before .rank .ensures .0) (p .place-after .ensures) (c .before .before .p .given .1)
+returns c = c .moved-by-places .ensures
 
 returns-2 : tie.Need-returns-2
-returns-2 c =
-    let p = c .before .before in
-    let s = p .before .before .before in
-    moves _ _ _ _ (s .pre .small) _ _ _ _ _ _ (s .pre .low) (s .pre .high) (p .before .rank .ensures .0) (p .place-after .ensures) (c .enum-told .given .1)
+returns-2 c = c .moved-by-keys .ensures
 
 pub moved-spec : {M : Type 1} → statement M
 moved-spec =
     tie.close
-    (tie.spec
-    rank-requires
-    place-after-requires
-    enum-known-p
-    nth-requires
-    enum-told
-    returns
-    returns-2)
+    (tie.spec enum-told moved-by-places-requires moved-by-keys-requires returns returns-2)
