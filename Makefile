@@ -1,4 +1,4 @@
-# make install [PREFIX=/usr/local] [TARGET=aarch64] [DESTDIR=]: the library for C and C++, with what pkg-config and CMake look for. TARGET is a target of
+# make install [PREFIX=/usr/local] [TARGET=cortex-m4] [DESTDIR=]: the library for C and C++, with what pkg-config and CMake look for. TARGET is a target of
 # ./desk build, or else this machine. What is installed may be moved as a whole.
 PREFIX ?= /usr/local
 TARGET ?= $(subst x86_64,x86-64,$(shell uname -m))

@@ -1,7 +1,8 @@
 /* The proved library beside the second program, as gcc and as clang build it, call by call, in one run.
  *
  *     bench WHERE [REPETITIONS]                      times every row, and prints the report in Markdown; WHERE is the machine's name
- *     bench once ROW library|gcc|clang TIMES         makes the call of a row so many times, for an instruction counter or a profiler
+ *     bench once ROW library|gcc|clang TIMES         makes the call of a row so many times, for an instruction counter or a profiler;
+ *                                                    ROW is its number, or 'all' for one row after the other
  */
 #define _POSIX_C_SOURCE 199309L /* clock_gettime */
 
@@ -210,7 +211,9 @@ static void report(const char *where, uint32_t repetitions)
 
 static int once(const char *which, const char *program, const char *times)
 {
+    const int all = strcmp(which, "all") == 0;
     size_t k = (size_t)strtoul(which, NULL, 10);
+    const size_t end = all ? rows.count : k + 1u;
     uint32_t n = (uint32_t)strtoul(times, NULL, 10);
     if (k >= rows.count) {
         fprintf(stderr, "bench: rows are 0 to %zu\n", rows.count - 1u);
@@ -218,8 +221,10 @@ static int once(const char *which, const char *program, const char *times)
     }
     for (uint32_t p = 0; p < TIMED; p++) {
         if (strcmp(program, PROGRAMS[p].name) == 0) {
-            fprintf(stderr, "%s, %s\n", rows.rows[k].name, rows.rows[k].lent->name);
-            (void)batch(&rows.rows[k], n, p);
+            for (; k < end; k++) {
+                fprintf(stderr, "%s, %s\n", rows.rows[k].name, rows.rows[k].lent->name);
+                (void)batch(&rows.rows[k], n, p);
+            }
             return 0;
         }
     }

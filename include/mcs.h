@@ -1,4 +1,5 @@
-/* The Media Control Service core of a desk player: twenty-one calls, proved (crates/mcs), for C and C++ on x86-64 and aarch64.
+/* The Media Control Service core of a desk player: twenty-one calls, proved (crates/mcs), for C and C++ on x86-64,
+ * aarch64, Cortex-M4 and Cortex-M0+.
  *
  * Every call takes all octets, numbers, tables and states there are, checks them itself, and ends. It returns 0, or the number of
  * the first refusal that applies, in the order of the list below. A refusal alters nothing: state, tables, card, output, length,
@@ -17,7 +18,7 @@
  *   the card and blocks of a card write, starts, count and line of a cue sheet, and words, positions and count of an object that is
  *   read) overlaps nothing else lent to it;
  * - no other thread touches what is lent while the call runs. The library keeps nothing of its own and calls no function
- *   but its own and memcpy, memset, memmove.
+ *   but its own and memcpy, memset, memmove; on a Cortex-M also the Arm runtime's for products and quotients of long numbers.
  */
 #ifndef MCS_H
 #define MCS_H
