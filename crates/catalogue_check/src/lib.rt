@@ -23,16 +23,10 @@ fn plain_right(groups: &[u32], tracks: &[u32], segments: &[u32], text: &[u8]) ->
     if !catalogue_rules::runs_right(groups, groups.len() / 3, 3, 1, count) {
         return false;
     }
-    if !catalogue_rules::runs_right(tracks, count, 6, 2, segments.len()) {
-        return false;
-    }
-    if !catalogue_rules::durations_right(tracks) {
+    if !catalogue_rules::tracks_right(tracks, segments.len(), text.len()) {
         return false;
     }
     if !catalogue_rules::starts_right(tracks, segments) {
-        return false;
-    }
-    if !catalogue_rules::titles_placed(tracks, text.len()) {
         return false;
     }
     true

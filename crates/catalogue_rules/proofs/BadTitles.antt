@@ -3,21 +3,33 @@ use mathlib.Core.Path.{_≡_, refl, sym, ap, _∙_}
 use mathlib.Core.Bool.{Bool, true, false}
 use mathlib.Core.List.{List, [], _∷_}
 use mathlib.Core.Logic.{⊎-elim}
-use Prim.Native.Nat.{ℕ, zero, suc, _+_, _<_, _≤_, zero-le}
+use Prim.Native.Nat.{ℕ, zero, suc, min, _+_, _-_, _<_, _≤_, zero-le}
 use native.Mathlib.Nat.{eq-or-lt-of-le}
 use native.Mathlib.Omega.{arith}
-use lib.ListN.{length, getD, length-take, length-drop}
+use lib.ListN.{length, getD, drop, length-take, length-drop}
+use lib.Seq.{getD-take, getD-drop}
 use Rattle.ground.specs.Cases.{pick}
 use Rattle.ground.proofs.Cases.{true-or, clash}
 use Rattle.ground.proofs.Bounded.{all-at, all-intro}
-use Rattle.text.specs.Utf8.{textSaid}
+use Rattle.text.specs.Utf8.{isFine, textSaid}
 use Rattle.text.proofs.Law.{offset-within}
-use Rattle.catalogue_tables.specs.Tables.{trackCount, titleOf}
+use Rattle.text.proofs.Run.{ascii-is-text}
+use Rattle.catalogue_tables.specs.Tables.{trackCount, titleOffsetOf, titleLengthOf, titleOf}
 use Rattle.catalogue_rules.specs.Rules.{titlesTextRule, badTitleFrom, badTitle}
 
 title-within : (tracks text : List ℕ) (t : ℕ) → length (titleOf tracks text t) ≤ length text
 unfolding titleOf
 title-within tracks text t = simp (length-take, length-drop) (omega arith)
+
+-- an octet of a title is one of the text
+plain-title : (tracks text : List ℕ) (t : ℕ) → ((i : ℕ) → i < length text → getD text i 0 ≤ 0x7F)
+    → (i : ℕ) → i < length (titleOf tracks text t) → getD (titleOf tracks text t) i 0 ≤ 0x7F
+unfolding titleOf
+plain-title tracks text t low i h =
+    let at = titleOffsetOf tracks t in
+    let len = titleLengthOf tracks t in
+    let l : i < min len (length text - at) = simp (length-take, length-drop) at h in
+    omega (arith, getD-take len (drop at text) i 0 (omega arith), getD-drop at text i 0, low (at + i) (omega arith))
 
 module _ (tracks text : List ℕ) where
   abbrev fine : ℕ → Bool
@@ -45,6 +57,11 @@ module _ (tracks text : List ℕ) where
   pub is-text : titlesTextRule tracks text ≡ true → badTitle tracks text ≡ []
   unfolding titlesTextRule textSaid
   is-text e = all-fine (trackCount tracks) 0 (λ i l u. all-at _ (trackCount tracks) e i (omega arith))
+
+  -- in a text of octets below 0x80 every title is UTF-8
+  pub plain-text : ((i : ℕ) → i < length text → getD text i 0 ≤ 0x7F) → badTitle tracks text ≡ []
+  unfolding titlesTextRule
+  plain-text low = is-text (all-intro _ (trackCount tracks) (λ t h. ap isFine (ascii-is-text (titleOf tracks text t) (plain-title tracks text t low))))
 
   -- a title that is told as bad is bad
   pub text-not : {t : ℕ} {l : List ℕ} → badTitle tracks text ≡ t ∷ l → titlesTextRule tracks text ≡ false

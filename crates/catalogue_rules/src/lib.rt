@@ -1,12 +1,13 @@
 // The rules of a catalogue, a function for each. Loops have no early exit: they are vector code, or at least branch-free.
 ghost use mathlib.Core.Path.{_≡_};
+ghost use mathlib.Core.Bool.{_&&_};
 ghost use mathlib.Core.List.{_∷_};
 ghost use Prim.Native.Nat.{ℕ, _+_, _*_, _<_, _≤_};
 ghost use lib.ListN.{length};
 ghost use Rattle.ground.specs.Cases.{pick};
 ghost use Rattle.text.specs.Utf8.{saidOf as textSaidOf};
-ghost use Rattle.catalogue_tables.specs.Tables.{wordIn};
-ghost use Rattle.catalogue_rules.specs.Rules.{sizesRule, parentRight, parentsRule, follow, durationsRule, riseRule, belowRule, startsRight, startsRule, titlesPlacedRule, badTitle, titlesOf, RunsInside, TitlesInside};
+ghost use Rattle.catalogue_tables.specs.Tables.{wordIn, trackCount};
+ghost use Rattle.catalogue_rules.specs.Rules.{sizesRule, parentRight, parentsRule, follow, segmentRunsRule, durationsRule, riseRule, startsRight, startsRule, titlesPlacedRule, badTitle, titlesOf, RunsInside, TitlesInside};
 
 // What is said of all titles.
 pub enum Titles {
@@ -73,20 +74,34 @@ pub fn runs_right(table: &[u32], n: usize, width: usize, at: usize, total: usize
     good & (sum == total)
 }
 
-pub fn durations_right(tracks: &[u32]) -> bool
-    ensures { λ r. ⌜ r ≡ durationsRule (now (tracks .entry)) ⌝ }
+// Whether the rules of the tracks hold that ask of the other tables only how long they are: segment runs follow each other from 0 and use up all,
+// durations are right, and titles lie in the text and are short. One pass over the records, which are read from memory once.
+pub fn tracks_right(tracks: &[u32], segments: usize, text: usize) -> bool
+    requires { ⌜ trackCount (now tracks) ≤ 256 ⌝ }
+    ensures { λ r. ⌜ r ≡ (segmentRunsRule (now (tracks .entry)) segments && durationsRule (now (tracks .entry)) && titlesPlacedRule (now (tracks .entry)) text) ⌝ }
 {
     let n = tracks.len() / catalogue_tables::TRACK_WORDS;
-    let mut good = true;
+    let mut following = true;
+    let mut known = true;
+    let mut placed = true;
+    let mut sum: usize = 0;
     let mut i: usize = 0;
     while i < n {
         let base = i * catalogue_tables::TRACK_WORDS;
         let duration = tracks[base + catalogue_tables::DURATION_AT];
-        good = good
+        let first = ground::wide_word(tracks[base + catalogue_tables::FIRST_SEGMENT_AT]);
+        let count = ground::wide_word(tracks[base + catalogue_tables::SEGMENT_COUNT_AT]);
+        let offset = ground::wide_word(tracks[base + catalogue_tables::TITLE_OFFSET_AT]);
+        let len = ground::wide_word(tracks[base + catalogue_tables::TITLE_LENGTH_AT]);
+        let end = offset + len;
+        following = following & (first == sum);
+        known = known
             & ((duration <= ground::MOST_DURATION) | (duration == catalogue_tables::NOT_YET_KNOWN));
+        placed = placed & ((end <= text) & (len <= ground::MOST_TITLE));
+        sum += count;
         i += 1;
     }
-    good
+    following & (sum == segments) & known & placed
 }
 
 fn rises(starts: &[u32]) -> bool
@@ -102,31 +117,26 @@ fn rises(starts: &[u32]) -> bool
     good
 }
 
-fn all_below(starts: &[u32], end: u32) -> bool
-    ensures { λ r. ⌜ r ≡ belowRule (now (starts .entry)) end ⌝ }
-{
-    let mut good = true;
-    let mut i: usize = 0;
-    while i < starts.len() {
-        good = good & (starts[i] < end);
-        i += 1;
-    }
-    good
-}
-
+// Where starts rise, all lie below the end if the last one does.
 fn starts_of_track_right(starts: &[u32], end: u32) -> bool
     ensures { λ r. ⌜ r ≡ startsRight (now (starts .entry)) end ⌝ }
 {
-    let begin = ground::word_or_zero(starts, 0);
+    let n = starts.len();
+    if n == 0 {
+        return true;
+    }
     let rising = rises(starts);
-    let low = all_below(starts, end);
-    (begin == 0) & rising & low
+    (starts[0] == 0) & rising & (starts[n - 1] < end)
 }
 
+// With no segment at all, no track is looked at.
 pub fn starts_right(tracks: &[u32], segments: &[u32]) -> bool
     requires { ⌜ RunsInside (now tracks) (length (now segments)) ⌝ }
     ensures { λ r. ⌜ r ≡ startsRule (now (tracks .entry)) (now (segments .entry)) ⌝ }
 {
+    if segments.len() == 0 {
+        return true;
+    }
     let n = tracks.len() / catalogue_tables::TRACK_WORDS;
     let mut good = true;
     let mut i: usize = 0;
@@ -144,23 +154,6 @@ pub fn starts_right(tracks: &[u32], segments: &[u32]) -> bool
     good
 }
 
-pub fn titles_placed(tracks: &[u32], text: usize) -> bool
-    ensures { λ r. ⌜ r ≡ titlesPlacedRule (now (tracks .entry)) text ⌝ }
-{
-    let n = tracks.len() / catalogue_tables::TRACK_WORDS;
-    let mut good = true;
-    let mut i: usize = 0;
-    while i < n {
-        let base = i * catalogue_tables::TRACK_WORDS;
-        let offset = ground::wide_word(tracks[base + catalogue_tables::TITLE_OFFSET_AT]);
-        let len = ground::wide_word(tracks[base + catalogue_tables::TITLE_LENGTH_AT]);
-        let end = offset + len;
-        good = good & ((end <= text) & (len <= ground::MOST_TITLE));
-        i += 1;
-    }
-    good
-}
-
 // What is said of the titles behind one more, which has the lower number.
 fn with_title(behind: Titles, track: usize, title: text::Checked) -> Titles
     ensures { λ r. ⌜ titlesOf r ≡ pick (textSaidOf title .isGranted) (titlesOf behind) (track ∷ textSaidOf title .values) ⌝ }
@@ -172,11 +165,14 @@ fn with_title(behind: Titles, track: usize, title: text::Checked) -> Titles
 }
 
 // Whether all titles are UTF-8, or the lowest track whose title is not, and where it is not. From the last track to the first, the one that is kept is the
-// lowest, and every title is looked at once.
+// lowest, and every title is looked at once. Where all of the text is plain, so is every title, and none is looked at by itself.
 pub fn titles_text(tracks: &[u32], text: &[u8]) -> Titles
     requires { ⌜ TitlesInside (now tracks) (length (now text)) ⌝ }
     ensures { λ r. ⌜ titlesOf r ≡ badTitle (now (tracks .entry)) (now (text .entry)) ⌝ }
 {
+    if text::is_plain(text) {
+        return Titles::AllText;
+    }
     let mut found = Titles::AllText;
     let mut i = tracks.len() / catalogue_tables::TRACK_WORDS;
     while 0 < i {

@@ -1,6 +1,6 @@
 // UTF-8 (RFC 3629): whether octets are text, and where not.
 ghost use mathlib.Core.Path.{_≡_};
-ghost use mathlib.Core.Bool.{_&&_};
+ghost use mathlib.Core.Bool.{true, _&&_};
 ghost use Prim.Native.Nat.{ℕ, _+_, _<_, _≤_};
 ghost use lib.ListN.{length, getD, drop};
 ghost use Rattle.ground.specs.Cases.{pick, within};
@@ -110,6 +110,13 @@ fn bits_of(s: &[u8]) -> u8
     bits
 }
 
+// Whether no octet is above 0x7F: every part of such octets is text.
+pub fn is_plain(s: &[u8]) -> bool
+    ensures { λ r. ⌜ (r ≡ true → (i : ℕ) → i < length (now (s .entry)) → getD (now (s .entry)) i 0 ≤ 0x7F) ⌝ }
+{
+    bits_of(s) <= 0x7F
+}
+
 // Character by character.
 fn scan(s: &[u8]) -> Checked
     ensures { λ r. ⌜ r ≡ textOf (now (s .entry)) ⌝ }
@@ -132,7 +139,7 @@ pub fn check(s: &[u8]) -> Checked
     if s.len() < 32 {
         return scan(s);
     }
-    if bits_of(s) <= 0x7F {
+    if is_plain(s) {
         return Checked::Fine;
     }
     scan(s)

@@ -1,10 +1,11 @@
 -- `catalogue_check::plain_right`: at each return the tests that led there say what the rule is. Of each rule, `-holds` and `-fails` say so over the place that its test leads to.
-use mathlib.Core.Path.{_≡_, sym, _∙_}
-use mathlib.Core.Bool.{true, false}
+use mathlib.Core.Path.{_≡_, refl, sym, _∙_}
+use mathlib.Core.Bool.{Bool, true, false, _&&_}
 use native.Mathlib.Omega.{arith}
 use borrow.Author.Needs.{needs}
 use borrow.Author.Tests.{not-true, not-false}
 use lib.ListN.{length}
+use Rattle.ground.proofs.Cases.{and-left, and-right}
 use Rattle.catalogue_tables.specs.Tables.{Tables, tables, trackCount}
 use Rattle.catalogue_rules.specs.Rules.{sizesRule, parentsRule, trackRunsRule, segmentRunsRule, durationsRule, startsRule, titlesPlacedRule}
 use Rattle.catalogue_check.specs.Catalogue.{plainRule}
@@ -28,12 +29,6 @@ lent3 e = lent2 (e .before .before)
 abbrev lent4 : tie.Else4 → Tables
 lent4 e = lent3 (e .before .before)
 
-abbrev lent5 : tie.Else5 → Tables
-lent5 e = lent4 (e .before .before)
-
-abbrev lent6 : tie.Else6 → Tables
-lent6 e = lent5 (e .before .before)
-
 sizes-holds : (c : tie.Else1) → let k = lent (c .before .before .before .before .before .before) in sizesRule (length (k .groups)) (length (k .tracks)) (length (k .segments)) (length (k .text)) ≡ true
 sizes-holds c = sym (c .before .sizes-right .ensures) ∙ not-false _ (c .if1 .left)
 
@@ -54,31 +49,44 @@ track-runs-fails : (c : tie.Then3) → let k = lent2 (c .before .before) in trac
 unfolding trackRunsRule
 track-runs-fails c = sym (c .before .runs-right .ensures) ∙ not-true _ (c .if3 .taken)
 
-segment-runs-holds : (c : tie.Else4) → let k = lent3 (c .before .before) in segmentRunsRule (k .tracks) (length (k .segments)) ≡ true
-unfolding segmentRunsRule
-segment-runs-holds c = sym (c .before .runs-right2 .ensures) ∙ not-false _ (c .if4 .left)
+-- the three rules that one pass over the tracks tells
+abbrev runs-known : Tables → Bool
+runs-known k = segmentRunsRule (k .tracks) (length (k .segments)) && durationsRule (k .tracks)
 
-segment-runs-fails : (c : tie.Then4) → let k = lent3 (c .before .before) in segmentRunsRule (k .tracks) (length (k .segments)) ≡ false
-unfolding segmentRunsRule
-segment-runs-fails c = sym (c .before .runs-right2 .ensures) ∙ not-true _ (c .if4 .taken)
+abbrev tracks-kept : Tables → Bool
+tracks-kept k = runs-known k && titlesPlacedRule (k .tracks) (length (k .text))
 
-durations-holds : (c : tie.Else5) → let k = lent4 (c .before .before) in durationsRule (k .tracks) ≡ true
-durations-holds c = sym (c .before .durations-right .ensures) ∙ not-false _ (c .if5 .left)
+tracks-holds : (c : tie.Else4) → tracks-kept (lent3 (c .before .before)) ≡ true
+tracks-holds c = sym (c .before .tracks-right .ensures) ∙ not-false _ (c .if4 .left)
 
-durations-fails : (c : tie.Then5) → let k = lent4 (c .before .before) in durationsRule (k .tracks) ≡ false
-durations-fails c = sym (c .before .durations-right .ensures) ∙ not-true _ (c .if5 .taken)
+tracks-fails : (c : tie.Then4) → tracks-kept (lent3 (c .before .before)) ≡ false
+tracks-fails c = sym (c .before .tracks-right .ensures) ∙ not-true _ (c .if4 .taken)
 
-starts-holds : (c : tie.Else6) → let k = lent5 (c .before .before) in startsRule (k .tracks) (k .segments) ≡ true
-starts-holds c = sym (c .before .starts-right .ensures) ∙ not-false _ (c .if6 .left)
+-- each of the three
+module _ (k : Tables) (kept : tracks-kept k ≡ true) where
+  two-kept : runs-known k ≡ true
+  two-kept = and-left (runs-known k) _ kept
 
-starts-fails : (c : tie.Then6) → let k = lent5 (c .before .before) in startsRule (k .tracks) (k .segments) ≡ false
-starts-fails c = sym (c .before .starts-right .ensures) ∙ not-true _ (c .if6 .taken)
+  segment-runs-kept : segmentRunsRule (k .tracks) (length (k .segments)) ≡ true
+  segment-runs-kept = and-left (segmentRunsRule (k .tracks) (length (k .segments))) _ two-kept
 
-placed-holds : (c : tie.Else7) → let k = lent6 (c .before .before) in titlesPlacedRule (k .tracks) (length (k .text)) ≡ true
-placed-holds c = sym (c .before .titles-placed .ensures) ∙ not-false _ (c .if7 .left)
+  durations-kept : durationsRule (k .tracks) ≡ true
+  durations-kept = and-right (segmentRunsRule (k .tracks) (length (k .segments))) _ two-kept
 
-placed-fails : (c : tie.Then7) → let k = lent6 (c .before .before) in titlesPlacedRule (k .tracks) (length (k .text)) ≡ false
-placed-fails c = sym (c .before .titles-placed .ensures) ∙ not-true _ (c .if7 .taken)
+  placed-kept : titlesPlacedRule (k .tracks) (length (k .text)) ≡ true
+  placed-kept = and-right (runs-known k) _ kept
+
+-- a test between two that are not both true
+between : (a b c : Bool) → (a && c) ≡ false → (a && b && c) ≡ false
+between true true c h = h
+between true false c h = refl
+between false b c h = refl
+
+starts-holds : (c : tie.Else5) → let k = lent4 (c .before .before) in startsRule (k .tracks) (k .segments) ≡ true
+starts-holds c = sym (c .before .starts-right .ensures) ∙ not-false _ (c .if5 .left)
+
+starts-fails : (c : tie.Then5) → let k = lent4 (c .before .before) in startsRule (k .tracks) (k .segments) ≡ false
+starts-fails c = sym (c .before .starts-right .ensures) ∙ not-true _ (c .if5 .taken)
 
 sizes-right-requires : tie.Need-sizes-right-requires
 sizes-right-requires c κs = search needs
@@ -111,8 +119,8 @@ returns-3 c =
       track-runs-fails c,
     )
 
-runs-right-requires-2 : tie.Need-runs-right-requires-2
-runs-right-requires-2 c κs = omega (arith, few-tracks _ _ _ _ (sizes-holds (c .before .before .before .before)))
+tracks-right-requires : tie.Need-tracks-right-requires
+tracks-right-requires c κs = few-tracks _ _ _ _ (sizes-holds (c .before .before .before .before))
 
 returns-4 : tie.Need-returns-4
 unfolding plainRule
@@ -120,15 +128,15 @@ returns-4 c =
     let e3 = c .before .before in
     let e2 = e3 .before .before in
     let e1 = e2 .before .before in
+    let k = lent3 e3 in
     simp (
       sizes-holds e1,
       parents-holds e2,
       track-runs-holds e3,
-      segment-runs-fails c,
-    )
+    ) (sym (between (runs-known k) (startsRule (k .tracks) (k .segments)) (titlesPlacedRule (k .tracks) (length (k .text))) (tracks-fails c)))
 
-durations-right-requires : tie.Need-durations-right-requires
-durations-right-requires c κs = search needs
+starts-right-requires : tie.Need-starts-right-requires
+starts-right-requires c κs = runs-inside _ _ (segment-runs-kept (lent3 (c .before .before)) (tracks-holds c))
 
 returns-5 : tie.Need-returns-5
 unfolding plainRule
@@ -137,73 +145,32 @@ returns-5 c =
     let e3 = e4 .before .before in
     let e2 = e3 .before .before in
     let e1 = e2 .before .before in
+    let k = lent4 e4 in
     simp (
       sizes-holds e1,
       parents-holds e2,
       track-runs-holds e3,
-      segment-runs-holds e4,
-      durations-fails c,
+      segment-runs-kept k (tracks-holds e4),
+      durations-kept k (tracks-holds e4),
+      starts-fails c,
     )
-
-starts-right-requires : tie.Need-starts-right-requires
-starts-right-requires c κs = runs-inside _ _ (segment-runs-holds (c .before .before))
 
 returns-6 : tie.Need-returns-6
 unfolding plainRule
 returns-6 c =
-    let e5 = c .before .before in
-    let e4 = e5 .before .before in
+    let e4 = c .before .before in
     let e3 = e4 .before .before in
     let e2 = e3 .before .before in
     let e1 = e2 .before .before in
+    let k = lent4 e4 in
     simp (
       sizes-holds e1,
       parents-holds e2,
       track-runs-holds e3,
-      segment-runs-holds e4,
-      durations-holds e5,
-      starts-fails c,
-    )
-
-titles-placed-requires : tie.Need-titles-placed-requires
-titles-placed-requires c κs = search needs
-
-returns-7 : tie.Need-returns-7
-unfolding plainRule
-returns-7 c =
-    let e6 = c .before .before in
-    let e5 = e6 .before .before in
-    let e4 = e5 .before .before in
-    let e3 = e4 .before .before in
-    let e2 = e3 .before .before in
-    let e1 = e2 .before .before in
-    simp (
-      sizes-holds e1,
-      parents-holds e2,
-      track-runs-holds e3,
-      segment-runs-holds e4,
-      durations-holds e5,
-      starts-holds e6,
-      placed-fails c,
-    )
-
-returns-8 : tie.Need-returns-8
-unfolding plainRule
-returns-8 c =
-    let e6 = c .before .before in
-    let e5 = e6 .before .before in
-    let e4 = e5 .before .before in
-    let e3 = e4 .before .before in
-    let e2 = e3 .before .before in
-    let e1 = e2 .before .before in
-    simp (
-      sizes-holds e1,
-      parents-holds e2,
-      track-runs-holds e3,
-      segment-runs-holds e4,
-      durations-holds e5,
-      starts-holds e6,
-      placed-holds c,
+      segment-runs-kept k (tracks-holds e4),
+      durations-kept k (tracks-holds e4),
+      starts-holds c,
+      placed-kept k (tracks-holds e4),
     )
 
 pub plain-right-spec : {M : Type 1} → statement M
@@ -216,12 +183,8 @@ plain-right-spec =
     returns-2
     runs-right-requires
     returns-3
-    runs-right-requires-2
+    tracks-right-requires
     returns-4
-    durations-right-requires
-    returns-5
     starts-right-requires
-    returns-6
-    titles-placed-requires
-    returns-7
-    returns-8)
+    returns-5
+    returns-6)

@@ -1,5 +1,5 @@
 -- `catalogue_rules::starts_right`: after i turns, the rule of the first i tracks.
-use mathlib.Core.Path.{_≡_, refl, _∙_}
+use mathlib.Core.Path.{_≡_, refl, sym, _∙_}
 use Prim.Native.Nat.{_≤_, _-_}
 use native.Mathlib.Omega.{arith}
 use Rattle.ground.specs.Lists.{allBelow}
@@ -7,6 +7,7 @@ use Rattle.ground.proofs.Bounded.{all-turn, all-end}
 use Rattle.catalogue_tables.specs.Tables.{startsOf, endOf}
 use Rattle.catalogue_rules.specs.Rules.{startsRight, startsRule}
 use Rattle.catalogue_rules.proofs.Runs.{run-part}
+use Rattle.catalogue_rules.proofs.Starts.{no-segments}
 use borrow.Author.Needs.{needs}
 use Rattle.catalogue_rules.proofs.starts_right.Statement.{statement}
 use Rattle.catalogue_rules.proofs.starts_right.Tie as tie
@@ -16,6 +17,9 @@ Inv-loop tracks segments n good₀ i₀ good i = (i ≤ n) × (good ≡ allBelow
 
 abbrev μ-loop : tie.MeasureT-loop
 μ-loop tracks segments n good₀ i₀ good i = n - i
+
+returns : tie.Need-returns Inv-loop μ-loop
+returns c = sym (no-segments _ _ (omega arith))
 
 loop-holds : tie.Need-loop-holds Inv-loop μ-loop
 unfolding allBelow
@@ -75,7 +79,7 @@ part-starts-of-track-right-start c = search needs
 part-starts-of-track-right-end : tie.Need-part-starts-of-track-right-end Inv-loop μ-loop
 part-starts-of-track-right-end c =
     let l = c .before .before .before .before .before .before .before in
-    omega (arith, l .before .before .before .pre (l .loop .i) (omega arith))
+    omega (arith, l .before .before .before .before .pre (l .loop .i) (omega arith))
 
 starts-of-track-right-requires : tie.Need-starts-of-track-right-requires Inv-loop μ-loop
 starts-of-track-right-requires c κs = search needs
@@ -92,13 +96,13 @@ loop-again c =
     let e = c .before .before in
     let w = e .before .before in
     let l = w .before .before .before .before .before .loop in
-    let a = w .before .before .before .before .before .before .before .before .args in
+    let a = w .before .before .before .before .before .before .before .before .before .args in
     let part = run-part (a .segments .now) (w .before .before .wide-word .result) (w .wide-word2 .result) (w .before .before .wide-word .ensures .0) (w .wide-word2 .ensures .0) in
     (search needs, all-turn _ _ _ _ (l .inv .1) (c .starts-of-track-right .ensures ∙ (λ k. startsRight (part k) (e .end-by .ensures k))))
 
-returns : tie.Need-returns Inv-loop μ-loop
+returns-2 : tie.Need-returns-2 Inv-loop μ-loop
 unfolding startsRule
-returns c = all-end _ (c .before .loop .inv .0) (c .loop-test .left) (c .before .loop .inv .1)
+returns-2 c = all-end _ (c .before .loop .inv .0) (c .loop-test .left) (c .before .loop .inv .1)
 
 pub starts-right-spec : {M : Type 1} → statement M
 starts-right-spec =
@@ -106,6 +110,7 @@ starts-right-spec =
     (tie.spec
     Inv-loop
     μ-loop
+    returns
     loop-holds
     mul-base
     add-wide-word
@@ -129,4 +134,4 @@ starts-right-spec =
     add-i
     loop-less
     loop-again
-    returns)
+    returns-2)

@@ -9,6 +9,7 @@ use Rattle.text.specs.Utf8.{saidOf, textSaid}
 use Rattle.catalogue_tables.specs.Tables.{trackCount, titleOf}
 use Rattle.catalogue_rules.specs.Rules.{badTitleFrom, badTitle, titlesOf}
 use Rattle.catalogue_rules.proofs.Runs.{run-part}
+use Rattle.catalogue_rules.proofs.BadTitles.{plain-text}
 use borrow.Author.Needs.{needs}
 use Rattle.catalogue_rules.proofs.titles_text.Statement.{statement}
 use Rattle.catalogue_rules.proofs.titles_text.Tie as tie
@@ -31,12 +32,19 @@ lower tracks text n i h =
     ap (λ (m : ℕ). badTitleFrom tracks text m i) e
     ∙ ap (λ (j : ℕ). pick (textSaid (titleOf tracks text i) .isGranted) (badTitleFrom tracks text (n - (i + 1)) j) (i ∷ textSaid (titleOf tracks text i) .values)) s
 
+is-plain-requires : tie.Need-is-plain-requires Inv-loop μ-loop
+is-plain-requires c κs = search needs
+
+returns : tie.Need-returns Inv-loop μ-loop
+returns c = sym (plain-text _ _ (c .before .is-plain .ensures (c .if1 .taken)))
+
 loop-holds : tie.Need-loop-holds Inv-loop μ-loop
 unfolding badTitleFrom
 loop-holds c =
-    let n = trackCount (c .before .before .args .tracks .now) in
+    let a = c .before .before .before .before .args in
+    let n = trackCount (a .tracks .now) in
     let z : n - n ≡ 0 = omega arith in
-    (search needs, sym (ap (λ (m : ℕ). badTitleFrom (c .before .before .args .tracks .now) (c .before .before .args .text .now) m n) z))
+    (search needs, sym (ap (λ (m : ℕ). badTitleFrom (a .tracks .now) (a .text .now) m n) z))
 
 sub-i : tie.Need-sub-i Inv-loop μ-loop
 sub-i c = search needs
@@ -80,7 +88,7 @@ part-check-start c = search needs
 part-check-end : tie.Need-part-check-end Inv-loop μ-loop
 part-check-end c =
     let l = c .before .before .before .before .before in
-    let a = l .before .before .before in
+    let a = l .before .before .before .before .before in
     omega (arith, a .pre (l .loop .i - 1) (omega arith))
 
 check-requires : tie.Need-check-requires Inv-loop μ-loop
@@ -97,7 +105,7 @@ unfolding titleOf
 loop-again c =
     let w = c .before .before .before in
     let l = w .before .before .before .before .before in
-    let a = l .before .before .before .args in
+    let a = l .before .before .before .before .before .args in
     let tracks = a .tracks .now in
     let text = a .text .now in
     let n = trackCount tracks in
@@ -112,9 +120,9 @@ loop-again c =
           ∙ sym (lower tracks text n i (omega arith)),
     )
 
-returns : tie.Need-returns Inv-loop μ-loop
-returns c =
-    let a = c .before .before .before .before .args in
+returns-2 : tie.Need-returns-2 Inv-loop μ-loop
+returns-2 c =
+    let a = c .before .before .before .before .before .before .args in
     let z : c .before .loop .i ≡ 0 = omega arith in
     let e : trackCount (a .tracks .now) - c .before .loop .i ≡ trackCount (a .tracks .now) = omega arith in
     c .before .loop .inv .1 ∙ (λ k. badTitleFrom (a .tracks .now) (a .text .now) (e k) (z k))
@@ -125,6 +133,8 @@ titles-text-spec =
     (tie.spec
     Inv-loop
     μ-loop
+    is-plain-requires
+    returns
     loop-holds
     sub-i
     mul-base
@@ -144,4 +154,4 @@ titles-text-spec =
     with-title-requires
     loop-less
     loop-again
-    returns)
+    returns-2)

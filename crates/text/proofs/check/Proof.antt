@@ -1,6 +1,5 @@
 -- `text::check`: the scan says it; of a long text, octets that are all below 0x80 are characters of one octet each.
 use mathlib.Core.Path.{sym, ap}
-use native.Mathlib.Omega.{arith}
 use borrow.Author.Needs.{needs}
 use Rattle.text.specs.Utf8.{saidOf, textSaid}
 use Rattle.text.proofs.Run.{ascii-is-text}
@@ -14,12 +13,12 @@ returns : tie.Need-returns
 unfolding textSaid
 returns c = ap saidOf (c .scan .ensures)
 
-bits-of-requires : tie.Need-bits-of-requires
-bits-of-requires c κs = search needs
+is-plain-requires : tie.Need-is-plain-requires
+is-plain-requires c κs = search needs
 
 returns-2 : tie.Need-returns-2
 unfolding textSaid
-returns-2 c = ap saidOf (sym (ascii-is-text _ (λ i h. omega (arith, c .before .bits-of .ensures i h))))
+returns-2 c = ap saidOf (sym (ascii-is-text _ (c .before .is-plain .ensures (c .if2 .taken))))
 
 scan-requires-2 : tie.Need-scan-requires-2
 scan-requires-2 c κs = search needs
@@ -29,4 +28,4 @@ unfolding textSaid
 returns-3 c = ap saidOf (c .scan2 .ensures)
 
 pub check-spec : {M : Type 1} → statement M
-check-spec = tie.close (tie.spec scan-requires returns bits-of-requires returns-2 scan-requires-2 returns-3)
+check-spec = tie.close (tie.spec scan-requires returns is-plain-requires returns-2 scan-requires-2 returns-3)
