@@ -6,7 +6,7 @@ use native.Mathlib.Nat.{add-zero, not-suc-le-zero, le-of-suc-le-suc}
 use native.Mathlib.Omega.{arith}
 use borrow.Author.Tests.{ne-eqb}
 use lib.ListN.{length, getD, drop, length-drop}
-use lib.Seq.{drop-drop}
+use lib.Seq.{drop-drop, getD-drop}
 use Rattle.text.specs.Utf8.{charLength, textFrom, textOf}
 use Rattle.text.specs.declared.Checked.{Checked}
 use Rattle.text.specs.declared.Checked.the-variants.{Fine, BadAt}
@@ -54,6 +54,11 @@ ascii at [] low = refl
 ascii at (a ∷ s) low =
     goes-on at 1 (a ∷ s) (omega arith) (row-one a (getD s 0 0) (getD s 1 0) (getD s 2 0) (omega (arith, low 0 (omega arith)))) (omega arith)
     ∙ ascii (at + 1) s (λ i h. low (suc i) (omega arith))
+
+-- the loop's end: from i on all octets are plain
+pub plain-rest : (s : List ℕ) (i : ℕ) {whole : Checked} → textFrom i 0 (drop i s) ≡ whole
+    → ((k : ℕ) → i ≤ k → k < length s → getD s k 0 ≤ 0x7F) → Fine ≡ whole
+plain-rest s i inv low = sym (ascii i (drop i s) (λ k h. rw getD-drop (low (i + k) (omega arith) (omega (arith, length-drop i s))))) ∙ inv
 
 pub ascii-is-text : (s : List ℕ) → ((i : ℕ) → i < length s → getD s i 0 ≤ 0x7F) → textOf s ≡ Fine
 unfolding textOf

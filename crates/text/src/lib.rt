@@ -117,12 +117,37 @@ pub fn is_plain(s: &[u8]) -> bool
     bits_of(s) <= 0x7F
 }
 
-// Character by character.
+// A number that none of the eight octets from a place on exceeds. They are read as one word.
+fn eight_bits(s: &[u8], at: usize) -> u8
+    requires { ⌜ at + 8 ≤ length (now s) ⌝ }
+    ensures { λ r. ⌜ ((i : ℕ) → at ≤ i → i < at + 8 → getD (now (s .entry)) i 0 ≤ r) ⌝ }
+{
+    s[at] | s[at + 1] | s[at + 2] | s[at + 3] | s[at + 4] | s[at + 5] | s[at + 6] | s[at + 7]
+}
+
+// A place from which on no octet is above 0x7F: found eight octets at a time, from the end.
+fn plain_from(s: &[u8]) -> usize
+    ensures { λ r. ⌜ r ≤ length (now (s .entry)) ⌝ }
+    ensures { λ r. ⌜ ((i : ℕ) → r ≤ i → i < length (now (s .entry)) → getD (now (s .entry)) i 0 ≤ 0x7F) ⌝ }
+{
+    let mut end = s.len();
+    while 8 <= end {
+        let start = end - 8;
+        if 0x7F < eight_bits(s, start) {
+            return end;
+        }
+        end = start;
+    }
+    end
+}
+
+// Character by character, up to where all that is left is plain.
 fn scan(s: &[u8]) -> Checked
     ensures { λ r. ⌜ r ≡ textOf (now (s .entry)) ⌝ }
 {
+    let end = plain_from(s);
     let mut i = 0;
-    while i < s.len() {
+    while i < end {
         let n = char_at(s, i);
         if n == 0 {
             return Checked::BadAt(i);
