@@ -1,9 +1,9 @@
 -- What telling the clients asks of the two players, where no row refuses: the player before the call stands, and so does the one after it. Assumes nothing.
-use mathlib.Core.Path.{_≡_, ap, _∙_}
+use mathlib.Core.Path.{_≡_, ap, _∙_, subst}
 use mathlib.Core.Bool.{true, false}
 use mathlib.Core.List.{List, _++_}
 use Prim.Native.Nat.{ℕ, _<_}
-use Rattle.ground.specs.Refusals.{Row}
+use Rattle.ground.specs.Refusals.{Row, Left}
 use Rattle.ground.proofs.Rows.{NoneApplies}
 use Rattle.catalogue_check.specs.Catalogue.{Right}
 use Rattle.catalogue_titles.specs.Lent.{Lent, catalogueOf}
@@ -15,7 +15,8 @@ use Rattle.player_moves.proofs.Ready as ready
 use Rattle.player_values.proofs.Fits.{player-sits}
 use Rattle.desk_slots.specs.Slots.{serviceCount}
 use Rattle.desk_state.specs.declared.Desk.{Desk}
-use Rattle.desk_replies.specs.Replies.{fronted}
+use Rattle.desk_replies.specs.declared.Answer.{Answer}
+use Rattle.desk_replies.specs.Replies.{fronted, Answers}
 use Rattle.desk_replies.proofs.Gates as gates
 use Rattle.desk_console.specs.Console.{playerOf}
 
@@ -35,3 +36,7 @@ module _ (k : Lent) (d : Desk) (behind : List Row) (passed : NoneApplies (fronte
 
   pub sits-after : (q r : Player) → q ≡ r → playerRule (k .groups) (k .tracks) r ≡ true → Sits (k .groups) (k .tracks) q
   sits-after q r e kept = player-sits (catalogueOf k) right q (ap (playerRule (k .groups) (k .tracks)) e ∙ kept)
+
+-- and a call comes to what telling them comes to, where no row refuses
+pub told-so : {l m : Left Desk} {old new : List ℕ} {answer : Answer} → l ≡ m → Answers l old answer new → Answers m old answer new
+told-so {l} {m} {old} {new} {answer} = subst (λ (x : Left Desk). Answers x old answer new)

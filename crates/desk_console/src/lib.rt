@@ -11,7 +11,9 @@ ghost use Rattle.desk_slots.specs.Slots.{serviceCount};
 ghost use Rattle.desk_state.specs.Desk.{serviceAt, startedDesk, withService};
 ghost use Rattle.desk_notices.specs.Owed.{settled, noWriter};
 ghost use Rattle.player_check.specs.Standing.{nameRow};
-ghost use Rattle.desk_replies.specs.Replies.{leftBy, Gated};
+ghost use Rattle.mcs_state.specs.Codec.{deskOf};
+ghost use Rattle.mcs_state.specs.Stored.{Plain};
+ghost use Rattle.desk_replies.specs.Replies.{Answers, Gated};
 ghost use Rattle.player_values.specs.Values.{source};
 ghost use Rattle.player_moves.specs.Moves.{Sits};
 ghost use Rattle.desk_console.specs.Console.{startCall, playerOf, nameCall, activateCall, deactivateCall, quietAdvance, advanceCall};
@@ -61,25 +63,25 @@ pub fn start(
     name1: &[u8],
     mask1: u32,
     ccid1: u8,
-) -> desk_replies::Outcome
-    ensures { λ r. ⌜ leftBy r ≡ startCall (lending (now (groups .entry)) (now (tracks .entry)) (now (segments .entry)) (now (text .entry)) (now (renames .entry)) (now (office .entry))) (record { name = now (name0 .entry); mask = mask0; ccid = ccid0 }) (record { name = now (name1 .entry); mask = mask1; ccid = ccid1 }) ⌝ }
+    state: &mut [u8; 649],
+) -> desk_replies::Answer
+    ensures { λ r. ⌜ Answers (startCall (lending (now (groups .entry)) (now (tracks .entry)) (now (segments .entry)) (now (text .entry)) (now (renames .entry)) (now (office .entry))) (record { name = now (name0 .entry); mask = mask0; ccid = ccid0 }) (record { name = now (name1 .entry); mask = mask1; ccid = ccid1 })) (now (state .entry)) r (now (state .exit)) ⌝ }
 {
-    let none: [u8; 0] = [];
-    let blank = fresh(&none, mask0, ccid0, &none, mask1, ccid1);
     let g = desk_replies::lent_gate(groups, tracks, segments, text, renames, office, false);
     if !g.passes {
-        return desk_replies::shut(g, blank);
+        return g.answer;
     }
     let first = name_gate(name0);
     if !first.passes {
-        return desk_replies::shut(first, blank);
+        return first.answer;
     }
     let second = name_gate(name1);
     if !second.passes {
-        return desk_replies::shut(second, blank);
+        return second.answer;
     }
     let d = fresh(name0, mask0, ccid0, name1, mask1, ccid1);
-    desk_replies::left(desk_replies::Answer::Done, d)
+    mcs_state::encode(d, state);
+    desk_replies::Answer::Done
 }
 
 // The service's player becomes q by a call of no client, and every client is told. quiet: an advance in Playing that stays below D.
@@ -89,30 +91,22 @@ fn becoming<'a>(
     text: &'a [u8],
     renames: &[u32],
     office: &'a [u8],
-    d: desk_state::Desk,
+    state: &mut [u8; 649],
     service: u32,
     q: player_state::Player,
     quiet: bool,
-) -> desk_replies::Outcome
+) -> desk_replies::Answer
+    requires { ⌜ Plain (now state) ⌝ }
     requires { ⌜ service < serviceCount ⌝ }
-    requires { ⌜ Sits (now groups) (now tracks) (playerOf d service) ⌝ }
+    requires { ⌜ Sits (now groups) (now tracks) (playerOf (deskOf (now state)) service) ⌝ }
     requires { ⌜ Sits (now groups) (now tracks) q ⌝ }
-    ensures { λ r. ⌜ leftBy r ≡ leaves (granted []) (withService service (settled (source (now (groups .entry)) (now (tracks .entry)) (now (text .entry)) (now (renames .entry)) (now (office .entry))) (noWriter quiet) q (serviceAt d service)) d) ⌝ }
+    ensures { λ r. ⌜ Answers (leaves (granted []) (withService service (settled (source (now (groups .entry)) (now (tracks .entry)) (now (text .entry)) (now (renames .entry)) (now (office .entry))) (noWriter quiet) q (serviceAt (deskOf (now (state .entry))) service)) (deskOf (now (state .entry))))) (now (state .entry)) r (now (state .exit)) ⌝ }
 {
     let cause = desk_notices::no_writer(quiet);
-    let s = desk_state::service_at(d, service);
+    let s = mcs_state::service_at(state, service);
     let told = desk_notices::settle(groups, tracks, text, renames, office, s, q, cause);
-    let e = desk_state::with_service(d, service, told);
-    desk_replies::left(desk_replies::Answer::Done, e)
-}
-
-// The player of a service.
-fn player_at(d: desk_state::Desk, service: u32) -> player_state::Player
-    requires { ⌜ service < serviceCount ⌝ }
-    ensures { λ r. ⌜ r ≡ playerOf d service ⌝ }
-{
-    let s = desk_state::service_at(d, service);
-    s.player
+    mcs_state::put_service(state, service, told);
+    desk_replies::Answer::Done
 }
 
 // Another name.
@@ -123,23 +117,43 @@ pub fn set_name<'a>(
     text: &'a [u8],
     renames: &[u32],
     office: &'a [u8],
-    d: desk_state::Desk,
+    state: &mut [u8; 649],
     service: u32,
     name: &[u8],
-) -> desk_replies::Outcome
-    ensures { λ r. ⌜ leftBy r ≡ nameCall (lending (now (groups .entry)) (now (tracks .entry)) (now (segments .entry)) (now (text .entry)) (now (renames .entry)) (now (office .entry))) d service (now (name .entry)) ⌝ }
+) -> desk_replies::Answer
+    ensures { λ r. ⌜ Answers (nameCall (lending (now (groups .entry)) (now (tracks .entry)) (now (segments .entry)) (now (text .entry)) (now (renames .entry)) (now (office .entry))) (deskOf (now (state .entry))) service (now (name .entry))) (now (state .entry)) r (now (state .exit)) ⌝ }
 {
-    let g = desk_replies::service_gate(groups, tracks, segments, text, renames, office, d, service);
+    let g = desk_replies::service_gate(
+        groups,
+        tracks,
+        segments,
+        text,
+        renames,
+        office,
+        state,
+        service,
+    );
     if !g.passes {
-        return desk_replies::shut(g, d);
+        return g.answer;
     }
     let n = name_gate(name);
     if !n.passes {
-        return desk_replies::shut(n, d);
+        return n.answer;
     }
-    let p = player_at(d, service);
+    let p = mcs_state::player_at(state, service);
     let q = player_state::set_name(p, name);
-    becoming(groups, tracks, text, renames, office, d, service, q, false)
+    mcs_state::are_octets(state);
+    becoming(
+        groups,
+        tracks,
+        text,
+        renames,
+        office,
+        state,
+        service,
+        q,
+        false,
+    )
 }
 
 // A group becomes current.
@@ -150,22 +164,42 @@ pub fn activate<'a>(
     text: &'a [u8],
     renames: &[u32],
     office: &'a [u8],
-    d: desk_state::Desk,
+    state: &mut [u8; 649],
     service: u32,
     group: catalogue_tables::GroupNo,
-) -> desk_replies::Outcome
-    ensures { λ r. ⌜ leftBy r ≡ activateCall (lending (now (groups .entry)) (now (tracks .entry)) (now (segments .entry)) (now (text .entry)) (now (renames .entry)) (now (office .entry))) d service (group .0) ⌝ }
+) -> desk_replies::Answer
+    ensures { λ r. ⌜ Answers (activateCall (lending (now (groups .entry)) (now (tracks .entry)) (now (segments .entry)) (now (text .entry)) (now (renames .entry)) (now (office .entry))) (deskOf (now (state .entry))) service (group .0)) (now (state .entry)) r (now (state .exit)) ⌝ }
 {
-    let g = desk_replies::service_gate(groups, tracks, segments, text, renames, office, d, service);
+    let g = desk_replies::service_gate(
+        groups,
+        tracks,
+        segments,
+        text,
+        renames,
+        office,
+        state,
+        service,
+    );
     if !g.passes {
-        return desk_replies::shut(g, d);
+        return g.answer;
     }
     if !player_check::group_right(groups, group) {
-        return desk_replies::refuse(ground::BAD_GROUP, d);
+        return desk_replies::refuse(ground::BAD_GROUP);
     }
-    let p = player_at(d, service);
+    let p = mcs_state::player_at(state, service);
     let q = player_moves::activate(groups, tracks, p, group);
-    becoming(groups, tracks, text, renames, office, d, service, q, false)
+    mcs_state::are_octets(state);
+    becoming(
+        groups,
+        tracks,
+        text,
+        renames,
+        office,
+        state,
+        service,
+        q,
+        false,
+    )
 }
 
 // No track is current.
@@ -176,18 +210,38 @@ pub fn deactivate<'a>(
     text: &'a [u8],
     renames: &[u32],
     office: &'a [u8],
-    d: desk_state::Desk,
+    state: &mut [u8; 649],
     service: u32,
-) -> desk_replies::Outcome
-    ensures { λ r. ⌜ leftBy r ≡ deactivateCall (lending (now (groups .entry)) (now (tracks .entry)) (now (segments .entry)) (now (text .entry)) (now (renames .entry)) (now (office .entry))) d service ⌝ }
+) -> desk_replies::Answer
+    ensures { λ r. ⌜ Answers (deactivateCall (lending (now (groups .entry)) (now (tracks .entry)) (now (segments .entry)) (now (text .entry)) (now (renames .entry)) (now (office .entry))) (deskOf (now (state .entry))) service) (now (state .entry)) r (now (state .exit)) ⌝ }
 {
-    let g = desk_replies::service_gate(groups, tracks, segments, text, renames, office, d, service);
+    let g = desk_replies::service_gate(
+        groups,
+        tracks,
+        segments,
+        text,
+        renames,
+        office,
+        state,
+        service,
+    );
     if !g.passes {
-        return desk_replies::shut(g, d);
+        return g.answer;
     }
-    let p = player_at(d, service);
+    let p = mcs_state::player_at(state, service);
     let q = player_state::deactivate(p);
-    becoming(groups, tracks, text, renames, office, d, service, q, false)
+    mcs_state::are_octets(state);
+    becoming(
+        groups,
+        tracks,
+        text,
+        renames,
+        office,
+        state,
+        service,
+        q,
+        false,
+    )
 }
 
 // Whether a step of time stays below the end of the track that plays.
@@ -208,18 +262,38 @@ pub fn advance<'a>(
     text: &'a [u8],
     renames: &[u32],
     office: &'a [u8],
-    d: desk_state::Desk,
+    state: &mut [u8; 649],
     service: u32,
     step: u32,
-) -> desk_replies::Outcome
-    ensures { λ r. ⌜ leftBy r ≡ advanceCall (lending (now (groups .entry)) (now (tracks .entry)) (now (segments .entry)) (now (text .entry)) (now (renames .entry)) (now (office .entry))) d service step ⌝ }
+) -> desk_replies::Answer
+    ensures { λ r. ⌜ Answers (advanceCall (lending (now (groups .entry)) (now (tracks .entry)) (now (segments .entry)) (now (text .entry)) (now (renames .entry)) (now (office .entry))) (deskOf (now (state .entry))) service step) (now (state .entry)) r (now (state .exit)) ⌝ }
 {
-    let g = desk_replies::service_gate(groups, tracks, segments, text, renames, office, d, service);
+    let g = desk_replies::service_gate(
+        groups,
+        tracks,
+        segments,
+        text,
+        renames,
+        office,
+        state,
+        service,
+    );
     if !g.passes {
-        return desk_replies::shut(g, d);
+        return g.answer;
     }
-    let p = player_at(d, service);
+    let p = mcs_state::player_at(state, service);
     let q = player_moves::advance(groups, tracks, p, step);
     let quiet = is_quiet(tracks, p, step);
-    becoming(groups, tracks, text, renames, office, d, service, q, quiet)
+    mcs_state::are_octets(state);
+    becoming(
+        groups,
+        tracks,
+        text,
+        renames,
+        office,
+        state,
+        service,
+        q,
+        quiet,
+    )
 }

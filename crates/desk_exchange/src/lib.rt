@@ -13,7 +13,8 @@ ghost use Rattle.catalogue_tables.specs.Objects.{trackObjects, groupObjects};
 ghost use Rattle.catalogue_check.specs.Catalogue.{Right};
 ghost use Rattle.player_check.specs.Standing.{playerRule};
 ghost use Rattle.desk_slots.specs.Slots.{clientCount};
-ghost use Rattle.desk_replies.specs.Replies.{Gated, saidOf, leftBy, fronted};
+ghost use Rattle.mcs_state.specs.Codec.{deskOf};
+ghost use Rattle.desk_replies.specs.Replies.{Answers, Gated, saidOf, fronted};
 ghost use Rattle.desk_exchange.specs.Read.{valueNow, readerRows, afterRead, readOctets, readCall};
 ghost use Rattle.desk_exchange.specs.Write.{writerRows, controlLength, lengthRight, objectOf, trackAt, groupAt, ownTrack, anyGroup, allowed, numberOf, controlWritten, playerWritten, written, writeCall};
 
@@ -36,14 +37,15 @@ fn read_gate<'a>(
     text: &'a [u8],
     renames: &[u32],
     office: &'a [u8],
-    d: desk_state::Desk,
+    state: &[u8],
     who: u32,
     service: u32,
     characteristic: u32,
     offset: u32,
     room: usize,
 ) -> desk_replies::Gate
-    ensures { λ r. ⌜ Gated (fronted (lending (now (groups .entry)) (now (tracks .entry)) (now (segments .entry)) (now (text .entry)) (now (renames .entry)) (now (office .entry))) (ltb room leastOutput) d ++ readerRows d who service characteristic offset (len (valueNow (lending (now (groups .entry)) (now (tracks .entry)) (now (segments .entry)) (now (text .entry)) (now (renames .entry)) (now (office .entry))) d service characteristic))) r ⌝ }
+    requires { ⌜ 649 ≤ len (now state) ⌝ }
+    ensures { λ r. ⌜ Gated (fronted (lending (now (groups .entry)) (now (tracks .entry)) (now (segments .entry)) (now (text .entry)) (now (renames .entry)) (now (office .entry))) (ltb room leastOutput) (deskOf (now (state .entry))) ++ readerRows (deskOf (now (state .entry))) who service characteristic offset (len (valueNow (lending (now (groups .entry)) (now (tracks .entry)) (now (segments .entry)) (now (text .entry)) (now (renames .entry)) (now (office .entry))) (deskOf (now (state .entry))) service characteristic))) r ⌝ }
 {
     let g = desk_replies::characteristic_gate(
         groups,
@@ -53,7 +55,7 @@ fn read_gate<'a>(
         renames,
         office,
         room < ground::LEAST_OUTPUT,
-        d,
+        state,
         who,
         service,
         characteristic,
@@ -63,16 +65,16 @@ fn read_gate<'a>(
     if !g.passes {
         return g;
     }
-    let asked = desk_state::service_at(d, service);
-    let a = desk_state::account_in(asked, who);
-    let known = ground::has_bit(a.fresh, characteristic);
-    if (0 < offset) & !known {
+    if offset == 0 {
+        return g;
+    }
+    let a = mcs_state::account_at(state, service, who);
+    if !ground::has_bit(a.fresh, characteristic) {
         return desk_replies::gate_shut(ground::VALUE_CHANGED);
     }
-    let p = asked.player;
-    let h = player_values::hold(groups, tracks, text, renames, office, p, characteristic);
-    let from = ground::wide_word(offset);
-    if h.len < from {
+    let p = mcs_state::player_at(state, service);
+    let n = player_values::length_of(groups, tracks, text, renames, office, p, characteristic);
+    if n < ground::wide_word(offset) {
         return desk_replies::gate_shut(ground::BEYOND_END);
     }
     g
@@ -86,15 +88,15 @@ pub fn read<'a>(
     text: &'a [u8],
     renames: &[u32],
     office: &'a [u8],
-    d: desk_state::Desk,
+    state: &mut [u8; 649],
     who: u32,
     service: u32,
     characteristic: u32,
     offset: u32,
     out: &mut [u8],
-) -> desk_replies::Outcome
-    ensures { λ r. ⌜ leftBy r ≡ readCall (lending (now (groups .entry)) (now (tracks .entry)) (now (segments .entry)) (now (text .entry)) (now (renames .entry)) (now (office .entry))) d who service characteristic offset (len (now (out .entry))) ⌝ }
-    ensures { λ r. ⌜ now (out .exit) ≡ tableAfter (saidOf (r .answer)) (readOctets (lending (now (groups .entry)) (now (tracks .entry)) (now (segments .entry)) (now (text .entry)) (now (renames .entry)) (now (office .entry))) d who service characteristic offset) (now (out .entry)) ⌝ }
+) -> desk_replies::Answer
+    ensures { λ r. ⌜ Answers (readCall (lending (now (groups .entry)) (now (tracks .entry)) (now (segments .entry)) (now (text .entry)) (now (renames .entry)) (now (office .entry))) (deskOf (now (state .entry))) who service characteristic offset (len (now (out .entry)))) (now (state .entry)) r (now (state .exit)) ⌝ }
+    ensures { λ r. ⌜ now (out .exit) ≡ tableAfter (saidOf r) (readOctets (lending (now (groups .entry)) (now (tracks .entry)) (now (segments .entry)) (now (text .entry)) (now (renames .entry)) (now (office .entry))) (deskOf (now (state .entry))) who service characteristic offset) (now (out .entry)) ⌝ }
 {
     let g = read_gate(
         groups,
@@ -103,7 +105,7 @@ pub fn read<'a>(
         text,
         renames,
         office,
-        d,
+        state,
         who,
         service,
         characteristic,
@@ -111,20 +113,29 @@ pub fn read<'a>(
         out.len(),
     );
     if !g.passes {
-        return desk_replies::shut(g, d);
+        return g.answer;
     }
-    let s = desk_state::service_at(d, service);
-    let l = desk_state::link_at(d, who);
-    let a = desk_state::account_in(s, who);
-    let p = s.player;
-    let h = player_values::hold(groups, tracks, text, renames, office, p, characteristic);
+    let l = mcs_state::link_at(state, who);
+    let a = mcs_state::account_at(state, service, who);
+    let p = mcs_state::player_at(state, service);
     let from = ground::wide_word(offset);
     let most = ground::wide_word(l.mtu - 1);
-    let n = player_values::hand(out, h, from, most);
+    let n = player_values::value(
+        out,
+        groups,
+        tracks,
+        text,
+        renames,
+        office,
+        p,
+        characteristic,
+        from,
+        most,
+    );
     let next = after_read(a, characteristic, offset);
-    let told = desk_state::with_account(s, who, next);
-    let e = desk_state::with_service(d, service, told);
-    desk_replies::left(desk_replies::Answer::Octets(n), e)
+    mcs_state::are_octets(state);
+    mcs_state::put_account(state, service, who, next);
+    desk_replies::Answer::Octets(n)
 }
 
 // Whether a write to 18 has as many octets as its opcode asks.
@@ -226,13 +237,14 @@ fn write_gate(
     text: &[u8],
     renames: &[u32],
     office: &[u8],
-    d: desk_state::Desk,
+    state: &[u8],
     who: u32,
     service: u32,
     characteristic: u32,
     value: &[u8],
 ) -> desk_replies::Gate
-    ensures { λ r. ⌜ Gated (fronted (lending (now (groups .entry)) (now (tracks .entry)) (now (segments .entry)) (now (text .entry)) (now (renames .entry)) (now (office .entry))) false d ++ writerRows (lending (now (groups .entry)) (now (tracks .entry)) (now (segments .entry)) (now (text .entry)) (now (renames .entry)) (now (office .entry))) d who service characteristic (now (value .entry))) r ⌝ }
+    requires { ⌜ 649 ≤ len (now state) ⌝ }
+    ensures { λ r. ⌜ Gated (fronted (lending (now (groups .entry)) (now (tracks .entry)) (now (segments .entry)) (now (text .entry)) (now (renames .entry)) (now (office .entry))) false (deskOf (now (state .entry))) ++ writerRows (lending (now (groups .entry)) (now (tracks .entry)) (now (segments .entry)) (now (text .entry)) (now (renames .entry)) (now (office .entry))) (deskOf (now (state .entry))) who service characteristic (now (value .entry))) r ⌝ }
 {
     let g = desk_replies::characteristic_gate(
         groups,
@@ -242,7 +254,7 @@ fn write_gate(
         renames,
         office,
         false,
-        d,
+        state,
         who,
         service,
         characteristic,
@@ -255,12 +267,11 @@ fn write_gate(
     if !length_right(characteristic, value) {
         return desk_replies::gate_shut(ground::BAD_LENGTH);
     }
-    let s = desk_state::service_at(d, service);
-    let p = s.player;
+    let p = mcs_state::player_at(state, service);
     if !is_allowed(groups, p, characteristic, value) {
         return desk_replies::gate_shut(ground::NOT_ALLOWED);
     }
-    let a = desk_state::account_in(s, who);
+    let a = mcs_state::account_at(state, service, who);
     if (characteristic == 18) & (desk_client::MOST_RESULTS <= a.waiting) {
         return desk_replies::gate_shut(ground::TOO_MANY_RESULTS);
     }
@@ -380,13 +391,13 @@ pub fn write<'a>(
     text: &'a [u8],
     renames: &[u32],
     office: &'a [u8],
-    d: desk_state::Desk,
+    state: &mut [u8; 649],
     who: u32,
     service: u32,
     characteristic: u32,
     value: &[u8],
-) -> desk_replies::Outcome
-    ensures { λ r. ⌜ leftBy r ≡ writeCall (lending (now (groups .entry)) (now (tracks .entry)) (now (segments .entry)) (now (text .entry)) (now (renames .entry)) (now (office .entry))) d who service characteristic (now (value .entry)) ⌝ }
+) -> desk_replies::Answer
+    ensures { λ r. ⌜ Answers (writeCall (lending (now (groups .entry)) (now (tracks .entry)) (now (segments .entry)) (now (text .entry)) (now (renames .entry)) (now (office .entry))) (deskOf (now (state .entry))) who service characteristic (now (value .entry))) (now (state .entry)) r (now (state .exit)) ⌝ }
 {
     let g = write_gate(
         groups,
@@ -395,16 +406,16 @@ pub fn write<'a>(
         text,
         renames,
         office,
-        d,
+        state,
         who,
         service,
         characteristic,
         value,
     );
     if !g.passes {
-        return desk_replies::shut(g, d);
+        return g.answer;
     }
-    let s = desk_state::service_at(d, service);
+    let s = mcs_state::service_at(state, service);
     let written = carry_out(
         groups,
         tracks,
@@ -417,6 +428,7 @@ pub fn write<'a>(
         characteristic,
         value,
     );
-    let e = desk_state::with_service(d, service, written);
-    desk_replies::left(desk_replies::Answer::Done, e)
+    mcs_state::are_octets(state);
+    mcs_state::put_service(state, service, written);
+    desk_replies::Answer::Done
 }

@@ -5,16 +5,15 @@ use Prim.Native.Nat.{ℕ}
 use contract.Lifetimes.{Lfts}
 use denote.Ref.{RefT}
 use Rattle.ground.specs.Refusals.{Left}
-use Rattle.desk_state.specs.declared.Desk.{Desk}
 use Rattle.desk_replies.proofs.Settled.{answer-settles}
 use Rattle.desk_goto.specs.declared.Arrival.{Arrival}
 use Rattle.desk_goto.specs.declared.Shown.{Shown}
 use Rattle.desk_goto.proofs.manual_goto.Reads as manual-goto
 
-module _ (groups tracks segments text renames office : RefT (List ℕ)) (d : Desk) (service opcode n allowed : ℕ) where
-  pub manual-goto-settled : (κs : Lfts 6) (s₁ s₂ : Shown)
-      → manual-goto.Post κs (groups, (tracks, (segments, (text, (renames, (office, (d, (service, (opcode, (n, (allowed, tt))))))))))) s₁ (groups, (tracks, (segments, (text, (renames, (office, (d, (service, (opcode, (n, (allowed, tt)))))))))))
-      → manual-goto.Post κs (groups, (tracks, (segments, (text, (renames, (office, (d, (service, (opcode, (n, (allowed, tt))))))))))) s₂ (groups, (tracks, (segments, (text, (renames, (office, (d, (service, (opcode, (n, (allowed, tt)))))))))))
+module _ (groups tracks segments text renames office state : RefT (List ℕ)) (service opcode n allowed : ℕ) where
+  pub manual-goto-settled : (κs : Lfts 7) (s₁ s₂ : Shown)
+      → manual-goto.Post κs (groups, (tracks, (segments, (text, (renames, (office, (state, (service, (opcode, (n, (allowed, tt))))))))))) s₁ (groups, (tracks, (segments, (text, (renames, (office, (state, (service, (opcode, (n, (allowed, tt)))))))))))
+      → manual-goto.Post κs (groups, (tracks, (segments, (text, (renames, (office, (state, (service, (opcode, (n, (allowed, tt))))))))))) s₂ (groups, (tracks, (segments, (text, (renames, (office, (state, (service, (opcode, (n, (allowed, tt)))))))))))
       → s₁ ≡ s₂
   manual-goto-settled κs s₁ s₂ p q =
       let e = p ∙ sym q in

@@ -1,6 +1,7 @@
 // The manual's Goto of a service's player: it checks all that is lent and the state itself, and alters nothing.
 ghost use mathlib.Core.Path.{_≡_};
 ghost use Rattle.catalogue_titles.specs.Lent.{lending};
+ghost use Rattle.mcs_state.specs.Codec.{deskOf};
 ghost use Rattle.desk_goto.specs.Manual.{manualCall, shownBy};
 
 // A result code, or 0 where the allowed steps ran out; the steps made; and where the player would be.
@@ -24,15 +25,24 @@ pub fn manual_goto(
     text: &[u8],
     renames: &[u32],
     office: &[u8],
-    d: desk_state::Desk,
+    state: &[u8; 649],
     service: u32,
     opcode: u32,
     n: u32,
     allowed: u32,
 ) -> Shown
-    ensures { λ r. ⌜ shownBy r ≡ manualCall (lending (now (groups .entry)) (now (tracks .entry)) (now (segments .entry)) (now (text .entry)) (now (renames .entry)) (now (office .entry))) d service opcode n allowed ⌝ }
+    ensures { λ r. ⌜ shownBy r ≡ manualCall (lending (now (groups .entry)) (now (tracks .entry)) (now (segments .entry)) (now (text .entry)) (now (renames .entry)) (now (office .entry))) (deskOf (now (state .entry))) service opcode n allowed ⌝ }
 {
-    let g = desk_replies::service_gate(groups, tracks, segments, text, renames, office, d, service);
+    let g = desk_replies::service_gate(
+        groups,
+        tracks,
+        segments,
+        text,
+        renames,
+        office,
+        state,
+        service,
+    );
     if !g.passes {
         let answer = g.answer;
         return Shown {
@@ -49,8 +59,7 @@ pub fn manual_goto(
             },
         };
     }
-    let s = desk_state::service_at(d, service);
-    let p = s.player;
+    let p = mcs_state::player_at(state, service);
     let gone = player_goto::goto_by_steps(groups, tracks, segments, p, opcode, n, allowed);
     let place = gone.player.place;
     Shown {

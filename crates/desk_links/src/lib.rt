@@ -5,7 +5,8 @@ ghost use Rattle.ground.specs.Cases.{pick};
 ghost use Rattle.catalogue_titles.specs.Lent.{lending};
 ghost use Rattle.desk_slots.specs.Slots.{slotCount};
 ghost use Rattle.desk_client.specs.Duties.{joined, dropped};
-ghost use Rattle.desk_replies.specs.Replies.{leftBy};
+ghost use Rattle.mcs_state.specs.Codec.{deskOf};
+ghost use Rattle.desk_replies.specs.Replies.{Answers};
 ghost use Rattle.desk_links.specs.Links.{connectCall, disconnectCall, slotCall, subscribeCall, unsubscribeCall};
 
 // A device connects, with its ATT_MTU, encrypted or not.
@@ -16,12 +17,12 @@ pub fn connect(
     text: &[u8],
     renames: &[u32],
     office: &[u8],
-    d: desk_state::Desk,
+    state: &mut [u8; 649],
     who: u32,
     mtu: u32,
     encrypted: bool,
-) -> desk_replies::Outcome
-    ensures { λ r. ⌜ leftBy r ≡ connectCall (lending (now (groups .entry)) (now (tracks .entry)) (now (segments .entry)) (now (text .entry)) (now (renames .entry)) (now (office .entry))) d who mtu encrypted ⌝ }
+) -> desk_replies::Answer
+    ensures { λ r. ⌜ Answers (connectCall (lending (now (groups .entry)) (now (tracks .entry)) (now (segments .entry)) (now (text .entry)) (now (renames .entry)) (now (office .entry))) (deskOf (now (state .entry))) who mtu encrypted) (now (state .entry)) r (now (state .exit)) ⌝ }
 {
     let g = desk_replies::client_gate(
         groups,
@@ -31,23 +32,24 @@ pub fn connect(
         renames,
         office,
         false,
-        d,
+        state,
         who,
     );
     if !g.passes {
-        return desk_replies::shut(g, d);
+        return g.answer;
     }
-    let old = desk_state::link_at(d, who);
+    let old = mcs_state::link_at(state, who);
     if old.connected {
-        return desk_replies::refuse(ground::ALREADY_CONNECTED, d);
+        return desk_replies::refuse(ground::ALREADY_CONNECTED);
     }
     if !desk_client::mtu_right(mtu) {
-        return desk_replies::refuse(ground::BAD_MTU, d);
+        return desk_replies::refuse(ground::BAD_MTU);
     }
     let link = desk_client::connected_link(mtu, encrypted);
     let fresh = desk_client::blank_client(link);
-    let e = desk_state::with_client(d, who, fresh);
-    desk_replies::left(desk_replies::Answer::Done, e)
+    mcs_state::are_octets(state);
+    mcs_state::put_client(state, who, fresh);
+    desk_replies::Answer::Done
 }
 
 // A device leaves.
@@ -58,10 +60,10 @@ pub fn disconnect(
     text: &[u8],
     renames: &[u32],
     office: &[u8],
-    d: desk_state::Desk,
+    state: &mut [u8; 649],
     who: u32,
-) -> desk_replies::Outcome
-    ensures { λ r. ⌜ leftBy r ≡ disconnectCall (lending (now (groups .entry)) (now (tracks .entry)) (now (segments .entry)) (now (text .entry)) (now (renames .entry)) (now (office .entry))) d who ⌝ }
+) -> desk_replies::Answer
+    ensures { λ r. ⌜ Answers (disconnectCall (lending (now (groups .entry)) (now (tracks .entry)) (now (segments .entry)) (now (text .entry)) (now (renames .entry)) (now (office .entry))) (deskOf (now (state .entry))) who) (now (state .entry)) r (now (state .exit)) ⌝ }
 {
     let g = desk_replies::client_gate(
         groups,
@@ -71,20 +73,21 @@ pub fn disconnect(
         renames,
         office,
         false,
-        d,
+        state,
         who,
     );
     if !g.passes {
-        return desk_replies::shut(g, d);
+        return g.answer;
     }
-    let old = desk_state::link_at(d, who);
+    let old = mcs_state::link_at(state, who);
     if !old.connected {
-        return desk_replies::refuse(ground::NOT_CONNECTED, d);
+        return desk_replies::refuse(ground::NOT_CONNECTED);
     }
     let link = desk_client::fresh_link();
     let fresh = desk_client::blank_client(link);
-    let e = desk_state::with_client(d, who, fresh);
-    desk_replies::left(desk_replies::Answer::Done, e)
+    mcs_state::are_octets(state);
+    mcs_state::put_client(state, who, fresh);
+    desk_replies::Answer::Done
 }
 
 // An account that subscribes to a slot, or unsubscribes from it.
@@ -106,13 +109,13 @@ fn set_slot(
     text: &[u8],
     renames: &[u32],
     office: &[u8],
-    d: desk_state::Desk,
+    state: &mut [u8; 649],
     who: u32,
     service: u32,
     characteristic: u32,
     on: bool,
-) -> desk_replies::Outcome
-    ensures { λ r. ⌜ leftBy r ≡ slotCall (lending (now (groups .entry)) (now (tracks .entry)) (now (segments .entry)) (now (text .entry)) (now (renames .entry)) (now (office .entry))) d who service characteristic (pick on joined dropped) ⌝ }
+) -> desk_replies::Answer
+    ensures { λ r. ⌜ Answers (slotCall (lending (now (groups .entry)) (now (tracks .entry)) (now (segments .entry)) (now (text .entry)) (now (renames .entry)) (now (office .entry))) (deskOf (now (state .entry))) who service characteristic (pick on joined dropped)) (now (state .entry)) r (now (state .exit)) ⌝ }
 {
     let s = desk_slots::slot_of(characteristic);
     let g = desk_replies::characteristic_gate(
@@ -123,7 +126,7 @@ fn set_slot(
         renames,
         office,
         false,
-        d,
+        state,
         who,
         service,
         characteristic,
@@ -131,14 +134,13 @@ fn set_slot(
         s < desk_slots::SLOTS,
     );
     if !g.passes {
-        return desk_replies::shut(g, d);
+        return g.answer;
     }
-    let at = desk_state::service_at(d, service);
-    let a = desk_state::account_in(at, who);
+    let a = mcs_state::account_at(state, service, who);
     let next = with_slot(a, s, on);
-    let told = desk_state::with_account(at, who, next);
-    let e = desk_state::with_service(d, service, told);
-    desk_replies::left(desk_replies::Answer::Done, e)
+    mcs_state::are_octets(state);
+    mcs_state::put_account(state, service, who, next);
+    desk_replies::Answer::Done
 }
 
 // A client asks to be told of a characteristic of a service.
@@ -149,12 +151,12 @@ pub fn subscribe(
     text: &[u8],
     renames: &[u32],
     office: &[u8],
-    d: desk_state::Desk,
+    state: &mut [u8; 649],
     who: u32,
     service: u32,
     characteristic: u32,
-) -> desk_replies::Outcome
-    ensures { λ r. ⌜ leftBy r ≡ subscribeCall (lending (now (groups .entry)) (now (tracks .entry)) (now (segments .entry)) (now (text .entry)) (now (renames .entry)) (now (office .entry))) d who service characteristic ⌝ }
+) -> desk_replies::Answer
+    ensures { λ r. ⌜ Answers (subscribeCall (lending (now (groups .entry)) (now (tracks .entry)) (now (segments .entry)) (now (text .entry)) (now (renames .entry)) (now (office .entry))) (deskOf (now (state .entry))) who service characteristic) (now (state .entry)) r (now (state .exit)) ⌝ }
 {
     set_slot(
         groups,
@@ -163,7 +165,7 @@ pub fn subscribe(
         text,
         renames,
         office,
-        d,
+        state,
         who,
         service,
         characteristic,
@@ -179,12 +181,12 @@ pub fn unsubscribe(
     text: &[u8],
     renames: &[u32],
     office: &[u8],
-    d: desk_state::Desk,
+    state: &mut [u8; 649],
     who: u32,
     service: u32,
     characteristic: u32,
-) -> desk_replies::Outcome
-    ensures { λ r. ⌜ leftBy r ≡ unsubscribeCall (lending (now (groups .entry)) (now (tracks .entry)) (now (segments .entry)) (now (text .entry)) (now (renames .entry)) (now (office .entry))) d who service characteristic ⌝ }
+) -> desk_replies::Answer
+    ensures { λ r. ⌜ Answers (unsubscribeCall (lending (now (groups .entry)) (now (tracks .entry)) (now (segments .entry)) (now (text .entry)) (now (renames .entry)) (now (office .entry))) (deskOf (now (state .entry))) who service characteristic) (now (state .entry)) r (now (state .exit)) ⌝ }
 {
     set_slot(
         groups,
@@ -193,7 +195,7 @@ pub fn unsubscribe(
         text,
         renames,
         office,
-        d,
+        state,
         who,
         service,
         characteristic,

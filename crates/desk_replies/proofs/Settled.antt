@@ -1,4 +1,4 @@
--- An outcome is settled by what it says and leaves. Assumes nothing.
+-- What a call comes to is settled by what it says and leaves. Assumes nothing.
 use mathlib.Core.Path.{_≡_, refl, sym, ap, _∙_}
 use mathlib.Core.List.{List, [], _∷_}
 use Prim.Native.Nat.{ℕ}
@@ -8,8 +8,7 @@ use Rattle.ground.proofs.Settled.{settled-by, refusalAs, refusal-back}
 use Rattle.desk_state.specs.declared.Desk.{Desk}
 use Rattle.desk_replies.specs.declared.Answer.{Answer}
 use Rattle.desk_replies.specs.declared.Answer.the-variants.{Done, Octets, Served, Handed, Refused}
-use Rattle.desk_replies.specs.declared.Outcome.{Outcome}
-use Rattle.desk_replies.specs.Replies.{saidOf, leftBy}
+use Rattle.desk_replies.specs.Replies.{saidOf, Answers}
 
 -- the answer, back from what it says
 grantedAs : List ℕ → Answer
@@ -34,12 +33,6 @@ said-back (Refused r) = ap Refused (refusal-back r)
 pub answer-settles : (a b : Answer) → saidOf a ≡ saidOf b → a ≡ b
 answer-settles = settled-by saidOf answerOf said-back
 
--- outcomes that leave the same are the same
-pub left-settles : (o₁ o₂ : Outcome) → leftBy o₁ ≡ leftBy o₂ → o₁ ≡ o₂
-left-settles o₁ o₂ e =
-    let a = answer-settles (o₁ .answer) (o₂ .answer) (ap (λ (l : Left Desk). l .said) e) in
-    λ k. record { answer = a k; desk = e k .state }
-
--- outcomes that both leave x are the same
-pub one-outcome : {x : Left Desk} (o₁ o₂ : Outcome) → leftBy o₁ ≡ x → leftBy o₂ ≡ x → o₁ ≡ o₂
-one-outcome o₁ o₂ p q = left-settles o₁ o₂ (p ∙ sym q)
+-- what a call on a state's octets comes to is settled: its answer and the octets
+pub one-answer : {l : Left Desk} {old : List ℕ} (a₁ a₂ : Answer) (new₁ new₂ : List ℕ) → Answers l old a₁ new₁ → Answers l old a₂ new₂ → (a₁ ≡ a₂) × (new₁ ≡ new₂)
+one-answer a₁ a₂ new₁ new₂ p q = (answer-settles a₁ a₂ (p .said ∙ sym (q .said)), p .octets ∙ sym (q .octets))

@@ -5,7 +5,9 @@ use mathlib.Core.Bool.{Bool, false, not}
 use mathlib.Core.List.{List, [], _∷_, _++_}
 use Prim.Native.Nat.{ℕ}
 use lib.Dec.{leb}
-use Rattle.ground.specs.Refusals.{Said, granted, refusalOf, Left, leaves, keeping, Row, row, answered, saidBy}
+use lib.ListN.{drop}
+use Rattle.ground.specs.Cases.{pick}
+use Rattle.ground.specs.Refusals.{Said, granted, refusalOf, Left, keeping, Row, row, answered, saidBy}
 use Rattle.catalogue_titles.specs.Lent.{Lent, fitRows}
 use Rattle.desk_slots.specs.Slots.{serviceCount, clientCount}
 use Rattle.desk_slots.specs.Characteristics.{everyOne, isIn}
@@ -13,10 +15,10 @@ use Rattle.desk_client.specs.declared.Link.{Link}
 use Rattle.desk_client.specs.declared.Account.{Account}
 use Rattle.desk_state.specs.declared.Desk.{Desk}
 use Rattle.desk_state.specs.Desk.{linkAt, serviceAt, accountIn, deskRule}
+use Rattle.mcs_state.specs.Codec.{deskOf, deskOctets}
 use Rattle.desk_replies.specs.declared.Answer.{Answer}
 use Rattle.desk_replies.specs.declared.Answer.the-variants.{Done, Octets, Served, Handed, Refused}
 use Rattle.desk_replies.specs.declared.Gate.{Gate}
-use Rattle.desk_replies.specs.declared.Outcome.{Outcome}
 
 -- document 01's number and values of each answer
 abbrev pub saidOf : Answer → Said
@@ -26,8 +28,15 @@ saidOf (Served who service characteristic n) = granted (who ∷ service ∷ char
 saidOf (Handed service characteristic n) = granted (service ∷ characteristic ∷ n ∷ [])
 saidOf (Refused r) = refusalOf r
 
-abbrev pub leftBy : Outcome → Left Desk
-leftBy o = leaves (saidOf (o .answer)) (o .desk)
+-- the octets of the next state, or as they were
+abbrev pub stateAfter : Left Desk → List ℕ → List ℕ
+stateAfter l old = pick (l .said .isGranted) (deskOctets (l .state) ++ drop 649 old) old
+
+-- what a call on a state's octets comes to: what it says, the octets that it leaves, and the state that they are
+pub record Answers (l : Left Desk) (old : List ℕ) (answer : Answer) (new : List ℕ) : Type 0 where
+  pub said : saidOf answer ≡ l .said
+  pub octets : new ≡ stateAfter l old
+  pub state : deskOf new ≡ pick (l .said .isGranted) (l .state) (deskOf old)
 
 -- 200, 224; 205: "the lent output of a read or take is under 128 octets"; small is false where no output is lent
 abbrev pub lentRows : Lent → Bool → List Row

@@ -2,9 +2,12 @@
 ghost use mathlib.Core.Path.{_≡_};
 ghost use mathlib.Core.Bool.{false, true};
 ghost use mathlib.Core.List.{[], _∷_, _++_};
-ghost use Rattle.ground.specs.Refusals.{granted, refused, refusalOf, leaves};
+ghost use Prim.Native.Nat.{_≤_};
+ghost use lib.ListN.{length};
+ghost use Rattle.ground.specs.Refusals.{granted, refused, refusalOf};
 ghost use Rattle.catalogue_titles.specs.Lent.{lending};
-ghost use Rattle.desk_replies.specs.Replies.{saidOf, leftBy, Gated, lentRows, fronted, onService, clientRow, ofCaller, ofCharacteristic, linkOf};
+ghost use Rattle.mcs_state.specs.Codec.{deskOf};
+ghost use Rattle.desk_replies.specs.Replies.{saidOf, Gated, lentRows, fronted, onService, clientRow, ofCaller, ofCharacteristic, linkOf};
 
 pub enum Answer {
     // Accepted. Of a take: nothing is owed.
@@ -18,40 +21,18 @@ pub enum Answer {
     Refused(ground::Refusal),
 }
 
-pub struct Outcome {
-    pub answer: Answer,
-    pub desk: desk_state::Desk,
-}
-
 // Whether a call may go on, or what it answers.
 pub struct Gate {
     pub passes: bool,
     pub answer: Answer,
 }
 
-pub fn left(answer: Answer, d: desk_state::Desk) -> Outcome
-    ensures { λ r. ⌜ leftBy r ≡ leaves (saidOf answer) d ⌝ }
-{
-    Outcome {
-        answer: answer,
-        desk: d,
-    }
-}
-
 // A refusal by its number alone.
-pub fn refuse(number: u32, d: desk_state::Desk) -> Outcome
-    ensures { λ r. ⌜ leftBy r ≡ leaves (refused number) d ⌝ }
+pub fn refuse(number: u32) -> Answer
+    ensures { λ r. ⌜ saidOf r ≡ refused number ⌝ }
 {
     let r = ground::refuse(number);
-    left(Answer::Refused(r), d)
-}
-
-// What a gate that does not pass answers.
-pub fn shut(g: Gate, d: desk_state::Desk) -> Outcome
-    ensures { λ r. ⌜ leftBy r ≡ leaves (saidOf (g .answer)) d ⌝ }
-{
-    let answer = g.answer;
-    left(answer, d)
+    Answer::Refused(r)
 }
 
 pub fn gate_open() -> Gate
@@ -112,15 +93,16 @@ pub fn front_gate(
     renames: &[u32],
     office: &[u8],
     small: bool,
-    d: desk_state::Desk,
+    state: &[u8],
 ) -> Gate
-    ensures { λ r. ⌜ Gated (fronted (lending (now (groups .entry)) (now (tracks .entry)) (now (segments .entry)) (now (text .entry)) (now (renames .entry)) (now (office .entry))) small d) r ⌝ }
+    requires { ⌜ 649 ≤ length (now state) ⌝ }
+    ensures { λ r. ⌜ Gated (fronted (lending (now (groups .entry)) (now (tracks .entry)) (now (segments .entry)) (now (text .entry)) (now (renames .entry)) (now (office .entry))) small (deskOf (now (state .entry)))) r ⌝ }
 {
     let g = lent_gate(groups, tracks, segments, text, renames, office, small);
     if !g.passes {
         return g;
     }
-    if desk_state::desk_right(groups, tracks, d) {
+    if mcs_state::desk_right(groups, tracks, state) {
         return g;
     }
     gate_shut(ground::BAD_STATE)
@@ -134,12 +116,22 @@ pub fn service_gate(
     text: &[u8],
     renames: &[u32],
     office: &[u8],
-    d: desk_state::Desk,
+    state: &[u8],
     service: u32,
 ) -> Gate
-    ensures { λ r. ⌜ Gated (onService (lending (now (groups .entry)) (now (tracks .entry)) (now (segments .entry)) (now (text .entry)) (now (renames .entry)) (now (office .entry))) d service) r ⌝ }
+    requires { ⌜ 649 ≤ length (now state) ⌝ }
+    ensures { λ r. ⌜ Gated (onService (lending (now (groups .entry)) (now (tracks .entry)) (now (segments .entry)) (now (text .entry)) (now (renames .entry)) (now (office .entry))) (deskOf (now (state .entry))) service) r ⌝ }
 {
-    let g = front_gate(groups, tracks, segments, text, renames, office, false, d);
+    let g = front_gate(
+        groups,
+        tracks,
+        segments,
+        text,
+        renames,
+        office,
+        false,
+        state,
+    );
     if !g.passes {
         return g;
     }
@@ -158,12 +150,22 @@ pub fn client_gate(
     renames: &[u32],
     office: &[u8],
     small: bool,
-    d: desk_state::Desk,
+    state: &[u8],
     who: u32,
 ) -> Gate
-    ensures { λ r. ⌜ Gated (fronted (lending (now (groups .entry)) (now (tracks .entry)) (now (segments .entry)) (now (text .entry)) (now (renames .entry)) (now (office .entry))) small d ++ (clientRow who ∷ [])) r ⌝ }
+    requires { ⌜ 649 ≤ length (now state) ⌝ }
+    ensures { λ r. ⌜ Gated (fronted (lending (now (groups .entry)) (now (tracks .entry)) (now (segments .entry)) (now (text .entry)) (now (renames .entry)) (now (office .entry))) small (deskOf (now (state .entry))) ++ (clientRow who ∷ [])) r ⌝ }
 {
-    let g = front_gate(groups, tracks, segments, text, renames, office, small, d);
+    let g = front_gate(
+        groups,
+        tracks,
+        segments,
+        text,
+        renames,
+        office,
+        small,
+        state,
+    );
     if !g.passes {
         return g;
     }
@@ -182,11 +184,12 @@ pub fn caller_gate(
     renames: &[u32],
     office: &[u8],
     small: bool,
-    d: desk_state::Desk,
+    state: &[u8],
     who: u32,
     service: u32,
 ) -> Gate
-    ensures { λ r. ⌜ Gated (fronted (lending (now (groups .entry)) (now (tracks .entry)) (now (segments .entry)) (now (text .entry)) (now (renames .entry)) (now (office .entry))) small d ++ ofCaller who service (linkOf d who .connected)) r ⌝ }
+    requires { ⌜ 649 ≤ length (now state) ⌝ }
+    ensures { λ r. ⌜ Gated (fronted (lending (now (groups .entry)) (now (tracks .entry)) (now (segments .entry)) (now (text .entry)) (now (renames .entry)) (now (office .entry))) small (deskOf (now (state .entry))) ++ ofCaller who service (linkOf (deskOf (now (state .entry))) who .connected)) r ⌝ }
 {
     let g = client_gate(
         groups,
@@ -196,7 +199,7 @@ pub fn caller_gate(
         renames,
         office,
         small,
-        d,
+        state,
         who,
     );
     if !g.passes {
@@ -205,7 +208,7 @@ pub fn caller_gate(
     if desk_slots::SERVICES <= service {
         return gate_shut(ground::NO_SERVICE);
     }
-    let l = desk_state::link_at(d, who);
+    let l = mcs_state::link_at(state, who);
     if !l.connected {
         return gate_shut(ground::NOT_CONNECTED);
     }
@@ -221,14 +224,15 @@ pub fn characteristic_gate(
     renames: &[u32],
     office: &[u8],
     small: bool,
-    d: desk_state::Desk,
+    state: &[u8],
     who: u32,
     service: u32,
     characteristic: u32,
     number: u32,
     allowed: bool,
 ) -> Gate
-    ensures { λ r. ⌜ Gated (fronted (lending (now (groups .entry)) (now (tracks .entry)) (now (segments .entry)) (now (text .entry)) (now (renames .entry)) (now (office .entry))) small d ++ (ofCaller who service (linkOf d who .connected) ++ ofCharacteristic (linkOf d who .encrypted) characteristic number allowed)) r ⌝ }
+    requires { ⌜ 649 ≤ length (now state) ⌝ }
+    ensures { λ r. ⌜ Gated (fronted (lending (now (groups .entry)) (now (tracks .entry)) (now (segments .entry)) (now (text .entry)) (now (renames .entry)) (now (office .entry))) small (deskOf (now (state .entry))) ++ (ofCaller who service (linkOf (deskOf (now (state .entry))) who .connected) ++ ofCharacteristic (linkOf (deskOf (now (state .entry))) who .encrypted) characteristic number allowed)) r ⌝ }
 {
     let g = caller_gate(
         groups,
@@ -238,7 +242,7 @@ pub fn characteristic_gate(
         renames,
         office,
         small,
-        d,
+        state,
         who,
         service,
     );
@@ -251,7 +255,7 @@ pub fn characteristic_gate(
     if !allowed {
         return gate_shut(number);
     }
-    let l = desk_state::link_at(d, who);
+    let l = mcs_state::link_at(state, who);
     if !l.encrypted {
         return gate_shut(ground::NOT_ENCRYPTED);
     }

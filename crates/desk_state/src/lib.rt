@@ -2,7 +2,7 @@
 ghost use mathlib.Core.Path.{_≡_};
 ghost use Prim.Native.Nat.{_<_};
 ghost use Rattle.desk_slots.specs.Slots.{serviceCount, clientCount};
-ghost use Rattle.desk_state.specs.Desk.{linkAt, serviceAt, accountIn, clientAt, accountsFit, serviceRule, servicesRule, linksRule, deskRule, startedService, startedDesk, withAccount, withService, withClient};
+ghost use Rattle.desk_state.specs.Desk.{linkAt, serviceAt, accountIn, startedService, startedDesk, withAccount, withService};
 
 // A service: its player, and what it owes to each of the four clients.
 pub struct Service {
@@ -14,75 +14,6 @@ pub struct Desk {
     pub services: [Service; 2],
     pub links: [desk_client::Link; 4],
     pub turn: u32,
-}
-
-fn accounts_fit(links: [desk_client::Link; 4], accounts: [desk_client::Account; 4]) -> bool
-    ensures { λ r. ⌜ r ≡ accountsFit links accounts ⌝ }
-{
-    let mut good = true;
-    let mut i: usize = 0;
-    while i < 4 {
-        let l = links[i];
-        let a = accounts[i];
-        let fits = desk_client::account_fits(l, a);
-        good = good & fits;
-        i += 1;
-    }
-    good
-}
-
-fn service_right(groups: &[u32], tracks: &[u32], links: [desk_client::Link; 4], s: Service) -> bool
-    ensures { λ r. ⌜ r ≡ serviceRule (now (groups .entry)) (now (tracks .entry)) links s ⌝ }
-{
-    let p = s.player;
-    let accounts = s.accounts;
-    let player = player_check::player_right(groups, tracks, p);
-    let fit = accounts_fit(links, accounts);
-    player & fit
-}
-
-fn services_right(
-    groups: &[u32],
-    tracks: &[u32],
-    links: [desk_client::Link; 4],
-    services: [Service; 2],
-) -> bool
-    ensures { λ r. ⌜ r ≡ servicesRule (now (groups .entry)) (now (tracks .entry)) links services ⌝ }
-{
-    let mut good = true;
-    let mut v: usize = 0;
-    while v < 2 {
-        let s = services[v];
-        let right = service_right(groups, tracks, links, s);
-        good = good & right;
-        v += 1;
-    }
-    good
-}
-
-fn links_right(links: [desk_client::Link; 4]) -> bool
-    ensures { λ r. ⌜ r ≡ linksRule links ⌝ }
-{
-    let mut good = true;
-    let mut i: usize = 0;
-    while i < 4 {
-        let l = links[i];
-        let right = desk_client::link_right(l);
-        good = good & right;
-        i += 1;
-    }
-    good
-}
-
-// Whether a state keeps 201.
-pub fn desk_right(groups: &[u32], tracks: &[u32], d: Desk) -> bool
-    ensures { λ r. ⌜ r ≡ deskRule (now (groups .entry)) (now (tracks .entry)) d ⌝ }
-{
-    let links = d.links;
-    let services = d.services;
-    let players = services_right(groups, tracks, links, services);
-    let clients = links_right(links);
-    players & clients & (d.turn < desk_slots::CLIENTS)
 }
 
 // A service that nobody has asked for anything.
@@ -139,22 +70,6 @@ pub fn account_in(s: Service, who: u32) -> desk_client::Account
     accounts[at]
 }
 
-// A client's own record.
-pub fn client_at(d: Desk, who: u32) -> desk_client::Client
-    requires { ⌜ who < clientCount ⌝ }
-    ensures { λ r. ⌜ r ≡ clientAt d who ⌝ }
-{
-    let link = link_at(d, who);
-    let generic = service_at(d, 0);
-    let named = service_at(d, 1);
-    let a = account_in(generic, who);
-    let b = account_in(named, who);
-    desk_client::Client {
-        link: link,
-        accounts: [a, b],
-    }
-}
-
 // The service with another account of a client.
 pub fn with_account(s: Service, who: u32, a: desk_client::Account) -> Service
     requires { ⌜ who < clientCount ⌝ }
@@ -173,24 +88,5 @@ pub fn with_service(d: Desk, service: u32, s: Service) -> Desk
     let at = service as usize;
     let mut e = d;
     e.services[at] = s;
-    e
-}
-
-// The state with another record of a client: its link, and its account with each service.
-pub fn with_client(d: Desk, who: u32, c: desk_client::Client) -> Desk
-    requires { ⌜ who < clientCount ⌝ }
-    ensures { λ r. ⌜ r ≡ withClient who c d ⌝ }
-{
-    let at = who as usize;
-    let link = c.link;
-    let accounts = c.accounts;
-    let generic = service_at(d, 0);
-    let named = service_at(d, 1);
-    let a = with_account(generic, who, accounts[0]);
-    let b = with_account(named, who, accounts[1]);
-    let services = [a, b];
-    let mut e = d;
-    e.services = services;
-    e.links[at] = link;
     e
 }

@@ -9,26 +9,25 @@ use Rattle.player_state.specs.declared.Player.{Player}
 use Rattle.ground.specs.Lists.{tableAfter}
 use Rattle.ground.specs.Refusals.{Left}
 use Rattle.desk_client.specs.declared.Client.{Client}
-use Rattle.desk_state.specs.declared.Desk.{Desk}
+use Rattle.mcs_state.specs.Codec.{deskOf}
 use Rattle.desk_replies.specs.declared.Answer.{Answer}
-use Rattle.desk_replies.specs.declared.Outcome.{Outcome}
 use Rattle.desk_replies.specs.Replies.{saidOf}
-use Rattle.desk_replies.proofs.Settled.{answer-settles, one-outcome}
+use Rattle.desk_replies.proofs.Settled.{answer-settles, one-answer}
 use Rattle.desk_take.specs.declared.Own.{Own}
 use Rattle.desk_take.specs.Serving.{ownOctets, OwnTake}
 use Rattle.desk_take.specs.Take.{takeOctets}
 use Rattle.desk_take.proofs.take.Reads as take
 use Rattle.desk_take.proofs.take_own.Reads as take-own
 
-module _ (κs : Lfts 6) (groups tracks segments text renames office out : RefT (List ℕ)) (out₁ out₂ : List ℕ) where
-  pub take-settled : (d : Desk) (o₁ o₂ : Outcome)
-      → take.Post κs (groups, (tracks, (segments, (text, (renames, (office, (d, (out, tt)))))))) o₁ (groups, (tracks, (segments, (text, (renames, (office, (d, (at-last out out₁, tt))))))))
-      → take.Post κs (groups, (tracks, (segments, (text, (renames, (office, (d, (out, tt)))))))) o₂ (groups, (tracks, (segments, (text, (renames, (office, (d, (at-last out out₂, tt))))))))
-      → (o₁ ≡ o₂) × (out₁ ≡ out₂)
-  take-settled d o₁ o₂ p q =
-      let e = one-outcome o₁ o₂ (p .0) (q .0) in
-      let octets = takeOctets (lending (groups .now) (tracks .now) (segments .now) (text .now) (renames .now) (office .now)) d in
-      (e, p .1 ∙ ap (λ (o : Outcome). tableAfter (saidOf (o .answer)) octets (out .now)) e ∙ sym (q .1))
+module _ (κs : Lfts 7) (groups tracks segments text renames office state out : RefT (List ℕ)) (new₁ new₂ out₁ out₂ : List ℕ) where
+  pub take-settled : (a₁ a₂ : Answer)
+      → take.Post κs (groups, (tracks, (segments, (text, (renames, (office, (state, (out, tt)))))))) a₁ (groups, (tracks, (segments, (text, (renames, (office, (at-last state new₁, (at-last out out₁, tt))))))))
+      → take.Post κs (groups, (tracks, (segments, (text, (renames, (office, (state, (out, tt)))))))) a₂ (groups, (tracks, (segments, (text, (renames, (office, (at-last state new₂, (at-last out out₂, tt))))))))
+      → (a₁ ≡ a₂) × (new₁ ≡ new₂) × (out₁ ≡ out₂)
+  take-settled a₁ a₂ p q =
+      let e = one-answer a₁ a₂ new₁ new₂ (p .0) (q .0) in
+      let octets = takeOctets (lending (groups .now) (tracks .now) (segments .now) (text .now) (renames .now) (office .now)) (deskOf (state .now)) in
+      (e .0, e .1, p .1 ∙ ap (λ (a : Answer). tableAfter (saidOf a) octets (out .now)) (e .0) ∙ sym (q .1))
 
 -- a take of one's own record, lent or by value: the answer, the record and the output
 pub own-settled : (k : Lent) (players : List Player) (c : Client) (out : List ℕ) (a₁ a₂ : Answer) (c₁ c₂ : Client) (out₁ out₂ : List ℕ)

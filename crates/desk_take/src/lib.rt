@@ -8,9 +8,11 @@ ghost use Rattle.ground.specs.Lists.{filled, tableAfter};
 ghost use Rattle.catalogue_titles.specs.Lent.{Fit, lending};
 ghost use Rattle.desk_slots.specs.Slots.{clientCount, placeCount};
 ghost use Rattle.desk_client.specs.Client.{clientRule};
-ghost use Rattle.desk_replies.specs.Replies.{saidOf, leftBy};
+ghost use Rattle.desk_state.specs.Desk.{clientAt};
+ghost use Rattle.mcs_state.specs.Codec.{deskOf};
+ghost use Rattle.desk_replies.specs.Replies.{saidOf, Answers};
 ghost use Rattle.desk_take.specs.Serving.{placesOwed, handedOctets, handedValues, afterServing, playersRule, OwnTake};
-ghost use Rattle.desk_take.specs.Take.{AllRight, owedSets, playersOf, withServed, takeCall, takeOctets};
+ghost use Rattle.desk_take.specs.Take.{AllRight, owedSets, playersOf, takeCall, takeOctets};
 
 // What a client was served, of which service, in how many octets, and its record afterwards.
 struct Serving {
@@ -68,7 +70,7 @@ fn hand_out<'a>(
         let results = a.results;
         let e = results[0];
         let octets = [e.opcode, e.code];
-        let n = player_values::put(out, &octets);
+        let n = player_values::put(out, &octets, 0, 2);
         return Serving {
             service: service,
             characteristic: characteristic,
@@ -77,9 +79,19 @@ fn hand_out<'a>(
         };
     }
     let p = players[at];
-    let h = player_values::hold(groups, tracks, text, renames, office, p, characteristic);
     let most = ground::wide_word(c.link.mtu - 3);
-    let n = player_values::hand(out, h, 0, most);
+    let n = player_values::value(
+        out,
+        groups,
+        tracks,
+        text,
+        renames,
+        office,
+        p,
+        characteristic,
+        0,
+        most,
+    );
     Serving {
         service: service,
         characteristic: characteristic,
@@ -195,50 +207,38 @@ pub fn take_in<'a>(
     h.answer
 }
 
-// The places at which each client is owed something.
-fn owed_sets(d: desk_state::Desk) -> [u32; 4]
-    requires { ⌜ AllRight d ⌝ }
-    ensures { λ r. ⌜ r ≡ owedSets d ⌝ }
-{
-    let services = d.services;
-    let first = services[0];
-    let second = services[1];
-    let generic = first.accounts;
-    let named = second.accounts;
-    let a0 = generic[0];
-    let a1 = generic[1];
-    let a2 = generic[2];
-    let a3 = generic[3];
-    let b0 = named[0];
-    let b1 = named[1];
-    let b2 = named[2];
-    let b3 = named[3];
-    let w0 = desk_slots::places_of(a0.owed, b0.owed);
-    let w1 = desk_slots::places_of(a1.owed, b1.owed);
-    let w2 = desk_slots::places_of(a2.owed, b2.owed);
-    let w3 = desk_slots::places_of(a3.owed, b3.owed);
-    [w0, w1, w2, w3]
-}
-
-fn players_of(d: desk_state::Desk) -> [player_state::Player; 2]
-    ensures { λ r. ⌜ r ≡ playersOf d ⌝ }
-{
-    let services = d.services;
-    let generic = services[0];
-    let named = services[1];
-    let p = generic.player;
-    let q = named.player;
-    [p, q]
-}
-
-// The state with another record of a client, who was served last.
-fn with_served(d: desk_state::Desk, who: u32, c: desk_client::Client) -> desk_state::Desk
+// The places at which a client is owed something, by the two services.
+fn owed_to(state: &[u8], who: u32) -> u32
+    requires { ⌜ 649 ≤ length (now state) ⌝ }
     requires { ⌜ who < clientCount ⌝ }
-    ensures { λ r. ⌜ r ≡ withServed who c d ⌝ }
+    requires { ⌜ clientRule (clientAt (deskOf (now state)) who) ≡ true ⌝ }
+    ensures { λ r. ⌜ r ≡ placesOwed (clientAt (deskOf (now (state .entry))) who) ⌝ }
 {
-    let mut e = desk_state::with_client(d, who, c);
-    e.turn = who;
-    e
+    let c = mcs_state::client_at(state, who);
+    places_owed(c)
+}
+
+// The places at which each client is owed something.
+fn owed_sets(state: &[u8]) -> [u32; 4]
+    requires { ⌜ 649 ≤ length (now state) ⌝ }
+    requires { ⌜ AllRight (deskOf (now state)) ⌝ }
+    ensures { λ r. ⌜ r ≡ owedSets (deskOf (now (state .entry))) ⌝ }
+{
+    let a = owed_to(state, 0);
+    let b = owed_to(state, 1);
+    let c = owed_to(state, 2);
+    let d = owed_to(state, 3);
+    [a, b, c, d]
+}
+
+// The player of each service.
+fn players_of(state: &[u8]) -> [player_state::Player; 2]
+    requires { ⌜ 649 ≤ length (now state) ⌝ }
+    ensures { λ r. ⌜ r ≡ playersOf (deskOf (now (state .entry))) ⌝ }
+{
+    let p = mcs_state::player_at(state, 0);
+    let q = mcs_state::player_at(state, 1);
+    [p, q]
 }
 
 // The next value or result that is owed to anybody, over the front of out.
@@ -249,11 +249,11 @@ pub fn take<'a>(
     text: &'a [u8],
     renames: &[u32],
     office: &'a [u8],
-    d: desk_state::Desk,
+    state: &mut [u8; 649],
     out: &mut [u8],
-) -> desk_replies::Outcome
-    ensures { λ r. ⌜ leftBy r ≡ takeCall (lending (now (groups .entry)) (now (tracks .entry)) (now (segments .entry)) (now (text .entry)) (now (renames .entry)) (now (office .entry))) d (length (now (out .entry))) ⌝ }
-    ensures { λ r. ⌜ now (out .exit) ≡ tableAfter (saidOf (r .answer)) (takeOctets (lending (now (groups .entry)) (now (tracks .entry)) (now (segments .entry)) (now (text .entry)) (now (renames .entry)) (now (office .entry))) d) (now (out .entry)) ⌝ }
+) -> desk_replies::Answer
+    ensures { λ r. ⌜ Answers (takeCall (lending (now (groups .entry)) (now (tracks .entry)) (now (segments .entry)) (now (text .entry)) (now (renames .entry)) (now (office .entry))) (deskOf (now (state .entry))) (length (now (out .entry)))) (now (state .entry)) r (now (state .exit)) ⌝ }
+    ensures { λ r. ⌜ now (out .exit) ≡ tableAfter (saidOf r) (takeOctets (lending (now (groups .entry)) (now (tracks .entry)) (now (segments .entry)) (now (text .entry)) (now (renames .entry)) (now (office .entry))) (deskOf (now (state .entry)))) (now (out .entry)) ⌝ }
 {
     let g = desk_replies::front_gate(
         groups,
@@ -263,19 +263,20 @@ pub fn take<'a>(
         renames,
         office,
         out.len() < ground::LEAST_OUTPUT,
-        d,
+        state,
     );
     if !g.passes {
-        return desk_replies::shut(g, d);
+        return g.answer;
     }
-    let sets = owed_sets(d);
-    let turn = d.turn;
+    mcs_state::are_octets(state);
+    let sets = owed_sets(state);
+    let turn = mcs_state::turn_of(state);
     let who = desk_slots::next_client(sets, turn);
     if desk_slots::CLIENTS <= who {
-        return desk_replies::left(desk_replies::Answer::Done, d);
+        return desk_replies::Answer::Done;
     }
-    let players = players_of(d);
-    let c = desk_state::client_at(d, who);
+    let players = players_of(state);
+    let c = mcs_state::client_at(state, who);
     let h = hand_out(
         groups,
         tracks,
@@ -288,9 +289,6 @@ pub fn take<'a>(
         out,
     );
     let next = h.client;
-    let e = with_served(d, who, next);
-    desk_replies::left(
-        desk_replies::Answer::Served(who, h.service, h.characteristic, h.len),
-        e,
-    )
+    mcs_state::put_served(state, who, next);
+    desk_replies::Answer::Served(who, h.service, h.characteristic, h.len)
 }

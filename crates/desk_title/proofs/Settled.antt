@@ -11,7 +11,6 @@ use denote.Slice.{slice-vals}
 use Rattle.ground.specs.Refusals.{Left}
 use Rattle.catalogue_titles.specs.declared.Part.{Part}
 use Rattle.catalogue_titles.specs.Titles.{IsPart}
-use Rattle.desk_state.specs.declared.Desk.{Desk}
 use Rattle.desk_replies.proofs.Settled.{answer-settles}
 use Rattle.desk_title.specs.declared.Titled.{Titled}
 use Rattle.desk_title.specs.Title.{titleCall}
@@ -34,16 +33,16 @@ same {text} {office} {part} {r₁} {r₂} a b =
 pub any-name : {text office : RefT (List ℕ)} {part : Part} {r : RefT (List ℕ)} → IsPart part text office r → (other : GName) → IsPart part text office (record { ptr = r .ptr; name = other; now = r .now })
 any-name a other = record { block = a .block; start = a .start; many = a .many; octets = a .octets }
 
-module _ (groups tracks segments text renames office : RefT (List ℕ)) (d : Desk) (service : ℕ) where
-  pub title-settled : (κs : Lfts 5) (r₁ r₂ : RefT (List ℕ))
-      → title.Post κs (groups, (tracks, (segments, (text, (renames, (office, (d, (service, tt)))))))) r₁ (groups, (tracks, (segments, (text, (renames, (office, (d, (service, tt))))))))
-      → title.Post κs (groups, (tracks, (segments, (text, (renames, (office, (d, (service, tt)))))))) r₂ (groups, (tracks, (segments, (text, (renames, (office, (d, (service, tt))))))))
+module _ (groups tracks segments text renames office state : RefT (List ℕ)) (service : ℕ) where
+  pub title-settled : (κs : Lfts 6) (r₁ r₂ : RefT (List ℕ))
+      → title.Post κs (groups, (tracks, (segments, (text, (renames, (office, (state, (service, tt)))))))) r₁ (groups, (tracks, (segments, (text, (renames, (office, (state, (service, tt))))))))
+      → title.Post κs (groups, (tracks, (segments, (text, (renames, (office, (state, (service, tt)))))))) r₂ (groups, (tracks, (segments, (text, (renames, (office, (state, (service, tt))))))))
       → Same r₁ r₂
   title-settled κs r₁ r₂ = same
 
-  pub which-settled : (κs : Lfts 6) (t₁ t₂ : Titled)
-      → which.Post κs (groups, (tracks, (segments, (text, (renames, (office, (d, (service, tt)))))))) t₁ (groups, (tracks, (segments, (text, (renames, (office, (d, (service, tt))))))))
-      → which.Post κs (groups, (tracks, (segments, (text, (renames, (office, (d, (service, tt)))))))) t₂ (groups, (tracks, (segments, (text, (renames, (office, (d, (service, tt))))))))
+  pub which-settled : (κs : Lfts 7) (t₁ t₂ : Titled)
+      → which.Post κs (groups, (tracks, (segments, (text, (renames, (office, (state, (service, tt)))))))) t₁ (groups, (tracks, (segments, (text, (renames, (office, (state, (service, tt))))))))
+      → which.Post κs (groups, (tracks, (segments, (text, (renames, (office, (state, (service, tt)))))))) t₂ (groups, (tracks, (segments, (text, (renames, (office, (state, (service, tt))))))))
       → t₁ ≡ t₂
   which-settled κs t₁ t₂ p q =
       let e = p ∙ sym q in
@@ -51,8 +50,8 @@ module _ (groups tracks segments text renames office : RefT (List ℕ)) (d : Des
       λ k. record { answer = a k; part = e k .state }
 
   -- the two calls with the same inputs: what the one hands back is the part that the other says
-  pub agree : (κs : Lfts 5) (κs′ : Lfts 6) (r : RefT (List ℕ)) (t : Titled)
-      → title.Post κs (groups, (tracks, (segments, (text, (renames, (office, (d, (service, tt)))))))) r (groups, (tracks, (segments, (text, (renames, (office, (d, (service, tt))))))))
-      → which.Post κs′ (groups, (tracks, (segments, (text, (renames, (office, (d, (service, tt)))))))) t (groups, (tracks, (segments, (text, (renames, (office, (d, (service, tt))))))))
+  pub agree : (κs : Lfts 6) (κs′ : Lfts 7) (r : RefT (List ℕ)) (t : Titled)
+      → title.Post κs (groups, (tracks, (segments, (text, (renames, (office, (state, (service, tt)))))))) r (groups, (tracks, (segments, (text, (renames, (office, (state, (service, tt))))))))
+      → which.Post κs′ (groups, (tracks, (segments, (text, (renames, (office, (state, (service, tt)))))))) t (groups, (tracks, (segments, (text, (renames, (office, (state, (service, tt))))))))
       → IsPart (t .part) text office r
   agree κs κs′ r t a b = rw (ap (λ (l : Left Part). l .state) b) a

@@ -3,6 +3,7 @@
 ghost use mathlib.Core.Path.{_≡_};
 ghost use Rattle.catalogue_titles.specs.Titles.{IsPart};
 ghost use Rattle.catalogue_titles.specs.Lent.{lending};
+ghost use Rattle.mcs_state.specs.Codec.{deskOf};
 ghost use Rattle.desk_title.specs.Title.{titleCall, titledBy};
 
 // Whether the title is to be had, and where it stands; the empty front of the card's text where it is refused.
@@ -19,12 +20,21 @@ pub fn which(
     text: &[u8],
     renames: &[u32],
     office: &[u8],
-    d: desk_state::Desk,
+    state: &[u8; 649],
     service: u32,
 ) -> Titled
-    ensures { λ r. ⌜ titledBy r ≡ titleCall (lending (now (groups .entry)) (now (tracks .entry)) (now (segments .entry)) (now (text .entry)) (now (renames .entry)) (now (office .entry))) d service ⌝ }
+    ensures { λ r. ⌜ titledBy r ≡ titleCall (lending (now (groups .entry)) (now (tracks .entry)) (now (segments .entry)) (now (text .entry)) (now (renames .entry)) (now (office .entry))) (deskOf (now (state .entry))) service ⌝ }
 {
-    let g = desk_replies::service_gate(groups, tracks, segments, text, renames, office, d, service);
+    let g = desk_replies::service_gate(
+        groups,
+        tracks,
+        segments,
+        text,
+        renames,
+        office,
+        state,
+        service,
+    );
     if !g.passes {
         let answer = g.answer;
         let front = catalogue_titles::front_part();
@@ -33,8 +43,7 @@ pub fn which(
             part: front,
         };
     }
-    let s = desk_state::service_at(d, service);
-    let p = s.player;
+    let p = mcs_state::player_at(state, service);
     let part = player_values::title_part(tracks, renames, p);
     Titled {
         answer: desk_replies::Answer::Done,
@@ -50,12 +59,21 @@ pub fn title<'a>(
     text: &'a [u8],
     renames: &[u32],
     office: &'a [u8],
-    d: desk_state::Desk,
+    state: &[u8; 649],
     service: u32,
 ) -> &'a [u8]
-    ensures { λ r. ⌜ IsPart (titleCall (lending (now (groups .entry)) (now (tracks .entry)) (now (segments .entry)) (now (text .entry)) (now (renames .entry)) (now (office .entry))) d service .state) (text .entry) (office .entry) r ⌝ }
+    ensures { λ r. ⌜ IsPart (titleCall (lending (now (groups .entry)) (now (tracks .entry)) (now (segments .entry)) (now (text .entry)) (now (renames .entry)) (now (office .entry))) (deskOf (now (state .entry))) service .state) (text .entry) (office .entry) r ⌝ }
 {
-    let t = which(groups, tracks, segments, text, renames, office, d, service);
+    let t = which(
+        groups,
+        tracks,
+        segments,
+        text,
+        renames,
+        office,
+        state,
+        service,
+    );
     let part = t.part;
     catalogue_titles::cut(part, text, office)
 }

@@ -1,4 +1,4 @@
--- `Ends` follows an equation, and settles number, octets and words; and a call that changes nothing leaves every octet as it was. Assumes nothing.
+-- What `finish` tells of an answer is what `Ends` says, which settles number, octets and words; and a call that changes nothing leaves every octet as it was. Assumes nothing.
 use mathlib.Core.Path.{_≡_, refl, sym, ap, subst, _∙_}
 use mathlib.Core.Bool.{Bool, true, false}
 use mathlib.Core.List.{List, _++_}
@@ -11,14 +11,23 @@ use Rattle.ground.proofs.Cases.{clash}
 use Rattle.ground.proofs.Rows.{accepted-said, none-of, said-of}
 use Rattle.catalogue_titles.specs.Lent.{Lent}
 use Rattle.desk_state.specs.declared.Desk.{Desk}
-use Rattle.desk_replies.specs.Replies.{stateRight, fronted, asked}
+use Rattle.desk_replies.specs.declared.Answer.{Answer}
+use Rattle.desk_replies.specs.Replies.{saidOf, stateAfter, Answers, stateRight, fronted, asked}
 use Rattle.mcs_state.specs.Codec.{deskOf, deskOctets}
-use Rattle.mcs_state.proofs.Plain.{Octets, plain}
-use Rattle.mcs_told.specs.Calls.{AllWords, stateAfter, Ends}
+use Rattle.mcs_state.specs.Stored.{Octets}
+use Rattle.mcs_state.proofs.Plain.{plain}
+use Rattle.mcs_told.specs.Calls.{AllWords, trackAfter, offsetAfter, Ends}
 
-pub follow : {l m : Left Desk} {old track offset new track′ offset′ : List ℕ} {number : ℕ} → l ≡ m
-    → Ends l old track offset number new track′ offset′ → Ends m old track offset number new track′ offset′
-follow {l} {m} {old} {track} {offset} {new} {track′} {offset′} {number} e h = subst (λ (x : Left Desk). Ends x old track offset number new track′ offset′) e h
+-- a call's answer, and the words for where a text is wrong that are told by it
+pub ends : {l : Left Desk} {old track offset new track′ offset′ : List ℕ} {number : ℕ} {answer : Answer} → Answers l old answer new
+    → (number ≡ saidOf answer .number) × ((track′ ≡ trackAfter (saidOf answer) track) × (offset′ ≡ offsetAfter (saidOf answer) offset))
+    → Ends l old track offset number new track′ offset′
+ends {l} {old} {track} {offset} a h =
+    record {
+      leaves = record { told = h .0 ∙ ap (λ (x : Said). x .number) (a .said); octets = a .octets; state = a .state };
+      track-told = h .1 .0 ∙ ap (λ (x : Said). trackAfter x track) (a .said);
+      offset-told = h .1 .1 ∙ ap (λ (x : Said). offsetAfter x offset) (a .said);
+    }
 
 pub ends-settled : {l : Left Desk} {old track offset new₁ new₂ t₁ t₂ o₁ o₂ : List ℕ} {n₁ n₂ : ℕ}
     → Ends l old track offset n₁ new₁ t₁ o₁ → Ends l old track offset n₂ new₂ t₂ o₂ → ((n₁ ≡ n₂) × (new₁ ≡ new₂)) × (t₁ ≡ t₂) × (o₁ ≡ o₂)
@@ -28,9 +37,9 @@ ends-settled a b = (
   a .offset-told ∙ sym (b .offset-told),
 )
 
--- what a call leaves says small numbers, as the call that it follows does
-pub small-left : {l m : Left Desk} → l ≡ m → AllWords (m .said .values) → AllWords (l .said .values)
-small-left e h = subst (λ (x : Left Desk). AllWords (x .said .values)) (sym e) h
+-- an answer says small numbers, as the call does
+pub small-said : {l : Left Desk} {old new : List ℕ} {answer : Answer} → Answers l old answer new → AllWords (l .said .values) → AllWords (saidOf answer .values)
+small-said a h = subst (λ (x : Said). AllWords (x .values)) (sym (a .said)) h
 
 -- a call that is accepted found a state that stands
 stood : (k : Lent) (small : Bool) (d : Desk) (rows : List Row) (work : Left Desk) → asked k small d rows work .said .isGranted ≡ true → stateRight k d ≡ true

@@ -231,8 +231,9 @@ pub extern "C" fn mcs_start(
         name1,
         mask1,
         ccid1,
+        state,
     );
-    mcs_told::finish(o, state, track, octet)
+    mcs_told::finish(o, track, octet)
 }
 
 // Set name.
@@ -252,7 +253,6 @@ pub extern "C" fn mcs_set_name<'a>(
 ) -> u32
     ensures { λ r. ⌜ Ends (nameCall (lending (now (groups .entry)) (now (tracks .entry)) (now (segments .entry)) (now (text .entry)) (now (renames .entry)) (now (office .entry))) (deskOf (now (state .entry))) service (now (name .entry))) (now (state .entry)) (now (track .entry)) (now (octet .entry)) r (now (state .exit)) (now (track .exit)) (now (octet .exit)) ⌝ }
 {
-    let d = mcs_state::decode(state);
     let o = desk_console::set_name(
         groups,
         tracks,
@@ -260,11 +260,11 @@ pub extern "C" fn mcs_set_name<'a>(
         text,
         renames,
         office,
-        d,
+        state,
         service,
         name,
     );
-    mcs_told::finish(o, state, track, octet)
+    mcs_told::finish(o, track, octet)
 }
 
 // Activate a group.
@@ -284,7 +284,6 @@ pub extern "C" fn mcs_activate<'a>(
 ) -> u32
     ensures { λ r. ⌜ Ends (activateCall (lending (now (groups .entry)) (now (tracks .entry)) (now (segments .entry)) (now (text .entry)) (now (renames .entry)) (now (office .entry))) (deskOf (now (state .entry))) service group) (now (state .entry)) (now (track .entry)) (now (octet .entry)) r (now (state .exit)) (now (track .exit)) (now (octet .exit)) ⌝ }
 {
-    let d = mcs_state::decode(state);
     let g = catalogue_tables::GroupNo(group);
     let o = desk_console::activate(
         groups,
@@ -293,11 +292,11 @@ pub extern "C" fn mcs_activate<'a>(
         text,
         renames,
         office,
-        d,
+        state,
         service,
         g,
     );
-    mcs_told::finish(o, state, track, octet)
+    mcs_told::finish(o, track, octet)
 }
 
 // Deactivate.
@@ -316,9 +315,17 @@ pub extern "C" fn mcs_deactivate<'a>(
 ) -> u32
     ensures { λ r. ⌜ Ends (deactivateCall (lending (now (groups .entry)) (now (tracks .entry)) (now (segments .entry)) (now (text .entry)) (now (renames .entry)) (now (office .entry))) (deskOf (now (state .entry))) service) (now (state .entry)) (now (track .entry)) (now (octet .entry)) r (now (state .exit)) (now (track .exit)) (now (octet .exit)) ⌝ }
 {
-    let d = mcs_state::decode(state);
-    let o = desk_console::deactivate(groups, tracks, segments, text, renames, office, d, service);
-    mcs_told::finish(o, state, track, octet)
+    let o = desk_console::deactivate(
+        groups,
+        tracks,
+        segments,
+        text,
+        renames,
+        office,
+        state,
+        service,
+    );
+    mcs_told::finish(o, track, octet)
 }
 
 // Advance.
@@ -338,7 +345,6 @@ pub extern "C" fn mcs_advance<'a>(
 ) -> u32
     ensures { λ r. ⌜ Ends (advanceCall (lending (now (groups .entry)) (now (tracks .entry)) (now (segments .entry)) (now (text .entry)) (now (renames .entry)) (now (office .entry))) (deskOf (now (state .entry))) service step) (now (state .entry)) (now (track .entry)) (now (octet .entry)) r (now (state .exit)) (now (track .exit)) (now (octet .exit)) ⌝ }
 {
-    let d = mcs_state::decode(state);
     let o = desk_console::advance(
         groups,
         tracks,
@@ -346,11 +352,11 @@ pub extern "C" fn mcs_advance<'a>(
         text,
         renames,
         office,
-        d,
+        state,
         service,
         step,
     );
-    mcs_told::finish(o, state, track, octet)
+    mcs_told::finish(o, track, octet)
 }
 
 // Connect; 0 is not encrypted.
@@ -371,7 +377,6 @@ pub extern "C" fn mcs_connect(
 ) -> u32
     ensures { λ r. ⌜ Ends (connectCall (lending (now (groups .entry)) (now (tracks .entry)) (now (segments .entry)) (now (text .entry)) (now (renames .entry)) (now (office .entry))) (deskOf (now (state .entry))) client mtu (flag encrypted)) (now (state .entry)) (now (track .entry)) (now (octet .entry)) r (now (state .exit)) (now (track .exit)) (now (octet .exit)) ⌝ }
 {
-    let d = mcs_state::decode(state);
     let o = desk_links::connect(
         groups,
         tracks,
@@ -379,12 +384,12 @@ pub extern "C" fn mcs_connect(
         text,
         renames,
         office,
-        d,
+        state,
         client,
         mtu,
         encrypted != 0,
     );
-    mcs_told::finish(o, state, track, octet)
+    mcs_told::finish(o, track, octet)
 }
 
 // Disconnect.
@@ -403,9 +408,17 @@ pub extern "C" fn mcs_disconnect(
 ) -> u32
     ensures { λ r. ⌜ Ends (disconnectCall (lending (now (groups .entry)) (now (tracks .entry)) (now (segments .entry)) (now (text .entry)) (now (renames .entry)) (now (office .entry))) (deskOf (now (state .entry))) client) (now (state .entry)) (now (track .entry)) (now (octet .entry)) r (now (state .exit)) (now (track .exit)) (now (octet .exit)) ⌝ }
 {
-    let d = mcs_state::decode(state);
-    let o = desk_links::disconnect(groups, tracks, segments, text, renames, office, d, client);
-    mcs_told::finish(o, state, track, octet)
+    let o = desk_links::disconnect(
+        groups,
+        tracks,
+        segments,
+        text,
+        renames,
+        office,
+        state,
+        client,
+    );
+    mcs_told::finish(o, track, octet)
 }
 
 // Subscribe.
@@ -426,7 +439,6 @@ pub extern "C" fn mcs_subscribe(
 ) -> u32
     ensures { λ r. ⌜ Ends (subscribeCall (lending (now (groups .entry)) (now (tracks .entry)) (now (segments .entry)) (now (text .entry)) (now (renames .entry)) (now (office .entry))) (deskOf (now (state .entry))) client service characteristic) (now (state .entry)) (now (track .entry)) (now (octet .entry)) r (now (state .exit)) (now (track .exit)) (now (octet .exit)) ⌝ }
 {
-    let d = mcs_state::decode(state);
     let o = desk_links::subscribe(
         groups,
         tracks,
@@ -434,12 +446,12 @@ pub extern "C" fn mcs_subscribe(
         text,
         renames,
         office,
-        d,
+        state,
         client,
         service,
         characteristic,
     );
-    mcs_told::finish(o, state, track, octet)
+    mcs_told::finish(o, track, octet)
 }
 
 // Unsubscribe.
@@ -460,7 +472,6 @@ pub extern "C" fn mcs_unsubscribe(
 ) -> u32
     ensures { λ r. ⌜ Ends (unsubscribeCall (lending (now (groups .entry)) (now (tracks .entry)) (now (segments .entry)) (now (text .entry)) (now (renames .entry)) (now (office .entry))) (deskOf (now (state .entry))) client service characteristic) (now (state .entry)) (now (track .entry)) (now (octet .entry)) r (now (state .exit)) (now (track .exit)) (now (octet .exit)) ⌝ }
 {
-    let d = mcs_state::decode(state);
     let o = desk_links::unsubscribe(
         groups,
         tracks,
@@ -468,12 +479,12 @@ pub extern "C" fn mcs_unsubscribe(
         text,
         renames,
         office,
-        d,
+        state,
         client,
         service,
         characteristic,
     );
-    mcs_told::finish(o, state, track, octet)
+    mcs_told::finish(o, track, octet)
 }
 
 // Read at an offset.
@@ -499,7 +510,6 @@ pub extern "C" fn mcs_read<'a>(
     ensures { λ r. ⌜ now (out .exit) ≡ tableAfter (readCall (lending (now (groups .entry)) (now (tracks .entry)) (now (segments .entry)) (now (text .entry)) (now (renames .entry)) (now (office .entry))) (deskOf (now (state .entry))) client service characteristic offset (len (now (out .entry))) .said) (readOctets (lending (now (groups .entry)) (now (tracks .entry)) (now (segments .entry)) (now (text .entry)) (now (renames .entry)) (now (office .entry))) (deskOf (now (state .entry))) client service characteristic offset) (now (out .entry)) ⌝ }
     ensures { λ r. ⌜ now (length .exit) ≡ wordsAfter (readCall (lending (now (groups .entry)) (now (tracks .entry)) (now (segments .entry)) (now (text .entry)) (now (renames .entry)) (now (office .entry))) (deskOf (now (state .entry))) client service characteristic offset (len (now (out .entry))) .said) (now (length .entry)) ⌝ }
 {
-    let d = mcs_state::decode(state);
     let o = desk_exchange::read(
         groups,
         tracks,
@@ -507,18 +517,17 @@ pub extern "C" fn mcs_read<'a>(
         text,
         renames,
         office,
-        d,
+        state,
         client,
         service,
         characteristic,
         offset,
         out,
     );
-    let answer = o.answer;
-    let t = mcs_told::told_of(answer);
+    let t = mcs_told::told_of(o);
     let values = t.values;
     mcs_told::tell(t.granted, values, length);
-    mcs_told::finish(o, state, track, octet)
+    mcs_told::finish(o, track, octet)
 }
 
 // Take.
@@ -540,13 +549,11 @@ pub extern "C" fn mcs_take<'a>(
     ensures { λ r. ⌜ now (out .exit) ≡ tableAfter (takeCall (lending (now (groups .entry)) (now (tracks .entry)) (now (segments .entry)) (now (text .entry)) (now (renames .entry)) (now (office .entry))) (deskOf (now (state .entry))) (len (now (out .entry))) .said) (takeOctets (lending (now (groups .entry)) (now (tracks .entry)) (now (segments .entry)) (now (text .entry)) (now (renames .entry)) (now (office .entry))) (deskOf (now (state .entry)))) (now (out .entry)) ⌝ }
     ensures { λ r. ⌜ now (served .exit) ≡ wordsAfter (takeCall (lending (now (groups .entry)) (now (tracks .entry)) (now (segments .entry)) (now (text .entry)) (now (renames .entry)) (now (office .entry))) (deskOf (now (state .entry))) (len (now (out .entry))) .said) (now (served .entry)) ⌝ }
 {
-    let d = mcs_state::decode(state);
-    let o = desk_take::take(groups, tracks, segments, text, renames, office, d, out);
-    let answer = o.answer;
-    let t = mcs_told::told_of(answer);
+    let o = desk_take::take(groups, tracks, segments, text, renames, office, state, out);
+    let t = mcs_told::told_of(o);
     let values = t.values;
     mcs_told::tell(t.granted, values, served);
-    mcs_told::finish(o, state, track, octet)
+    mcs_told::finish(o, track, octet)
 }
 
 // Write.
@@ -568,7 +575,6 @@ pub extern "C" fn mcs_write<'a>(
 ) -> u32
     ensures { λ r. ⌜ Ends (writeCall (lending (now (groups .entry)) (now (tracks .entry)) (now (segments .entry)) (now (text .entry)) (now (renames .entry)) (now (office .entry))) (deskOf (now (state .entry))) client service characteristic (now (value .entry))) (now (state .entry)) (now (track .entry)) (now (octet .entry)) r (now (state .exit)) (now (track .exit)) (now (octet .exit)) ⌝ }
 {
-    let d = mcs_state::decode(state);
     let o = desk_exchange::write(
         groups,
         tracks,
@@ -576,13 +582,13 @@ pub extern "C" fn mcs_write<'a>(
         text,
         renames,
         office,
-        d,
+        state,
         client,
         service,
         characteristic,
         value,
     );
-    mcs_told::finish(o, state, track, octet)
+    mcs_told::finish(o, track, octet)
 }
 
 // Title: of which text, from where on and how long. The state is lent to be read alone.
@@ -605,8 +611,16 @@ pub extern "C" fn mcs_title(
     ensures { λ r. ⌜ now (track .exit) ≡ trackAfter (titleCall (lending (now (groups .entry)) (now (tracks .entry)) (now (segments .entry)) (now (text .entry)) (now (renames .entry)) (now (office .entry))) (deskOf (now (state .entry))) service .said) (now (track .entry)) ⌝ }
     ensures { λ r. ⌜ now (octet .exit) ≡ offsetAfter (titleCall (lending (now (groups .entry)) (now (tracks .entry)) (now (segments .entry)) (now (text .entry)) (now (renames .entry)) (now (office .entry))) (deskOf (now (state .entry))) service .said) (now (octet .entry)) ⌝ }
 {
-    let d = mcs_state::decode(state);
-    let w = desk_title::which(groups, tracks, segments, text, renames, office, d, service);
+    let w = desk_title::which(
+        groups,
+        tracks,
+        segments,
+        text,
+        renames,
+        office,
+        state,
+        service,
+    );
     let answer = w.answer;
     let t = mcs_told::told_of(answer);
     let title = w.part;
@@ -640,7 +654,6 @@ pub extern "C" fn mcs_manual_goto(
     ensures { λ r. ⌜ now (track .exit) ≡ trackAfter (manualCall (lending (now (groups .entry)) (now (tracks .entry)) (now (segments .entry)) (now (text .entry)) (now (renames .entry)) (now (office .entry))) (deskOf (now (state .entry))) service opcode number allowed .said) (now (track .entry)) ⌝ }
     ensures { λ r. ⌜ now (octet .exit) ≡ offsetAfter (manualCall (lending (now (groups .entry)) (now (tracks .entry)) (now (segments .entry)) (now (text .entry)) (now (renames .entry)) (now (office .entry))) (deskOf (now (state .entry))) service opcode number allowed .said) (now (octet .entry)) ⌝ }
 {
-    let d = mcs_state::decode(state);
     let s = desk_goto::manual_goto(
         groups,
         tracks,
@@ -648,7 +661,7 @@ pub extern "C" fn mcs_manual_goto(
         text,
         renames,
         office,
-        d,
+        state,
         service,
         opcode,
         number,

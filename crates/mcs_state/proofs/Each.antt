@@ -1,9 +1,10 @@
 -- Parts of one kind, one behind the other: their octets, and what is read out of them. Assumes nothing.
 use mathlib.Core.Path.{_≡_, refl, ap, sym, _∙_}
 use mathlib.Core.List.{List, [], _∷_, _++_, append-assoc, append-nil}
-use Prim.Native.Nat.{ℕ, zero, suc, _+_, _*_}
-use native.Mathlib.Nat.{add-comm, zero-mul, suc-mul, add-sub-cancel-left}
-use lib.ListN.{length, take, drop, length-append}
+use Prim.Native.Nat.{ℕ, zero, suc, _+_, _*_, _<_}
+use native.Mathlib.Nat.{add-assoc, add-zero, add-comm, zero-mul, suc-mul, add-sub-cancel-left}
+use native.Mathlib.Omega.{arith}
+use lib.ListN.{length, getD, take, drop, length-append}
 use lib.Seq.{take-at, drop-at, take-add, drop-drop}
 use Rattle.ground.specs.Lists.{part}
 use Rattle.mcs_state.specs.Codec.{eachFrom, eachOctets, Kept}
@@ -56,6 +57,15 @@ module _ {A : Type 0} (read : List ℕ → A) (write : A → List ℕ) (size : �
       (λ i. (p ∙ sized s at size) i ++ (each-plain s (at + size) n ps ∙ ap (take (n * size)) (sym (drop-drop size at s))) i)
       ∙ sym (take-add size (n * size) (drop at s))
       ∙ ap (λ (k : ℕ). take k (drop at s)) (add-comm size (n * size) ∙ sym (suc-mul n size))
+
+-- the part at place i is read out of its octets
+pub each-at : {A : Type 0} (read : List ℕ → A) (size : ℕ) (blank : A) (s : List ℕ) (at n i : ℕ) → i < n
+    → getD (eachFrom read size s at n) i blank ≡ read (part s (at + i * size) (at + i * size + size))
+each-at read size blank s at zero i h = absurd (let z : ⊥ = omega (arith, h) in z)
+each-at read size blank s at (suc n) zero h = ap (λ (k : ℕ). read (part s k (k + size))) (let z : at ≡ at + zero * size = sym (ap (λ (k : ℕ). at + k) (zero-mul size) ∙ add-zero at) in z)
+each-at read size blank s at (suc n) (suc i) h =
+    each-at read size blank s (at + size) n i (omega (arith, h))
+    ∙ ap (λ (k : ℕ). read (part s k (k + size))) (add-assoc at size (i * size) ∙ ap (λ (k : ℕ). at + k) (add-comm size (i * size) ∙ sym (suc-mul i size)))
 
 -- the octets of each, laid one after the other behind f
 module _ {A : Type 0} (write : A → List ℕ) where

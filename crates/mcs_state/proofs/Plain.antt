@@ -17,11 +17,8 @@ use Rattle.desk_client.proofs.Rule.{mtu-least}
 use Rattle.desk_state.specs.Desk.{linkAt, deskRule}
 use Rattle.desk_state.proofs.Laws.{link-stands, turn-there}
 use Rattle.mcs_state.specs.Codec.{bitOf, isBit, flag, layout, noTurn, wordThen, wideThen, wideAt, eachFrom, eachOctets, turnFrom, turnOctets, mtuFrom, linkFrom, linkOctets, accountFrom, accountOctets, playerFrom, playerOctets, serviceFrom, serviceOctets, deskOf, deskOctets}
+use Rattle.mcs_state.specs.Stored.{Octets}
 use Rattle.mcs_state.proofs.Each.{over, onward, each-plain}
-
--- each is an octet
-abbrev pub Octets : List ℕ → Type 0
-Octets s = (i : ℕ) → getD s i 0 < 256
 
 bit-back : (x : ℕ) → isBit x ≡ true → bitOf (flag x) ≡ x
 bit-back zero e = refl

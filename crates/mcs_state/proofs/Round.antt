@@ -81,7 +81,7 @@ link-kept l =
       back = λ i. record { connected = flag-bit (l .connected) i; encrypted = flag-bit (l .encrypted) i; mtu = mtu-again l i; mark = word (l .mark) i };
     }
 
-links-kept : (links : List Link) → AllKept linkFrom linkOctets 10 links
+pub links-kept : (links : List Link) → AllKept linkFrom linkOctets 10 links
 links-kept [] = none
 links-kept (l ∷ links) = more (link-kept l) (links-kept links)
 

@@ -1,2 +1,3 @@
 -- What the contracts name.
 pub mod Codec
+pub mod Stored

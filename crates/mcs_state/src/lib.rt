@@ -7,8 +7,12 @@ ghost use Prim.Native.Nat.{_+_, _*_, _≤_, _<_};
 ghost use lib.ListN.{length, drop};
 ghost use lib.Seq.{paste};
 ghost use Rattle.ground.specs.Lists.{part};
+ghost use Rattle.desk_slots.specs.Slots.{serviceCount, clientCount};
+ghost use Rattle.desk_state.specs.Desk.{linkAt, serviceAt, accountIn, clientAt, accountsFit, servicesRule, linksRule, deskRule, withAccount, withService, withClient};
 ghost use Rattle.mcs_state.specs.Codec.{wideAt, Kept, turnFrom, turnOctets, mtuFrom, linkFrom, linkOctets, accountFrom, accountOctets, playerFrom, playerOctets, serviceFrom, serviceOctets, deskOf, deskOctets};
+ghost use Rattle.mcs_state.specs.Stored.{Octets, Plain, Stored, withLink, withTurn};
 use desk_client::Account;
+use desk_client::Client;
 use desk_client::Entry;
 use desk_client::Link;
 use desk_state::Desk;
@@ -370,7 +374,7 @@ fn two_services(services: [Service; 2])
     ensures { λ _. ⌜ length services ≡ 2 ⌝ }
 {}
 
-fn put_turn(s: &mut [u8], turn: u32)
+fn lay_turn(s: &mut [u8], turn: u32)
     requires { ⌜ 649 ≤ length (now s) ⌝ }
     ensures { λ _. ⌜ now (s .exit) ≡ paste (now (s .entry)) 0 (turnOctets turn) 5 ⌝ }
 {
@@ -378,7 +382,7 @@ fn put_turn(s: &mut [u8], turn: u32)
     put(s, 0, &octets);
 }
 
-fn put_link(s: &mut [u8], who: usize, l: Link)
+fn lay_link(s: &mut [u8], who: usize, l: Link)
     requires { ⌜ (who < 4) × (649 ≤ length (now s)) ⌝ }
     ensures { λ _. ⌜ now (s .exit) ≡ paste (now (s .entry)) (5 + who * 10) (linkOctets l) 10 ⌝ }
 {
@@ -387,14 +391,14 @@ fn put_link(s: &mut [u8], who: usize, l: Link)
 }
 
 // A player's name, and what is behind it, at a service's place.
-fn put_name(s: &mut [u8], at: usize, name: [u8; 128])
+fn lay_name(s: &mut [u8], at: usize, name: [u8; 128])
     requires { ⌜ at + 302 ≤ length (now s) ⌝ }
     ensures { λ _. ⌜ (now (s .exit) ≡ paste (now (s .entry)) at name 128) × (length name ≡ 128) ⌝ }
 {
     put(s, at, &name);
 }
 
-fn put_player(s: &mut [u8], at: usize, p: Player)
+fn lay_player(s: &mut [u8], at: usize, p: Player)
     requires { ⌜ at + 302 ≤ length (now s) ⌝ }
     ensures { λ _. ⌜ now (s .exit) ≡ paste (now (s .entry)) (at + 128) (playerOctets p) 30 ⌝ }
 {
@@ -403,7 +407,7 @@ fn put_player(s: &mut [u8], at: usize, p: Player)
 }
 
 // A client's account with the service at a place.
-fn put_account(s: &mut [u8], at: usize, who: usize, a: Account)
+fn lay_account(s: &mut [u8], at: usize, who: usize, a: Account)
     requires { ⌜ (who < 4) × (at + 302 ≤ length (now s)) ⌝ }
     ensures { λ _. ⌜ now (s .exit) ≡ paste (now (s .entry)) (at + (158 + who * 36)) (accountOctets a) 36 ⌝ }
     ensures { λ _. ⌜ Kept accountFrom accountOctets 36 a ⌝ }
@@ -414,7 +418,7 @@ fn put_account(s: &mut [u8], at: usize, who: usize, a: Account)
     put(s, at + (ACCOUNTS + who * ACCOUNT), &octets);
 }
 
-fn put_service(s: &mut [u8], service: usize, v: Service)
+fn lay_service(s: &mut [u8], service: usize, v: Service)
     requires { ⌜ (service < 2) × (649 ≤ length (now s)) ⌝ }
     ensures { λ _. ⌜ now (s .exit) ≡ paste (now (s .entry)) (45 + service * 302) (serviceOctets v) 302 ⌝ }
     ensures { λ _. ⌜ Kept serviceFrom serviceOctets 302 v ⌝ }
@@ -424,12 +428,12 @@ fn put_service(s: &mut [u8], service: usize, v: Service)
     let name = p.name.octets;
     let accounts = v.accounts;
     four_accounts(accounts);
-    put_name(s, at, name);
-    put_player(s, at, p);
-    put_account(s, at, 0, accounts[0]);
-    put_account(s, at, 1, accounts[1]);
-    put_account(s, at, 2, accounts[2]);
-    put_account(s, at, 3, accounts[3]);
+    lay_name(s, at, name);
+    lay_player(s, at, p);
+    lay_account(s, at, 0, accounts[0]);
+    lay_account(s, at, 1, accounts[1]);
+    lay_account(s, at, 2, accounts[2]);
+    lay_account(s, at, 3, accounts[3]);
 }
 
 // The octets of a state over the front of s; read again they give the state back.
@@ -442,11 +446,210 @@ pub fn encode(d: Desk, s: &mut [u8])
     let services = d.services;
     four_links(links);
     two_services(services);
-    put_turn(s, d.turn);
-    put_link(s, 0, links[0]);
-    put_link(s, 1, links[1]);
-    put_link(s, 2, links[2]);
-    put_link(s, 3, links[3]);
-    put_service(s, 0, services[0]);
-    put_service(s, 1, services[1]);
+    lay_turn(s, d.turn);
+    lay_link(s, 0, links[0]);
+    lay_link(s, 1, links[1]);
+    lay_link(s, 2, links[2]);
+    lay_link(s, 3, links[3]);
+    lay_service(s, 0, services[0]);
+    lay_service(s, 1, services[1]);
+}
+
+// A part of a state, read out of its octets: the client that was served last.
+pub fn turn_of(s: &[u8]) -> u32
+    requires { ⌜ 649 ≤ length (now s) ⌝ }
+    ensures { λ r. ⌜ r ≡ deskOf (now (s .entry)) .turn ⌝ }
+{
+    turn_from(&s[0..LINKS])
+}
+
+// The link of a client.
+pub fn link_at(s: &[u8], who: u32) -> Link
+    requires { ⌜ 649 ≤ length (now s) ⌝ }
+    requires { ⌜ who < clientCount ⌝ }
+    ensures { λ r. ⌜ r ≡ linkAt (deskOf (now (s .entry)) .links) who ⌝ }
+{
+    link_from(s, who as usize)
+}
+
+// The account of a client with a service.
+pub fn account_at(s: &[u8], service: u32, who: u32) -> Account
+    requires { ⌜ 649 ≤ length (now s) ⌝ }
+    requires { ⌜ service < serviceCount ⌝ }
+    requires { ⌜ who < clientCount ⌝ }
+    ensures { λ r. ⌜ r ≡ accountIn (serviceAt (deskOf (now (s .entry))) service) who ⌝ }
+{
+    let at = SERVICES + (service as usize) * SERVICE;
+    let end = at + SERVICE;
+    let o = &s[at..end];
+    account_from(o, who as usize)
+}
+
+// The player of a service.
+pub fn player_at(s: &[u8], service: u32) -> Player
+    requires { ⌜ 649 ≤ length (now s) ⌝ }
+    requires { ⌜ service < serviceCount ⌝ }
+    ensures { λ r. ⌜ r ≡ serviceAt (deskOf (now (s .entry))) service .player ⌝ }
+{
+    let at = SERVICES + (service as usize) * SERVICE;
+    let end = at + SERVICE;
+    let o = &s[at..end];
+    player_from(&o[0..PLAYER], &o[PLAYER..ACCOUNTS])
+}
+
+// A service.
+pub fn service_at(s: &[u8], service: u32) -> Service
+    requires { ⌜ 649 ≤ length (now s) ⌝ }
+    requires { ⌜ service < serviceCount ⌝ }
+    ensures { λ r. ⌜ r ≡ serviceAt (deskOf (now (s .entry))) service ⌝ }
+{
+    service_from(s, service as usize)
+}
+
+// A client's own record.
+pub fn client_at(s: &[u8], who: u32) -> Client
+    requires { ⌜ 649 ≤ length (now s) ⌝ }
+    requires { ⌜ who < clientCount ⌝ }
+    ensures { λ r. ⌜ r ≡ clientAt (deskOf (now (s .entry))) who ⌝ }
+{
+    let link = link_at(s, who);
+    let a = account_at(s, 0, who);
+    let b = account_at(s, 1, who);
+    Client {
+        link: link,
+        accounts: [a, b],
+    }
+}
+
+// 201, over the octets. Of a service, whether each client's account fits its link.
+fn accounts_fit(s: &[u8], service: u32) -> bool
+    requires { ⌜ 649 ≤ length (now s) ⌝ }
+    requires { ⌜ service < serviceCount ⌝ }
+    ensures { λ r. ⌜ r ≡ accountsFit (deskOf (now (s .entry)) .links) (serviceAt (deskOf (now (s .entry))) service .accounts) ⌝ }
+{
+    let mut good = true;
+    let mut i: u32 = 0;
+    while i < desk_slots::CLIENTS {
+        let l = link_at(s, i);
+        let a = account_at(s, service, i);
+        let fits = desk_client::account_fits(l, a);
+        good = good & fits;
+        i += 1;
+    }
+    good
+}
+
+fn services_right(groups: &[u32], tracks: &[u32], s: &[u8]) -> bool
+    requires { ⌜ 649 ≤ length (now s) ⌝ }
+    ensures { λ r. ⌜ r ≡ servicesRule (now (groups .entry)) (now (tracks .entry)) (deskOf (now (s .entry)) .links) (deskOf (now (s .entry)) .services) ⌝ }
+{
+    let mut good = true;
+    let mut v: u32 = 0;
+    while v < desk_slots::SERVICES {
+        let p = player_at(s, v);
+        let player = player_check::player_right(groups, tracks, p);
+        let fit = accounts_fit(s, v);
+        good = good & (player & fit);
+        v += 1;
+    }
+    good
+}
+
+fn links_right(s: &[u8]) -> bool
+    requires { ⌜ 649 ≤ length (now s) ⌝ }
+    ensures { λ r. ⌜ r ≡ linksRule (deskOf (now (s .entry)) .links) ⌝ }
+{
+    let mut good = true;
+    let mut i: u32 = 0;
+    while i < desk_slots::CLIENTS {
+        let l = link_at(s, i);
+        let right = desk_client::link_right(l);
+        good = good & right;
+        i += 1;
+    }
+    good
+}
+
+// Whether a state keeps 201.
+pub fn desk_right(groups: &[u32], tracks: &[u32], s: &[u8]) -> bool
+    requires { ⌜ 649 ≤ length (now s) ⌝ }
+    ensures { λ r. ⌜ r ≡ deskRule (now (groups .entry)) (now (tracks .entry)) (deskOf (now (s .entry))) ⌝ }
+{
+    let players = services_right(groups, tracks, s);
+    let clients = links_right(s);
+    let turn = turn_of(s);
+    players & clients & (turn < desk_slots::CLIENTS)
+}
+
+// What being lent octets tells, for the proof of a caller: no code comes of it.
+pub fn are_octets(s: &[u8])
+    ensures { λ _. ⌜ Octets (now (s .entry)) ⌝ }
+{
+    eight_results([Entry { opcode: 0, code: 0 }; 8]);
+}
+
+// One part of the state written back, where the octets are those that their state is written as: the octets of the other parts stay. Over what one of
+// these leaves the next may write.
+fn put_turn(s: &mut [u8], turn: u32)
+    requires { ⌜ 649 ≤ length (now s) ⌝ }
+    requires { ⌜ Plain (now s) ⌝ }
+    ensures { λ _. ⌜ Stored (withTurn turn (deskOf (now (s .entry)))) (now (s .entry)) (now (s .exit)) ⌝ }
+{
+    lay_turn(s, turn);
+}
+
+fn put_link(s: &mut [u8], who: u32, l: Link)
+    requires { ⌜ 649 ≤ length (now s) ⌝ }
+    requires { ⌜ Plain (now s) ⌝ }
+    requires { ⌜ who < clientCount ⌝ }
+    ensures { λ _. ⌜ Stored (withLink who l (deskOf (now (s .entry)))) (now (s .entry)) (now (s .exit)) ⌝ }
+{
+    lay_link(s, who as usize, l);
+}
+
+// A client's account with a service.
+pub fn put_account(s: &mut [u8], service: u32, who: u32, a: Account)
+    requires { ⌜ 649 ≤ length (now s) ⌝ }
+    requires { ⌜ Plain (now s) ⌝ }
+    requires { ⌜ service < serviceCount ⌝ }
+    requires { ⌜ who < clientCount ⌝ }
+    ensures { λ _. ⌜ Stored (withService service (withAccount who a (serviceAt (deskOf (now (s .entry))) service)) (deskOf (now (s .entry)))) (now (s .entry)) (now (s .exit)) ⌝ }
+{
+    let at = SERVICES + (service as usize) * SERVICE;
+    lay_account(s, at, who as usize, a);
+}
+
+// A service: its player and its accounts.
+pub fn put_service(s: &mut [u8], service: u32, v: Service)
+    requires { ⌜ 649 ≤ length (now s) ⌝ }
+    requires { ⌜ Plain (now s) ⌝ }
+    requires { ⌜ service < serviceCount ⌝ }
+    ensures { λ _. ⌜ Stored (withService service v (deskOf (now (s .entry)))) (now (s .entry)) (now (s .exit)) ⌝ }
+{
+    lay_service(s, service as usize, v);
+}
+
+// A client's own record: its link, and its account with each service.
+pub fn put_client(s: &mut [u8], who: u32, c: Client)
+    requires { ⌜ 649 ≤ length (now s) ⌝ }
+    requires { ⌜ Plain (now s) ⌝ }
+    requires { ⌜ who < clientCount ⌝ }
+    ensures { λ _. ⌜ Stored (withClient who c (deskOf (now (s .entry)))) (now (s .entry)) (now (s .exit)) ⌝ }
+{
+    let link = c.link;
+    let accounts = c.accounts;
+    put_link(s, who, link);
+    put_account(s, 0, who, accounts[0]);
+    put_account(s, 1, who, accounts[1]);
+}
+
+// The record of the client that was served last: the turn is this client's.
+pub fn put_served(s: &mut [u8], who: u32, c: Client)
+    requires { ⌜ 649 ≤ length (now s) ⌝ }
+    requires { ⌜ Plain (now s) ⌝ }
+    requires { ⌜ who < clientCount ⌝ }
+    ensures { λ _. ⌜ Stored (withTurn who (withClient who c (deskOf (now (s .entry))))) (now (s .entry)) (now (s .exit)) ⌝ }
+{
+    put_client(s, who, c);
+    put_turn(s, who);
 }

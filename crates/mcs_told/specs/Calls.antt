@@ -2,10 +2,10 @@
 -- Assumes nothing.
 use mathlib.Core.Path.{_≡_}
 use mathlib.Core.Bool.{Bool, not, _&&_}
-use mathlib.Core.List.{List, [], _∷_, _++_}
+use mathlib.Core.List.{List, [], _∷_}
 use Prim.Native.Nat.{ℕ, _%_, _<_}
 use lib.Dec.{ltb}
-use lib.ListN.{length, take, drop, getD}
+use lib.ListN.{length, take, getD}
 use Rattle.ground.specs.Cases.{pick}
 use Rattle.ground.specs.Refusals.{Said, Left}
 use Rattle.catalogue_titles.specs.declared.Part.{Part}
@@ -13,7 +13,8 @@ use Rattle.catalogue_titles.specs.Titles.{partValues}
 use Rattle.desk_state.specs.declared.Desk.{Desk}
 use Rattle.desk_goto.specs.declared.Arrival.{Arrival}
 use Rattle.desk_goto.specs.Manual.{madeValues, placeValues}
-use Rattle.mcs_state.specs.Codec.{deskOf, deskOctets}
+use Rattle.mcs_state.specs.Codec.{deskOf}
+use Rattle.desk_replies.specs.Replies.{stateAfter}
 use Rattle.mcs_told.specs.declared.Told.{Told}
 
 -- each of these is below 2^32
@@ -79,10 +80,6 @@ madeAfter l old = toldAfter (l .said .isGranted) (madeValues (l .state)) old
 
 abbrev pub arrivalAfter : Left Arrival → List ℕ → List ℕ
 arrivalAfter l old = toldAfter (l .said .isGranted) (placeValues (l .state)) old
-
--- the octets of the next state, or as they were
-abbrev pub stateAfter : Left Desk → List ℕ → List ℕ
-stateAfter l old = pick (l .said .isGranted) (deskOctets (l .state) ++ drop 649 old) old
 
 -- the number, the octets afterwards, and the state that they are
 pub record Leaves (l : Left Desk) (old : List ℕ) (number : ℕ) (new : List ℕ) : Type 0 where

@@ -5,19 +5,18 @@ ghost use Prim.Native.Nat.{_≤_};
 ghost use lib.ListN.{length as len, getD};
 ghost use Rattle.ground.specs.Cases.{pick};
 ghost use Rattle.catalogue_titles.specs.Titles.{partValues};
-ghost use Rattle.desk_replies.specs.Replies.{saidOf, leftBy};
+ghost use Rattle.desk_replies.specs.Replies.{saidOf};
 ghost use Rattle.desk_goto.specs.Manual.{madeValues, placeValues};
 ghost use Rattle.card_load.specs.Load.{saidOf as loadSaidOf};
 ghost use Rattle.card_write.specs.Write.{saidOf as writeSaidOf};
 ghost use Rattle.ground.specs.Refusals.{refusalOf, granted as grantedWith};
 ghost use Rattle.catalogue_cue.specs.Sheet.{saidOf as cueSaidOf};
 ghost use Rattle.catalogue_objects.specs.Objects.{saidOf as objectSaidOf};
-ghost use Rattle.mcs_told.specs.Calls.{Ends, AllWords, toldOf, toldAfter, wordsAfter};
+ghost use Rattle.mcs_told.specs.Calls.{AllWords, toldOf, toldAfter, wordsAfter, trackAfter, offsetAfter};
 use card_load::Loaded;
 use card_write::Written;
 use catalogue_cue::Cued;
 use desk_replies::Answer;
-use desk_replies::Outcome;
 
 // The numbers of the texts that a title may be a part of.
 const CARD_TEXT: u32 = 0;
@@ -235,19 +234,15 @@ pub fn tell_arrival(on: bool, a: desk_goto::Arrival, made: &mut [u32], place: &m
 }
 
 // What every call on the state does at its end.
-pub fn finish(o: Outcome, state: &mut [u8], track: &mut [u32], octet: &mut [u32]) -> u32
-    requires { ⌜ 649 ≤ len (now state) ⌝ }
+pub fn finish(answer: Answer, track: &mut [u32], octet: &mut [u32]) -> u32
     requires { ⌜ len (now track) ≡ 1 ⌝ }
     requires { ⌜ len (now octet) ≡ 1 ⌝ }
-    requires { ⌜ AllWords (leftBy o .said .values) ⌝ }
-    ensures { λ r. ⌜ Ends (leftBy o) (now (state .entry)) (now (track .entry)) (now (octet .entry)) r (now (state .exit)) (now (track .exit)) (now (octet .exit)) ⌝ }
+    requires { ⌜ AllWords (saidOf answer .values) ⌝ }
+    ensures { λ r. ⌜ r ≡ saidOf answer .number ⌝ }
+    ensures { λ _. ⌜ now (track .exit) ≡ trackAfter (saidOf answer) (now (track .entry)) ⌝ }
+    ensures { λ _. ⌜ now (octet .exit) ≡ offsetAfter (saidOf answer) (now (octet .entry)) ⌝ }
 {
-    let answer = o.answer;
     let t = told_of(answer);
     tell_place(t, track, octet);
-    if t.granted {
-        let next = o.desk;
-        mcs_state::encode(next, state);
-    }
     t.number
 }

@@ -15,7 +15,6 @@ ghost use Prim.Native.Nat.{_-_, _<_, _≤_};
 ghost use lib.ListN.{length};
 ghost use Rattle.desk_slots.specs.Slots.{slotCount};
 use desk_replies::Answer;
-use desk_replies::Outcome;
 
 // "Groups: 0 (no tracks), 1 (tracks 0–2), 2 (none), 3 (track 3); parents 0."
 const GROUPS: [u32; 12] = [0, 0, 0, 0, 0, 3, 0, 3, 0, 0, 3, 1];
@@ -356,7 +355,8 @@ fn write_service(d: desk_state::Desk, s: desk_state::Service) {
     write_client(desk_state::link_at(d, 3), desk_state::account_in(s, 3));
 }
 
-fn write_state(d: desk_state::Desk) {
+fn write_state(state: &[u8; 649]) {
+    let d = mcs_state::decode(state);
     write_service(d, desk_state::service_at(d, 0));
     write_service(d, desk_state::service_at(d, 1));
 }
@@ -456,28 +456,11 @@ fn write_title(answer: Answer, part: catalogue_titles::Part) {
     }
 }
 
-// Writes the line of a call, and hands back the state that it left.
-fn report(o: Outcome) -> desk_state::Desk {
-    let answer = o.answer;
-    let d = o.desk;
+// Writes the line of a call, with the state that it left.
+fn report(answer: Answer, state: &[u8; 649]) {
     write_answer(answer);
-    write_state(d);
+    write_state(state);
     io::write_all(1, b"\n");
-    d
-}
-
-// The same of a start; a refused one leaves the state that there was.
-fn report_start(o: Outcome, before: desk_state::Desk) -> desk_state::Desk {
-    let answer = o.answer;
-    match answer {
-        Answer::Done => report(o),
-        _ => {
-            write_answer(answer);
-            write_state(before);
-            io::write_all(1, b"\n");
-            before
-        }
-    }
 }
 
 // How many octets an answer says were handed out.
@@ -501,18 +484,15 @@ fn is_untouched(s: &[u8]) -> bool {
 }
 
 // The rest of the line of a read or a take, from the octets on. "lent octets behind the answer stay"
-fn report_lent(o: Outcome, out: &[u8; MOST_ROOM]) -> desk_state::Desk {
+fn report_lent(answer: Answer, state: &[u8; 649], out: &[u8; MOST_ROOM]) {
     let whole = &out[..];
-    let answer = o.answer;
-    let d = o.desk;
     let n = handed(answer);
     write_octets(front(whole, n));
-    write_state(d);
+    write_state(state);
     if !is_untouched(rest(whole, n)) {
         io::write_all(1, b" !");
     }
     io::write_all(1, b"\n");
-    d
 }
 
 fn read<'a>(
@@ -522,28 +502,27 @@ fn read<'a>(
     text: &'a [u8],
     renames: &[u32],
     office: &'a [u8],
-    d: desk_state::Desk,
+    state: &mut [u8; 649],
     c: Ask,
-) -> desk_state::Desk {
+) {
     let mut out = [LENT; MOST_ROOM];
     let room = at_most(c.room, MOST_ROOM);
-    let o = desk_exchange::read(
+    let answer = desk_exchange::read(
         groups,
         tracks,
         segments,
         text,
         renames,
         office,
-        d,
+        state,
         c.who,
         c.service,
         ground::wide_octet(c.octet),
         c.number,
         &mut out[0..room],
     );
-    let answer = o.answer;
     write_answer(answer);
-    report_lent(o, &out)
+    report_lent(answer, state, &out);
 }
 
 fn take<'a>(
@@ -553,24 +532,23 @@ fn take<'a>(
     text: &'a [u8],
     renames: &[u32],
     office: &'a [u8],
-    d: desk_state::Desk,
+    state: &mut [u8; 649],
     c: Ask,
-) -> desk_state::Desk {
+) {
     let mut out = [LENT; MOST_ROOM];
     let room = at_most(c.room, MOST_ROOM);
-    let o = desk_take::take(
+    let answer = desk_take::take(
         groups,
         tracks,
         segments,
         text,
         renames,
         office,
-        d,
+        state,
         &mut out[0..room],
     );
-    let answer = o.answer;
     write_taken(answer);
-    report_lent(o, &out)
+    report_lent(answer, state, &out);
 }
 
 // The title itself, as the one call hands it back, behind what the other says of it.
@@ -581,9 +559,9 @@ fn title<'a>(
     text: &'a [u8],
     renames: &[u32],
     office: &'a [u8],
-    d: desk_state::Desk,
+    state: &[u8; 649],
     c: Ask,
-) -> desk_state::Desk {
+) {
     let w = desk_title::which(
         groups,
         tracks,
@@ -591,7 +569,7 @@ fn title<'a>(
         text,
         renames,
         office,
-        d,
+        state,
         c.service,
     );
     let part = desk_title::title(
@@ -601,16 +579,15 @@ fn title<'a>(
         text,
         renames,
         office,
-        d,
+        state,
         c.service,
     );
     let answer = w.answer;
     let said = w.part;
     write_title(answer, said);
     write_octets(part);
-    write_state(d);
+    write_state(state);
     io::write_all(1, b"\n");
-    d
 }
 
 // What the manual's Goto comes to, the steps made, and where the player would be; or the refusal.
@@ -640,10 +617,10 @@ fn manual_goto(
     text: &[u8],
     renames: &[u32],
     office: &[u8],
-    d: desk_state::Desk,
+    state: &[u8; 649],
     c: Ask,
     words: &[u8],
-) -> desk_state::Desk {
+) {
     let s = desk_goto::manual_goto(
         groups,
         tracks,
@@ -651,7 +628,7 @@ fn manual_goto(
         text,
         renames,
         office,
-        d,
+        state,
         c.service,
         word(rest(words, 4)),
         c.number,
@@ -660,9 +637,8 @@ fn manual_goto(
     let answer = s.answer;
     let arrival = s.arrival;
     write_arrival(answer, arrival);
-    write_state(d);
+    write_state(state);
     io::write_all(1, b"\n");
-    d
 }
 
 // The player elsewhere, and nothing else of it altered.
@@ -838,19 +814,19 @@ fn damage(d: desk_state::Desk, who: u32, service: u32, part: u8, number: u32) ->
     e
 }
 
-fn damaged(d: desk_state::Desk, c: Ask) -> desk_state::Desk {
+fn damaged(state: &mut [u8; 649], c: Ask) {
+    let d = mcs_state::decode(state);
     let e = damage(d, c.who, c.service, c.octet, c.number);
+    mcs_state::encode(e, state);
     io::write_all(1, b"damaged");
-    write_state(e);
+    write_state(state);
     io::write_all(1, b"\n");
-    e
 }
 
-fn note(d: desk_state::Desk, words: &[u8]) -> desk_state::Desk {
+fn note(words: &[u8]) {
     io::write_all(1, b"# ");
     io::write_all(1, words);
     io::write_all(1, b"\n");
-    d
 }
 
 // An octet of a text as a count, 0 where the text ends before it.
@@ -876,14 +852,14 @@ fn start(
     text: &[u8],
     renames: &[u32],
     office: &[u8],
-    d: desk_state::Desk,
+    state: &mut [u8; 649],
     c: Ask,
     words: &[u8],
-) -> desk_state::Desk {
+) {
     let n = count_at(words, 0);
     let name = front(rest(words, 1), n);
     let other = rest(words, 1 + n);
-    let o = desk_console::start(
+    let answer = desk_console::start(
         groups,
         tracks,
         segments,
@@ -896,8 +872,9 @@ fn start(
         rest(other, 5),
         word(other),
         ground::octet_or_zero(other, 4),
+        state,
     );
-    report_start(o, d)
+    report(answer, state);
 }
 
 // The calls of the desk itself, and notes.
@@ -908,57 +885,83 @@ fn call_desk<'a>(
     text: &'a [u8],
     renames: &[u32],
     office: &'a [u8],
-    d: desk_state::Desk,
+    state: &mut [u8; 649],
     c: Ask,
     words: &[u8],
-) -> desk_state::Desk {
+) {
     let kind = c.kind;
     match kind {
-        1 => start(groups, tracks, segments, text, renames, office, d, c, words),
-        2 => report(desk_console::set_name(
-            groups,
-            tracks,
-            segments,
-            text,
-            renames,
-            office,
-            d,
-            c.service,
-            words,
-        )),
-        3 => report(desk_console::activate(
-            groups,
-            tracks,
-            segments,
-            text,
-            renames,
-            office,
-            d,
-            c.service,
-            catalogue_tables::GroupNo(c.number),
-        )),
-        4 => report(desk_console::deactivate(
-            groups,
-            tracks,
-            segments,
-            text,
-            renames,
-            office,
-            d,
-            c.service,
-        )),
-        5 => report(desk_console::advance(
-            groups,
-            tracks,
-            segments,
-            text,
-            renames,
-            office,
-            d,
-            c.service,
-            c.number,
-        )),
-        _ => note(d, words),
+        1 => {
+            start(
+                groups,
+                tracks,
+                segments,
+                text,
+                renames,
+                office,
+                state,
+                c,
+                words,
+            );
+        }
+        2 => {
+            let answer = desk_console::set_name(
+                groups,
+                tracks,
+                segments,
+                text,
+                renames,
+                office,
+                state,
+                c.service,
+                words,
+            );
+            report(answer, state);
+        }
+        3 => {
+            let answer = desk_console::activate(
+                groups,
+                tracks,
+                segments,
+                text,
+                renames,
+                office,
+                state,
+                c.service,
+                catalogue_tables::GroupNo(c.number),
+            );
+            report(answer, state);
+        }
+        4 => {
+            let answer = desk_console::deactivate(
+                groups,
+                tracks,
+                segments,
+                text,
+                renames,
+                office,
+                state,
+                c.service,
+            );
+            report(answer, state);
+        }
+        5 => {
+            let answer = desk_console::advance(
+                groups,
+                tracks,
+                segments,
+                text,
+                renames,
+                office,
+                state,
+                c.service,
+                c.number,
+            );
+            report(answer, state);
+        }
+        _ => {
+            note(words);
+        }
     }
 }
 
@@ -970,80 +973,121 @@ fn call_client<'a>(
     text: &'a [u8],
     renames: &[u32],
     office: &'a [u8],
-    d: desk_state::Desk,
+    state: &mut [u8; 649],
     c: Ask,
     words: &[u8],
-) -> desk_state::Desk {
+) {
     let kind = c.kind;
     let characteristic = ground::wide_octet(c.octet);
     match kind {
-        6 => report(desk_links::connect(
-            groups,
-            tracks,
-            segments,
-            text,
-            renames,
-            office,
-            d,
-            c.who,
-            c.number,
-            c.octet != 0,
-        )),
-        7 => report(desk_links::disconnect(
-            groups,
-            tracks,
-            segments,
-            text,
-            renames,
-            office,
-            d,
-            c.who,
-        )),
-        8 => report(desk_links::subscribe(
-            groups,
-            tracks,
-            segments,
-            text,
-            renames,
-            office,
-            d,
-            c.who,
-            c.service,
-            characteristic,
-        )),
-        9 => report(desk_links::unsubscribe(
-            groups,
-            tracks,
-            segments,
-            text,
-            renames,
-            office,
-            d,
-            c.who,
-            c.service,
-            characteristic,
-        )),
-        10 => read(groups, tracks, segments, text, renames, office, d, c),
-        11 => report(desk_exchange::write(
-            groups,
-            tracks,
-            segments,
-            text,
-            renames,
-            office,
-            d,
-            c.who,
-            c.service,
-            characteristic,
-            words,
-        )),
-        12 => take(groups, tracks, segments, text, renames, office, d, c),
-        15 => title(groups, tracks, segments, text, renames, office, d, c),
-        16 => manual_goto(groups, tracks, segments, text, renames, office, d, c, words),
-        _ => damaged(d, c),
+        6 => {
+            let answer = desk_links::connect(
+                groups,
+                tracks,
+                segments,
+                text,
+                renames,
+                office,
+                state,
+                c.who,
+                c.number,
+                c.octet != 0,
+            );
+            report(answer, state);
+        }
+        7 => {
+            let answer = desk_links::disconnect(
+                groups,
+                tracks,
+                segments,
+                text,
+                renames,
+                office,
+                state,
+                c.who,
+            );
+            report(answer, state);
+        }
+        8 => {
+            let answer = desk_links::subscribe(
+                groups,
+                tracks,
+                segments,
+                text,
+                renames,
+                office,
+                state,
+                c.who,
+                c.service,
+                characteristic,
+            );
+            report(answer, state);
+        }
+        9 => {
+            let answer = desk_links::unsubscribe(
+                groups,
+                tracks,
+                segments,
+                text,
+                renames,
+                office,
+                state,
+                c.who,
+                c.service,
+                characteristic,
+            );
+            report(answer, state);
+        }
+        10 => {
+            read(groups, tracks, segments, text, renames, office, state, c);
+        }
+        11 => {
+            let answer = desk_exchange::write(
+                groups,
+                tracks,
+                segments,
+                text,
+                renames,
+                office,
+                state,
+                c.who,
+                c.service,
+                characteristic,
+                words,
+            );
+            report(answer, state);
+        }
+        12 => {
+            take(groups, tracks, segments, text, renames, office, state, c);
+        }
+        15 => {
+            title(groups, tracks, segments, text, renames, office, state, c);
+        }
+        16 => {
+            manual_goto(
+                groups,
+                tracks,
+                segments,
+                text,
+                renames,
+                office,
+                state,
+                c,
+                words,
+            );
+        }
+        _ => {
+            damaged(state, c);
+        }
     }
 }
 
+// The state that a call left. It is lent as the whole array, of which the length is known however the call went.
+fn left(state: &[u8; 649]) -> desk_state::Desk {
+    mcs_state::decode(state)
+}
+
+// Makes a call on the octets of the state, as a caller from C does.
 fn call_with<'a>(
     groups: &[u32],
     tracks: &[u32],
@@ -1055,10 +1099,34 @@ fn call_with<'a>(
     c: Ask,
     words: &[u8],
 ) -> desk_state::Desk {
+    let mut state = [0u8; 649];
+    mcs_state::encode(d, &mut state);
     if c.kind < 6 {
-        return call_desk(groups, tracks, segments, text, renames, office, d, c, words);
+        call_desk(
+            groups,
+            tracks,
+            segments,
+            text,
+            renames,
+            office,
+            &mut state,
+            c,
+            words,
+        );
+    } else {
+        call_client(
+            groups,
+            tracks,
+            segments,
+            text,
+            renames,
+            office,
+            &mut state,
+            c,
+            words,
+        );
     }
-    call_client(groups, tracks, segments, text, renames, office, d, c, words)
+    left(&state)
 }
 
 // Fills the table with the little endian words of s.

@@ -1,12 +1,12 @@
--- A part of the front of a list. Assumes nothing.
+-- A part of a list, of the front of one, and of an empty one. Assumes nothing.
 use mathlib.Core.Path.{_≡_, sym, ap, _∙_}
-use mathlib.Core.List.{List}
+use mathlib.Core.List.{List, []}
 use mathlib.Core.Logic.{⊎-elim}
 use Prim.Native.Nat.{ℕ, _+_, _-_, _≤_, _<_, min}
 use native.Mathlib.Omega.{arith}
 use lib.ListN.{length, take, drop, length-take}
-use lib.Seq.{length-take-le, take-all, take-take, take-add, drop-at}
-use Rattle.ground.specs.Lists.{partFrom}
+use lib.Seq.{length-take-le, take-all, take-length, take-nil, drop-nil, take-take, take-add, drop-at}
+use Rattle.ground.specs.Lists.{filled, partFrom}
 use Rattle.ground.proofs.Cases.{le-or}
 
 module _ (xs : List ℕ) (len from : ℕ) (inside : from ≤ len) (held : len ≤ length xs) where
@@ -28,3 +28,17 @@ module _ (xs : List ℕ) (len from : ℕ) (inside : from ≤ len) (held : len �
       all h =
           let f : len - from ≡ n = omega arith in
           take-all most (take (len - from) (drop from xs)) (simp length-take (omega arith)) ∙ ap (λ (m : ℕ). take m (drop from xs)) f
+
+-- from a place of the whole list on, at most so many
+pub part-whole : (xs : List ℕ) (from most n : ℕ) → from ≤ length xs → n ≡ min most (length xs - from) → take (from + n - from) (drop from xs) ≡ partFrom from most xs
+part-whole xs from most n inside e =
+    let same : from + n - from ≡ n = omega arith in
+    ap (λ (m : ℕ). take m (drop from xs)) same
+    ∙ part-of xs (length xs) from inside (omega arith) most n e
+    ∙ ap (partFrom from most) (take-length xs)
+
+-- a part of no octets: none of them, and what they are put over stays
+pub nothing-put : (from most : ℕ) (old : List ℕ) → (0 ≡ length {A = ℕ} (partFrom from most [])) × (old ≡ filled (partFrom from most []) old)
+nothing-put from most old =
+    let none : partFrom from most [] ≡ [] = ap (take {A = ℕ} most) (drop-nil from) ∙ take-nil most in
+    (sym (ap length none), sym (ap (λ (part : List ℕ). filled part old) none))

@@ -1,3 +1,2 @@
--- The values of the characteristics, and a value on its way out.
+-- The values of the characteristics.
 pub mod Values
-pub mod Handing

@@ -15,8 +15,10 @@ use Rattle.desk_slots.specs.Characteristics.{writables, isIn}
 use Rattle.desk_client.specs.declared.Link.{Link}
 use Rattle.desk_client.specs.declared.Account.{Account}
 use Rattle.desk_client.specs.Client.{mostResults}
-use Rattle.desk_state.specs.declared.Service.{Service}
-use Rattle.desk_state.specs.Desk.{serviceAt, accountIn}
+use Rattle.player_state.specs.declared.Player.{Player}
+use Rattle.desk_state.specs.declared.Desk.{Desk}
+use Rattle.desk_state.specs.Desk.{serviceAt}
+use Rattle.mcs_state.specs.Codec.{deskOf}
 use Rattle.desk_replies.specs.Replies.{Gated, fronted, ofCaller, ofCharacteristic, linkOf, accountOf}
 use Rattle.desk_replies.proofs.Gates.{says, none, stays-shut, stays-open, fit}
 use Rattle.desk_exchange.specs.Write.{lengthRight, allowed}
@@ -27,18 +29,21 @@ use Rattle.desk_exchange.proofs.write_gate.Tie as tie
 abbrev lent : tie.Start → Lent
 lent s = lending (s .args .groups .now) (s .args .tracks .now) (s .args .segments .now) (s .args .text .now) (s .args .renames .now) (s .args .office .now)
 
+abbrev desk : tie.Start → Desk
+desk s = deskOf (s .args .state .now)
+
 abbrev own : tie.Start → Link
-own s = linkOf (s .args .d) (s .args .who)
+own s = linkOf (desk s) (s .args .who)
 
 -- the rows that the gate asked, and those behind them
 abbrev mine : tie.Start → List Row
 mine s = ofCaller (s .args .who) (s .args .service) (own s .connected) ++ ofCharacteristic (own s .encrypted) (s .args .characteristic) 0x03 (isIn writables (s .args .characteristic))
 
 abbrev asked : tie.Start → List Row
-asked s = fronted (lent s) false (s .args .d) ++ mine s
+asked s = fronted (lent s) false (desk s) ++ mine s
 
-abbrev may : tie.Start → Service → Bool
-may s t = allowed (s .args .groups .now) (t .player) (s .args .characteristic) (s .args .value .now)
+abbrev may : tie.Start → Player → Bool
+may s p = allowed (s .args .groups .now) p (s .args .characteristic) (s .args .value .now)
 
 abbrev tooMany : tie.Start → ℕ → Bool
 tooMany s waiting = eqb (s .args .characteristic) 18 && leb mostResults waiting
@@ -46,12 +51,12 @@ tooMany s waiting = eqb (s .args .characteristic) 18 && leb mostResults waiting
 abbrev behind : tie.Start → List Row
 behind s =
     row 0x0D (not (lengthRight (s .args .characteristic) (s .args .value .now)))
-    ∷ row 0x13 (not (may s (serviceAt (s .args .d) (s .args .service))))
-    ∷ row 0x11 (tooMany s (accountOf (s .args .d) (s .args .who) (s .args .service) .waiting))
+    ∷ row 0x13 (not (may s (serviceAt (desk s) (s .args .service) .player)))
+    ∷ row 0x11 (tooMany s (accountOf (desk s) (s .args .who) (s .args .service) .waiting))
     ∷ []
 
 abbrev begun : tie.After-characteristic-gate → tie.Start
-begun g = g .before .before .before .before .before .before .before .before .before
+begun g = g .before .before .before .before .before .before .before .before .before .before
 
 abbrev start : tie.Else1 → tie.Start
 start e = begun (e .before .before)
@@ -60,7 +65,7 @@ gated : (g : tie.After-characteristic-gate) → Gated (asked (begun g)) (g .char
 gated g =
     let s = begun g in
     subst
-    (λ (writable : Bool). Gated (fronted (lent s) false (s .args .d) ++ (ofCaller (s .args .who) (s .args .service) (own s .connected) ++ ofCharacteristic (own s .encrypted) (s .args .characteristic) 0x03 writable)) (g .characteristic-gate .result))
+    (λ (writable : Bool). Gated (fronted (lent s) false (desk s) ++ (ofCaller (s .args .who) (s .args .service) (own s .connected) ++ ofCharacteristic (own s .encrypted) (s .args .characteristic) 0x03 writable)) (g .characteristic-gate .result))
     (g .before .may-write .ensures) (g .characteristic-gate .ensures)
 
 passed : (e : tie.Else1) → NoneApplies (asked (start e))
@@ -68,7 +73,7 @@ passed e = none (asked (start e)) (e .before .before .characteristic-gate .resul
 
 -- from the test of the value, the way back to the gate's
 abbrev reached : tie.After-is-allowed → tie.Else1
-reached w = w .before .before .before .before .before
+reached w = w .before .before .before .before
 
 -- the length, the value and the number of results, as the code and as the definition read them
 long : (l : tie.After-length-right)
@@ -78,16 +83,13 @@ long l = sym (ap not (l .length-right .ensures))
 
 may-is : (w : tie.After-is-allowed)
     → let s = start (reached w) in
-    not (w .is-allowed .result) ≡ not (may s (serviceAt (s .args .d) (s .args .service)))
-may-is w = ap not (w .is-allowed .ensures ∙ ap (may (start (reached w))) (w .before .before .service-at .ensures))
+    not (w .is-allowed .result) ≡ not (may s (serviceAt (desk s) (s .args .service) .player))
+may-is w = ap not (w .is-allowed .ensures ∙ ap (may (start (reached w))) (w .before .player-at .ensures))
 
-many-is : (a : tie.After-account-in)
+many-is : (a : tie.After-account-at)
     → let s = start (reached (a .before .before)) in
-    tooMany s (a .account-in .result .waiting) ≡ tooMany s (accountOf (s .args .d) (s .args .who) (s .args .service) .waiting)
-many-is a =
-    let w = a .before .before in
-    let s = start (reached w) in
-    ap (λ (r : Account). tooMany s (r .waiting)) (a .account-in .ensures ∙ ap (λ (t : Service). accountIn t (s .args .who)) (w .before .before .service-at .ensures))
+    tooMany s (a .account-at .result .waiting) ≡ tooMany s (accountOf (desk s) (s .args .who) (s .args .service) .waiting)
+many-is a = ap (λ (r : Account). tooMany (start (reached (a .before .before))) (r .waiting)) (a .account-at .ensures)
 
 may-write-requires : tie.Need-may-write-requires
 may-write-requires c κs = search needs
@@ -115,16 +117,16 @@ returns-2 c =
     says (asked s ++ behind s) (c .gate-shut .result) (refused 0x0D) (c .gate-shut .ensures .0) (c .gate-shut .ensures .1)
     (beyond (asked s) (behind s) (passed e) (here _ (long l ∙ c .before .if2 .taken) refl))
 
-service-at-requires : tie.Need-service-at-requires
-service-at-requires c κs = leb-false _ _ (passed (c .before .before) .1 .1 .1 .1 .1 .0)
+player-at-requires : tie.Need-player-at-requires
+player-at-requires c κs = (search needs, leb-false _ _ (passed (c .before .before) .1 .1 .1 .1 .1 .0))
 
 is-allowed-requires : tie.Need-is-allowed-requires
 is-allowed-requires c κs =
-    let test2 = c .before .before in
+    let test2 = c .before in
     let l = test2 .before in
     let e = l .before in
     let s = start e in
-    (sym (l .length-right .ensures) ∙ not-false _ (test2 .if2 .left), few-groups (catalogueOf (lent s)) (fit-right (lent s) (fit (lent s) false (s .args .d) (mine s) (passed e))))
+    (sym (l .length-right .ensures) ∙ not-false _ (test2 .if2 .left), few-groups (catalogueOf (lent s)) (fit-right (lent s) (fit (lent s) false (desk s) (mine s) (passed e))))
 
 gate-shut-requires-2 : tie.Need-gate-shut-requires-2
 gate-shut-requires-2 c κs = search needs
@@ -132,14 +134,17 @@ gate-shut-requires-2 c κs = search needs
 returns-3 : tie.Need-returns-3
 returns-3 c =
     let w = c .before .before in
-    let test2 = w .before .before .before in
+    let test2 = w .before .before in
     let e = reached w in
     let s = start e in
     says (asked s ++ behind s) (c .gate-shut2 .result) (refused 0x13) (c .gate-shut2 .ensures .0) (c .gate-shut2 .ensures .1)
     (beyond (asked s) (behind s) (passed e) (past _ (long (test2 .before) ∙ test2 .if2 .left) (here _ (sym (may-is w) ∙ c .before .if3 .taken) refl)))
 
-account-in-requires : tie.Need-account-in-requires
-account-in-requires c κs = leb-false _ _ (passed (reached (c .before)) .1 .1 .1 .1 .0)
+account-at-requires : tie.Need-account-at-requires
+account-at-requires c κs =
+    let e = reached (c .before) in
+    let n = passed e in
+    (start e .pre, (leb-false _ _ (n .1 .1 .1 .1 .1 .0), leb-false _ _ (n .1 .1 .1 .1 .0)))
 
 gate-shut-requires-3 : tie.Need-gate-shut-requires-3
 gate-shut-requires-3 c κs = search needs
@@ -149,7 +154,7 @@ returns-4 c =
     let a = c .before .before .before in
     let test3 = a .before in
     let w = test3 .before in
-    let test2 = w .before .before .before in
+    let test2 = w .before .before in
     let e = reached w in
     let s = start e in
     says (asked s ++ behind s) (c .gate-shut3 .result) (refused 0x11) (c .gate-shut3 .ensures .0) (c .gate-shut3 .ensures .1)
@@ -161,7 +166,7 @@ returns-5 c =
     let a = c .before .before in
     let test3 = a .before in
     let w = test3 .before in
-    let test2 = w .before .before .before in
+    let test2 = w .before .before in
     let e = reached w in
     let g = e .before .before in
     let s = begun g in
@@ -178,11 +183,11 @@ write-gate-spec =
     length-right-requires
     gate-shut-requires
     returns-2
-    service-at-requires
+    player-at-requires
     is-allowed-requires
     gate-shut-requires-2
     returns-3
-    account-in-requires
+    account-at-requires
     gate-shut-requires-3
     returns-4
     returns-5)

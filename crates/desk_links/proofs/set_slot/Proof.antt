@@ -1,5 +1,5 @@
 -- `desk_links::set_slot`: 200, 201, 202, 219, 203, 0x01, 209, 0x0F, then the caller's account with the service with or without the slot.
-use mathlib.Core.Path.{ap, subst, _∙_}
+use mathlib.Core.Path.{refl, ap, subst, _∙_}
 use mathlib.Core.Bool.{false}
 use mathlib.Core.List.{List, [], _++_}
 use Prim.Native.Nat.{ℕ, _<_}
@@ -11,10 +11,12 @@ use Rattle.ground.proofs.Rows.{NoneApplies, through}
 use Rattle.catalogue_titles.specs.Lent.{Lent, lending}
 use Rattle.desk_slots.specs.Slots.{slotCount}
 use Rattle.desk_client.specs.Duties.{joined, dropped}
-use Rattle.desk_state.specs.declared.Service.{Service}
-use Rattle.desk_state.specs.Desk.{accountIn, withAccount, withService}
+use Rattle.desk_client.specs.declared.Account.{Account}
+use Rattle.desk_state.specs.Desk.{serviceAt, withAccount, withService}
+use Rattle.mcs_state.specs.Codec.{deskOf}
+use Rattle.desk_replies.specs.declared.Answer.the-variants.{Done}
 use Rattle.desk_replies.specs.Replies.{Gated, fronted, ofCaller, ofCharacteristic, linkOf}
-use Rattle.desk_replies.proofs.Gates.{refuses, none}
+use Rattle.desk_replies.proofs.Gates.{refuses, none, refused-so, accepted-so, plain-so, shut-gate}
 use Rattle.desk_links.specs.Links.{slotRows, slotCall}
 use borrow.Author.Needs.{needs}
 use Rattle.desk_links.proofs.set_slot.Statement.{statement}
@@ -23,30 +25,40 @@ use Rattle.desk_links.proofs.set_slot.Tie as tie
 abbrev lent : tie.Start → Lent
 lent s = lending (s .args .groups .now) (s .args .tracks .now) (s .args .segments .now) (s .args .text .now) (s .args .renames .now) (s .args .office .now)
 
+abbrev own : tie.Start → List Row
+own s =
+    let l = linkOf (deskOf (s .args .state .now)) (s .args .who) in
+    slotRows (s .args .who) (s .args .service) (l .connected) (l .encrypted) (s .args .characteristic)
+
 abbrev rows : tie.Start → List Row
-rows s =
-    fronted (lent s) false (s .args .d)
-    ++ slotRows (s .args .who) (s .args .service) (linkOf (s .args .d) (s .args .who) .connected) (linkOf (s .args .d) (s .args .who) .encrypted) (s .args .characteristic)
+rows s = fronted (lent s) false (deskOf (s .args .state .now)) ++ own s
 
 -- the gate was asked whether there is a slot
-gated : (g : tie.After-characteristic-gate) → Gated (rows (g .before .before .before .before .before .before .before .before)) (g .characteristic-gate .result)
+gated : (g : tie.After-characteristic-gate) → Gated (rows (g .before .before .before .before .before .before .before .before .before .before)) (g .characteristic-gate .result)
 gated g =
-    let s = g .before .before .before .before .before .before .before .before in
-    let l = linkOf (s .args .d) (s .args .who) in
+    let s = g .before .before .before .before .before .before .before .before .before .before in
+    let l = linkOf (deskOf (s .args .state .now)) (s .args .who) in
     subst
-    (λ (x : ℕ). Gated (fronted (lent s) false (s .args .d) ++ (ofCaller (s .args .who) (s .args .service) (l .connected) ++ ofCharacteristic (l .encrypted) (s .args .characteristic) 209 (ltb x slotCount))) (g .characteristic-gate .result))
-    (g .before .slot-of .ensures .1) (g .characteristic-gate .ensures)
+    (λ (x : ℕ). Gated (fronted (lent s) false (deskOf (s .args .state .now)) ++ (ofCaller (s .args .who) (s .args .service) (l .connected) ++ ofCharacteristic (l .encrypted) (s .args .characteristic) 209 (ltb x slotCount))) (g .characteristic-gate .result))
+    (g .before .before .before .slot-of .ensures .1) (g .characteristic-gate .ensures)
+
+abbrev gate-begun : tie.After-characteristic-gate → tie.Start
+gate-begun g = g .before .before .before .before .before .before .before .before .before .before
 
 abbrev begun : tie.Else1 → tie.Start
-begun e = e .before .before .before .before .before .before .before .before .before .before
+begun e = gate-begun (e .before .before)
 
 passed : (e : tie.Else1) → NoneApplies (rows (begun e))
 passed e = let g = e .before .before in none (rows (begun e)) (g .characteristic-gate .result) (gated g) (not-false _ (e .if1 .left))
 
-inside : (e : tie.Else1) → e .before .before .before .slot-of .result < slotCount
+-- from the gate's test, the way back to the slot
+abbrev slotted : tie.Else1 → tie.After-slot-of
+slotted e = e .before .before .before .before .before
+
+inside : (e : tie.Else1) → slotted e .slot-of .result < slotCount
 inside e =
     ltb-true _ _
-    (ap (λ (x : ℕ). ltb x slotCount) (e .before .before .before .slot-of .ensures .1) ∙ not-false _ (passed e .1 .1 .1 .1 .1 .1 .1 .1 .0))
+    (ap (λ (x : ℕ). ltb x slotCount) (slotted e .slot-of .ensures .1) ∙ not-false _ (passed e .1 .1 .1 .1 .1 .1 .1 .1 .0))
 
 slot-of-requires : tie.Need-slot-of-requires
 slot-of-requires c κs = search needs
@@ -54,50 +66,53 @@ slot-of-requires c κs = search needs
 characteristic-gate-requires : tie.Need-characteristic-gate-requires
 characteristic-gate-requires c κs = search needs
 
-shut-requires : tie.Need-shut-requires
-shut-requires c κs = search needs
-
 returns : tie.Need-returns
 unfolding slotCall
 returns c =
-    let g = c .before .before .before in
-    let s = g .before .before .before .before .before .before .before .before in
-    c .shut .ensures ∙ refuses (rows s) (g .characteristic-gate .result) (gated g) (not-true _ (c .before .if1 .taken)) (keeping (s .args .d)) [] _
+    let g = c .before .before in
+    let s = gate-begun g in
+    let shut = not-true _ (c .if1 .taken) in
+    refused-so _ (s .args .state .now) _
+    (refuses (rows s) (g .characteristic-gate .result) (gated g) shut (keeping (deskOf (s .args .state .now))) [] _)
+    (shut-gate (rows s) (g .characteristic-gate .result) (gated g) shut)
 
-service-at-requires : tie.Need-service-at-requires
-service-at-requires c κs = leb-false _ _ (passed c .1 .1 .1 .1 .1 .0)
-
-account-in-requires : tie.Need-account-in-requires
-account-in-requires c κs = leb-false _ _ (passed (c .before) .1 .1 .1 .1 .0)
+account-at-requires : tie.Need-account-at-requires
+account-at-requires c κs =
+    let n = passed (c .before .before) in
+    (search needs, (leb-false _ _ (n .1 .1 .1 .1 .1 .0), leb-false _ _ (n .1 .1 .1 .1 .0)))
 
 with-slot-requires : tie.Need-with-slot-requires
-with-slot-requires c κs = inside (c .before .before)
+with-slot-requires c κs = inside (c .before .before .before)
 
-with-account-requires : tie.Need-with-account-requires
-with-account-requires c κs = leb-false _ _ (passed (c .before .before .before) .1 .1 .1 .1 .0)
+are-octets-requires : tie.Need-are-octets-requires
+are-octets-requires c κs = search needs
 
-with-service-requires : tie.Need-with-service-requires
-with-service-requires c κs = leb-false _ _ (passed (c .before .before .before .before) .1 .1 .1 .1 .1 .0)
-
-left-requires : tie.Need-left-requires
-left-requires c κs = search needs
+put-account-requires : tie.Need-put-account-requires
+put-account-requires c κs =
+    let o = c .before in
+    let e = o .before .before .before .before .before .before .before in
+    let s = begun e in
+    let n = passed e in (
+      search needs,
+      (
+        plain-so (lent s) false (s .args .state .now) (own s) n (search needs) (o .are-octets .ensures),
+        (leb-false _ _ (n .1 .1 .1 .1 .1 .0), leb-false _ _ (n .1 .1 .1 .1 .0)),
+      ),
+    )
 
 returns-2 : tie.Need-returns-2
 unfolding slotCall
 returns-2 c =
-    let t = c .before .before in
-    let w = t .before in
-    let v = w .before .before in
-    let e = v .before in
+    let w = c .before .before .before .before .before in
+    let v = w .before in
+    let e = v .before .before .before in
     let s = begun e in
-    let own = v .service-at .ensures in
-    let account = w .before .account-in .ensures ∙ ap (λ (x : Service). accountIn x (s .args .who)) own in
-    let next = w .with-slot .ensures ∙ (λ k. pick (s .args .on) joined dropped (e .before .before .before .slot-of .ensures .1 k) (account k)) in
-    through (keeping (s .args .d)) (rows s) (passed e)
-    (c .left .ensures
-    ∙ ap (leaves (granted []))
-    (c .before .with-service .ensures
-    ∙ ap (λ (x : Service). withService (s .args .service) x (s .args .d)) (t .with-account .ensures ∙ (λ k. withAccount (s .args .who) (next k) (own k)))))
+    let d = deskOf (s .args .state .now) in
+    let next = w .with-slot .ensures ∙ (λ k. pick (s .args .on) joined dropped (slotted e .slot-of .ensures .1 k) (v .account-at .ensures k)) in
+    accepted-so _ (s .args .state .now) Done _ _
+    (through (keeping d) (rows s) (passed e)
+    (ap (λ (x : Account). leaves (granted []) (withService (s .args .service) (withAccount (s .args .who) x (serviceAt d (s .args .service))) d)) next))
+    refl (c .put-account .ensures)
 
 pub set-slot-spec : {M : Type 1} → statement M
 set-slot-spec =
@@ -105,12 +120,9 @@ set-slot-spec =
     (tie.spec
     slot-of-requires
     characteristic-gate-requires
-    shut-requires
     returns
-    service-at-requires
-    account-in-requires
+    account-at-requires
     with-slot-requires
-    with-account-requires
-    with-service-requires
-    left-requires
+    are-octets-requires
+    put-account-requires
     returns-2)

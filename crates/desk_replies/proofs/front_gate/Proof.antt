@@ -5,6 +5,7 @@ use mathlib.Core.List.{List, [], _∷_}
 use Rattle.ground.specs.Refusals.{refused, Row}
 use Rattle.ground.proofs.Cases.{past, here}
 use Rattle.catalogue_titles.specs.Lent.{Lent, lending}
+use Rattle.mcs_state.specs.Codec.{deskOf}
 use Rattle.desk_replies.specs.Replies.{stateRow, stateRight, lentRows, fronted}
 use Rattle.desk_replies.proofs.Gates.{says, none, stays-shut, stays-open}
 use borrow.Author.Tests.{not-true, not-false}
@@ -19,7 +20,7 @@ abbrev rows : tie.Start → List Row
 rows s = lentRows (lent s) (s .args .small)
 
 abbrev last : tie.Start → List Row
-last s = stateRow (stateRight (lent s) (s .args .d)) ∷ []
+last s = stateRow (stateRight (lent s) (deskOf (s .args .state .now))) ∷ []
 
 lent-gate-requires : tie.Need-lent-gate-requires
 lent-gate-requires c κs = search needs
@@ -27,7 +28,7 @@ lent-gate-requires c κs = search needs
 returns : tie.Need-returns
 returns c =
     let g = c .before .before in
-    let s = g .before .before .before .before .before .before .before in
+    let s = g .before .before .before .before .before .before .before .before in
     stays-shut (rows s) (g .lent-gate .result) (g .lent-gate .ensures) (not-true _ (c .if1 .taken)) (last s)
 
 desk-right-requires : tie.Need-desk-right-requires
@@ -36,7 +37,7 @@ desk-right-requires c κs = search needs
 returns-2 : tie.Need-returns-2
 returns-2 c =
     let g = c .before .before .before .before in
-    let s = g .before .before .before .before .before .before .before in
+    let s = g .before .before .before .before .before .before .before .before in
     stays-open (rows s) (g .lent-gate .result) (g .lent-gate .ensures) (not-false _ (c .before .before .if1 .left)) (last s) (ap not (sym (c .before .desk-right .ensures) ∙ c .if2 .taken), tt)
 
 gate-shut-requires : tie.Need-gate-shut-requires
@@ -46,9 +47,9 @@ returns-3 : tie.Need-returns-3
 returns-3 c =
     let e = c .before .before .before in
     let g = e .before .before in
-    let s = g .before .before .before .before .before .before .before in
+    let s = g .before .before .before .before .before .before .before .before in
     let n = none (rows s) (g .lent-gate .result) (g .lent-gate .ensures) (not-false _ (e .if1 .left)) in
-    says (fronted (lent s) (s .args .small) (s .args .d)) (c .gate-shut .result) (refused 201) (c .gate-shut .ensures .0) (c .gate-shut .ensures .1)
+    says (fronted (lent s) (s .args .small) (deskOf (s .args .state .now))) (c .gate-shut .result) (refused 201) (c .gate-shut .ensures .0) (c .gate-shut .ensures .1)
     (past _ (n .0) (past _ (n .1 .0) (past _ (n .1 .1 .0) (here _ (ap not (sym (c .before .before .desk-right .ensures) ∙ c .before .if2 .left)) refl))))
 
 pub front-gate-spec : {M : Type 1} → statement M

@@ -2,12 +2,10 @@
 use mathlib.Core.Path.{_≡_, sym, ap, _∙_, subst}
 use mathlib.Core.Bool.{true}
 use mathlib.Core.List.{List, [], _∷_}
-use Prim.Native.Nat.{ℕ, _-_, _<_, _≤_}
+use Prim.Native.Nat.{ℕ, _<_, _≤_}
 use native.Mathlib.Omega.{arith}
-use lib.ListN.{length, take, drop, replicate, getD}
-use lib.Seq.{take-append-seam}
+use lib.ListN.{length, getD}
 use Rattle.ground.specs.Cases.{has}
-use Rattle.ground.specs.Limits.{mostTitle}
 use Rattle.ground.specs.Lists.{filled, partFrom}
 use Rattle.catalogue_titles.specs.Lent.{Lent, lending, catalogueOf}
 use Rattle.catalogue_titles.proofs.Laws.{fit-right}
@@ -16,8 +14,7 @@ use Rattle.desk_slots.specs.Round.{next}
 use Rattle.player_state.specs.declared.Player.{Player}
 use Rattle.player_check.specs.Standing.{playerRule}
 use Rattle.player_values.specs.Values.{source, valueOf}
-use Rattle.player_values.specs.declared.Held.{Held}
-use Rattle.player_values.proofs.Fits.{player-sits, name-short, title-fits, value-fits}
+use Rattle.player_values.proofs.Fits.{player-sits, name-short, title-fits}
 use Rattle.desk_client.specs.Client.{isControl, blankEntry, accountWith}
 use Rattle.desk_client.specs.Duties.{passedOn}
 use Rattle.desk_client.proofs.Rule.{client-link, mtu-least, mark-within}
@@ -136,50 +133,42 @@ mul-p c = search needs
 array-copy-out-p : tie.Need-array-copy-out-p
 array-copy-out-p c = search needs
 
-hold-requires : tie.Need-hold-requires
-hold-requires c κs =
-    let v = c .before .before .before in
-    let s = begun v in (
-      player-sits (catalogueOf (lent s)) (fit-right (lent s) (s .pre .0)) (of v) (stands v),
-      (name-short (catalogueOf (lent s)) (fit-right (lent s) (s .pre .0)) (of v) (stands v), title-fits (lent s) (s .pre .0) (of v) (stands v)),
-    )
-
 sub-wide-word : tie.Need-sub-wide-word
 sub-wide-word c =
-    omega (arith, least (begun (c .before .before .before .before .before)))
+    omega (arith, least (begun (c .before .before .before .before)))
 
 wide-word-requires : tie.Need-wide-word-requires
 wide-word-requires c κs = search needs
 
-hand-requires : tie.Need-hand-requires
-hand-requires c κs =
-    let h = c .before .before .before in
-    let v = h .before .before .before .before in
+value-requires : tie.Need-value-requires
+value-requires c κs =
+    let v = c .before .before .before .before .before .before in
     let s = begun v in
-    let held = ap (λ (x : Held). x .len) (h .hold .ensures) in
-    (s .pre .1 .1 .2, (omega arith, omega (arith, held, value-fits (lent s) (s .pre .0) (of v) (stands v) (v .before .characteristic-of .result))))
+    let right = fit-right (lent s) (s .pre .0) in (
+      s .pre .1 .1 .2,
+      (
+        player-sits (catalogueOf (lent s)) right (of v) (stands v),
+        (name-short (catalogueOf (lent s)) right (of v) (stands v), (title-fits (lent s) (s .pre .0) (of v) (stands v), omega arith)),
+      ),
+    )
 
 same-length-2 : tie.Need-same-length-2
 same-length-2 c = search needs
 
 returns-2 : tie.Need-returns-2
 returns-2 c =
-    let hand = c .before .before in
-    let wide = hand .before .before in
-    let held = wide .before .before in
-    let left = held .before .before in
+    let put = c .before .before in
+    let wide = put .before .before in
+    let left = wide .before .before .before in
     let v = left .before .before in
     let s = begun v in
-    let hold = held .hold .ensures in
     let most = wide .wide-word .ensures .0 in
     let from = source (s .args .groups .now) (s .args .tracks .now) (s .args .text .now) (s .args .renames .now) (s .args .office .now) in
-    let value = valueOf from (of v) (v .before .characteristic-of .result) in
-    let octets : partFrom 0 (wide .wide-word .result) (take (held .hold .result .len) (held .hold .result .octets)) ≡ handedOctets (lent s) (s .args .t7) (s .args .c) =
-    (λ k. partFrom 0 (most k) (take (hold k .len) (hold k .octets)))
-    ∙ ap (take (s .args .c .link .mtu - 3)) (take-append-seam value (drop (length value) (replicate mostTitle 0)) ∙ (λ k. valueOf from (playerAt (s .args .t7) (service v k)) (number v k)))
+    let octets : partFrom 0 (wide .wide-word .result) (valueOf from (of v) (v .before .characteristic-of .result)) ≡ handedOctets (lent s) (s .args .t7) (s .args .c) =
+    (λ k. partFrom 0 (most k) (valueOf from (playerAt (s .args .t7) (service v k)) (number v k)))
     ∙ value-handed (lent s) (s .args .t7) (s .args .c) (sym (control (left .before)) ∙ left .if1 .left) in (
-      said v (hand .hand .result) (hand .hand .ensures .0 ∙ ap length octets),
-      hand .hand .ensures .1 ∙ ap (λ (front : List ℕ). filled front (s .args .out .now)) octets,
+      said v (put .value .result) (put .value .ensures .0 ∙ ap length octets),
+      put .value .ensures .1 ∙ ap (λ (front : List ℕ). filled front (s .args .out .now)) octets,
     )
 
 pub hand-out-spec : {M : Type 1} → statement M
@@ -203,9 +192,8 @@ hand-out-spec =
     returns
     mul-p
     array-copy-out-p
-    hold-requires
     sub-wide-word
     wide-word-requires
-    hand-requires
+    value-requires
     same-length-2
     returns-2)

@@ -1,17 +1,17 @@
 -- `desk_take::players_of`: the player of each service.
-use mathlib.Core.Path.{refl}
+use mathlib.Core.List.{[], _∷_}
 use borrow.Author.Needs.{needs}
 use Rattle.desk_take.proofs.players_of.Statement.{statement}
 use Rattle.desk_take.proofs.players_of.Tie as tie
 
-array-copy-out-generic : tie.Need-array-copy-out-generic
-array-copy-out-generic c = search needs
+player-at-requires : tie.Need-player-at-requires
+player-at-requires c κs = search needs
 
-array-copy-out-named : tie.Need-array-copy-out-named
-array-copy-out-named c = search needs
+player-at-requires-2 : tie.Need-player-at-requires-2
+player-at-requires-2 c κs = search needs
 
 returns : tie.Need-returns
-returns c = refl
+returns c = λ k. c .before .player-at .ensures k ∷ c .player-at2 .ensures k ∷ []
 
 pub players-of-spec : {M : Type 1} → statement M
-players-of-spec = tie.close (tie.spec array-copy-out-generic array-copy-out-named returns)
+players-of-spec = tie.close (tie.spec player-at-requires player-at-requires-2 returns)

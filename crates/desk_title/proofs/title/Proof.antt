@@ -5,6 +5,7 @@ use Rattle.ground.specs.Refusals.{Left}
 use Rattle.catalogue_titles.specs.declared.Part.{Part}
 use Rattle.catalogue_titles.specs.Titles.{Inside, IsPart}
 use Rattle.catalogue_titles.specs.Lent.{Lent, lending}
+use Rattle.mcs_state.specs.Codec.{deskOf}
 use Rattle.desk_title.proofs.Lying.{title-inside}
 use borrow.Author.Needs.{needs}
 use Rattle.desk_title.proofs.title.Statement.{statement}
@@ -26,7 +27,7 @@ returns c =
     let a = s .args in
     let is = ap (λ (l : Left Part). l .state) (w .which .ensures) in
     subst (λ (part : Part). IsPart part (a .text) (a .office) (c .cut .result)) is
-    (c .cut .ensures .1 (subst (λ (part : Part). Inside part (length (a .text .now)) (length (a .office .now))) (sym is) (title-inside (lent s) (a .d) (a .service))))
+    (c .cut .ensures .1 (subst (λ (part : Part). Inside part (length (a .text .now)) (length (a .office .now))) (sym is) (title-inside (lent s) (deskOf (a .state .now)) (a .service))))
 
 pub title-spec : {M : Type 1} → statement M
 title-spec = tie.close (tie.spec which-requires cut-requires returns)

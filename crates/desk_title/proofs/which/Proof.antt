@@ -7,7 +7,7 @@ use Rattle.ground.proofs.Rows.{NoneApplies, through}
 use Rattle.catalogue_titles.specs.Titles.{front}
 use Rattle.catalogue_titles.specs.Lent.{Lent, lending}
 use Rattle.player_values.specs.Values.{titlePart}
-use Rattle.desk_state.specs.declared.Service.{Service}
+use Rattle.mcs_state.specs.Codec.{deskOf}
 use Rattle.desk_replies.specs.Replies.{onService, saidOf}
 use Rattle.desk_replies.proofs.Gates.{refuses, none}
 use Rattle.desk_title.specs.Title.{titleCall}
@@ -19,10 +19,10 @@ abbrev lent : tie.Start → Lent
 lent s = lending (s .args .groups .now) (s .args .tracks .now) (s .args .segments .now) (s .args .text .now) (s .args .renames .now) (s .args .office .now)
 
 abbrev begun : tie.After-service-gate → tie.Start
-begun g = g .before .before .before .before .before .before .before
+begun g = g .before .before .before .before .before .before .before .before
 
 abbrev rows : tie.Start → List Row
-rows s = onService (lent s) (s .args .d) (s .args .service)
+rows s = onService (lent s) (deskOf (s .args .state .now)) (s .args .service)
 
 passed : (e : tie.Else1) → NoneApplies (rows (begun (e .before .before)))
 passed e = let g = e .before .before in none (rows (begun g)) (g .service-gate .result) (g .service-gate .ensures) (not-false _ (e .if1 .left))
@@ -41,8 +41,8 @@ returns c =
     ap (leaves (saidOf (g .service-gate .result .answer))) (c .front-part .ensures)
     ∙ refuses (rows s) (g .service-gate .result) (g .service-gate .ensures) (not-true _ (c .before .if1 .taken)) (keeping front) [] _
 
-service-at-requires : tie.Need-service-at-requires
-service-at-requires c κs = leb-false _ _ (passed c .1 .1 .1 .1 .0)
+player-at-requires : tie.Need-player-at-requires
+player-at-requires c κs = (search needs, leb-false _ _ (passed (c .before) .1 .1 .1 .1 .0))
 
 title-part-requires : tie.Need-title-part-requires
 title-part-requires c κs = search needs
@@ -50,11 +50,11 @@ title-part-requires c κs = search needs
 returns-2 : tie.Need-returns-2
 unfolding titleCall
 returns-2 c =
-    let v = c .before .before in
-    let e = v .before in
+    let v = c .before in
+    let e = v .before .before in
     let s = begun (e .before .before) in
     through (keeping front) (rows s) (passed e)
-    (ap (leaves (granted [])) (c .title-part .ensures ∙ ap (λ (t : Service). titlePart (s .args .tracks .now) (s .args .renames .now) (t .player)) (v .service-at .ensures)))
+    (ap (leaves (granted [])) (c .title-part .ensures ∙ ap (titlePart (s .args .tracks .now) (s .args .renames .now)) (v .player-at .ensures)))
 
 pub which-spec : {M : Type 1} → statement M
 which-spec =
@@ -63,6 +63,6 @@ which-spec =
     service-gate-requires
     front-part-requires
     returns
-    service-at-requires
+    player-at-requires
     title-part-requires
     returns-2)

@@ -1,40 +1,18 @@
--- `mcs::mcs_activate`: the state read out, `desk_console::activate`, then its end.
-use mathlib.Core.Path.{_≡_, ap, _∙_}
-use Rattle.catalogue_titles.specs.Lent.{Lent, lending}
-use Rattle.desk_state.specs.declared.Desk.{Desk}
-use Rattle.desk_replies.specs.Replies.{leftBy}
-use Rattle.desk_console.specs.Console.{activateCall}
-use Rattle.mcs_state.specs.Codec.{deskOf}
-use Rattle.mcs.proofs.Leaving.{follow, small-left}
+-- `mcs::mcs_activate`: `desk_console::activate`, then what C is told.
+use Rattle.mcs.proofs.Leaving.{ends, small-said}
 use Rattle.mcs.proofs.Short.{activate-words}
 use borrow.Author.Needs.{needs}
 use Rattle.mcs.proofs.mcs_activate.Statement.{statement}
 use Rattle.mcs.proofs.mcs_activate.Tie as tie
 
--- what the call left
-abbrev begun : tie.After-activate → tie.Start
-begun m = m .before .before .before .before .before .before .before .before .before .before
-
-abbrev lent : tie.Start → Lent
-lent s = lending (s .args .groups .now) (s .args .tracks .now) (s .args .segments .now) (s .args .text .now) (s .args .renames .now) (s .args .office .now)
-
-left-is : (m : tie.After-activate) → let s = begun m in leftBy (m .activate .result) ≡ activateCall (lent s) (deskOf (s .args .state .now)) (s .args .service) (s .args .group)
-left-is m = let s = begun m in m .activate .ensures ∙ ap (λ (d : Desk). activateCall (lent s) d (s .args .service) (s .args .group)) (m .before .decode .ensures)
-
-decode-requires : tie.Need-decode-requires
-decode-requires c κs = search needs
-
 activate-requires : tie.Need-activate-requires
 activate-requires c κs = search needs
 
 finish-requires : tie.Need-finish-requires
-finish-requires c κs =
-    let m = c .before .before .before in
-    let s = begun m in
-    (search needs, (search needs, (search needs, small-left (left-is m) (activate-words (lent s) (deskOf (s .args .state .now)) (s .args .service) (s .args .group)))))
+finish-requires c κs = (search needs, (search needs, small-said (c .before .before .activate .ensures) (activate-words _ _ _ _)))
 
 returns : tie.Need-returns
-returns c = follow (left-is (c .before .before .before .before)) (c .finish .ensures)
+returns c = ends (c .before .before .before .activate .ensures) (c .finish .ensures)
 
 pub mcs-activate-spec : {M : Type 1} → statement M
-mcs-activate-spec = tie.close (tie.spec decode-requires activate-requires finish-requires returns)
+mcs-activate-spec = tie.close (tie.spec activate-requires finish-requires returns)

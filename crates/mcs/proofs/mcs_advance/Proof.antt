@@ -1,40 +1,18 @@
--- `mcs::mcs_advance`: the state read out, `desk_console::advance`, then its end.
-use mathlib.Core.Path.{_≡_, ap, _∙_}
-use Rattle.catalogue_titles.specs.Lent.{Lent, lending}
-use Rattle.desk_state.specs.declared.Desk.{Desk}
-use Rattle.desk_replies.specs.Replies.{leftBy}
-use Rattle.desk_console.specs.Console.{advanceCall}
-use Rattle.mcs_state.specs.Codec.{deskOf}
-use Rattle.mcs.proofs.Leaving.{follow, small-left}
+-- `mcs::mcs_advance`: `desk_console::advance`, then what C is told.
+use Rattle.mcs.proofs.Leaving.{ends, small-said}
 use Rattle.mcs.proofs.Short.{advance-words}
 use borrow.Author.Needs.{needs}
 use Rattle.mcs.proofs.mcs_advance.Statement.{statement}
 use Rattle.mcs.proofs.mcs_advance.Tie as tie
 
--- what the call left
-abbrev begun : tie.After-advance → tie.Start
-begun m = m .before .before .before .before .before .before .before .before .before .before
-
-abbrev lent : tie.Start → Lent
-lent s = lending (s .args .groups .now) (s .args .tracks .now) (s .args .segments .now) (s .args .text .now) (s .args .renames .now) (s .args .office .now)
-
-left-is : (m : tie.After-advance) → let s = begun m in leftBy (m .advance .result) ≡ advanceCall (lent s) (deskOf (s .args .state .now)) (s .args .service) (s .args .step)
-left-is m = let s = begun m in m .advance .ensures ∙ ap (λ (d : Desk). advanceCall (lent s) d (s .args .service) (s .args .step)) (m .before .decode .ensures)
-
-decode-requires : tie.Need-decode-requires
-decode-requires c κs = search needs
-
 advance-requires : tie.Need-advance-requires
 advance-requires c κs = search needs
 
 finish-requires : tie.Need-finish-requires
-finish-requires c κs =
-    let m = c .before .before .before in
-    let s = begun m in
-    (search needs, (search needs, (search needs, small-left (left-is m) (advance-words (lent s) (deskOf (s .args .state .now)) (s .args .service) (s .args .step)))))
+finish-requires c κs = (search needs, (search needs, small-said (c .before .before .advance .ensures) (advance-words _ _ _ _)))
 
 returns : tie.Need-returns
-returns c = follow (left-is (c .before .before .before .before)) (c .finish .ensures)
+returns c = ends (c .before .before .before .advance .ensures) (c .finish .ensures)
 
 pub mcs-advance-spec : {M : Type 1} → statement M
-mcs-advance-spec = tie.close (tie.spec decode-requires advance-requires finish-requires returns)
+mcs-advance-spec = tie.close (tie.spec advance-requires finish-requires returns)

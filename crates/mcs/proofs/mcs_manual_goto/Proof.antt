@@ -1,12 +1,12 @@
--- `mcs::mcs_manual_goto`: the state read out, `desk_goto::manual_goto`, and what it says.
+-- `mcs::mcs_manual_goto`: `desk_goto::manual_goto`, and what it says.
 use mathlib.Core.Path.{_≡_, ap, _∙_}
 use mathlib.Core.List.{List}
 use Prim.Native.Nat.{ℕ}
 use Rattle.ground.specs.Refusals.{Left}
 use Rattle.catalogue_titles.specs.Lent.{Lent, lending}
-use Rattle.desk_state.specs.declared.Desk.{Desk}
 use Rattle.desk_goto.specs.declared.Arrival.{Arrival}
 use Rattle.desk_goto.specs.Manual.{shownBy, manualCall, madeValues, placeValues}
+use Rattle.desk_state.specs.declared.Desk.{Desk}
 use Rattle.mcs_state.specs.Codec.{deskOf}
 use Rattle.mcs_told.specs.declared.Told.{Told}
 use Rattle.mcs_told.specs.Calls.{toldOf, toldAfter}
@@ -17,7 +17,7 @@ use Rattle.mcs.proofs.mcs_manual_goto.Statement.{statement}
 use Rattle.mcs.proofs.mcs_manual_goto.Tie as tie
 
 abbrev begun : tie.After-manual-goto → tie.Start
-begun m = m .before .before .before .before .before .before .before .before .before
+begun m = m .before .before .before .before .before .before .before
 
 abbrev lent : tie.Start → Lent
 lent s = lending (s .args .groups .now) (s .args .tracks .now) (s .args .segments .now) (s .args .text .now) (s .args .renames .now) (s .args .office .now)
@@ -27,7 +27,7 @@ call s d = manualCall (lent s) d (s .args .service) (s .args .opcode) (s .args .
 
 -- what the call said, and what it showed
 said-is : (m : tie.After-manual-goto) → let s = begun m in shownBy (m .manual-goto .result) ≡ call s (deskOf (s .args .state .now))
-said-is m = let s = begun m in m .manual-goto .ensures ∙ ap (call s) (m .before .decode .ensures)
+said-is m = m .manual-goto .ensures
 
 told-is : (t : tie.After-told-of) → let s = begun (t .before) in t .told-of .result ≡ toldOf (call s (deskOf (s .args .state .now)) .said)
 told-is t = t .told-of .ensures ∙ ap (λ (x : Left Arrival). toldOf (x .said)) (said-is (t .before))
@@ -41,9 +41,6 @@ words-are t values old =
     let l = call s (deskOf (s .args .state .now)) in
     ap (λ (x : Told). toldAfter (x .granted) (values (t .before .manual-goto .result .arrival)) old) (told-is t)
     ∙ ap (λ (x : Left Arrival). toldAfter (l .said .isGranted) (values (x .state)) old) (said-is (t .before))
-
-decode-requires : tie.Need-decode-requires
-decode-requires c κs = search needs
 
 manual-goto-requires : tie.Need-manual-goto-requires
 manual-goto-requires c κs = search needs
@@ -78,7 +75,6 @@ pub mcs-manual-goto-spec : {M : Type 1} → statement M
 mcs-manual-goto-spec =
     tie.close
     (tie.spec
-    decode-requires
     manual-goto-requires
     told-of-requires
     tell-arrival-requires

@@ -1,4 +1,4 @@
--- `mcs::mcs_title`: the state read out, `desk_title::which`, and what it says.
+-- `mcs::mcs_title`: `desk_title::which`, and what it says.
 use mathlib.Core.Path.{_≡_, ap, _∙_}
 use mathlib.Core.List.{List}
 use Prim.Native.Nat.{ℕ}
@@ -6,7 +6,6 @@ use Rattle.ground.specs.Refusals.{Said, Left}
 use Rattle.catalogue_titles.specs.declared.Part.{Part}
 use Rattle.catalogue_titles.specs.Titles.{partValues}
 use Rattle.catalogue_titles.specs.Lent.{Lent, lending}
-use Rattle.desk_state.specs.declared.Desk.{Desk}
 use Rattle.desk_title.specs.Title.{titledBy, titleCall}
 use Rattle.mcs_state.specs.Codec.{deskOf}
 use Rattle.mcs_told.specs.declared.Told.{Told}
@@ -18,17 +17,14 @@ use Rattle.mcs.proofs.mcs_title.Statement.{statement}
 use Rattle.mcs.proofs.mcs_title.Tie as tie
 
 abbrev begun : tie.After-which → tie.Start
-begun w = w .before .before .before .before .before .before .before .before .before
+begun w = w .before .before .before .before .before .before .before
 
 abbrev lent : tie.Start → Lent
 lent s = lending (s .args .groups .now) (s .args .tracks .now) (s .args .segments .now) (s .args .text .now) (s .args .renames .now) (s .args .office .now)
 
 -- what the call said, and the part
 said-is : (w : tie.After-which) → let s = begun w in titledBy (w .which .result) ≡ titleCall (lent s) (deskOf (s .args .state .now)) (s .args .service)
-said-is w = let s = begun w in w .which .ensures ∙ ap (λ (d : Desk). titleCall (lent s) d (s .args .service)) (w .before .decode .ensures)
-
-decode-requires : tie.Need-decode-requires
-decode-requires c κs = search needs
+said-is w = w .which .ensures
 
 which-requires : tie.Need-which-requires
 which-requires c κs = search needs
@@ -64,7 +60,6 @@ pub mcs-title-spec : {M : Type 1} → statement M
 mcs-title-spec =
     tie.close
     (tie.spec
-    decode-requires
     which-requires
     told-of-requires
     tell-part-requires

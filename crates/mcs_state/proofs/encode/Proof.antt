@@ -21,44 +21,44 @@ four-links-requires c κs = search needs
 two-services-requires : tie.Need-two-services-requires
 two-services-requires c κs = search needs
 
-put-turn-requires : tie.Need-put-turn-requires
-put-turn-requires c κs = search needs
+lay-turn-requires : tie.Need-lay-turn-requires
+lay-turn-requires c κs = search needs
 
-array-copy-out-put-link : tie.Need-array-copy-out-put-link
-array-copy-out-put-link c = search needs
+array-copy-out-lay-link : tie.Need-array-copy-out-lay-link
+array-copy-out-lay-link c = search needs
 
-put-link-requires : tie.Need-put-link-requires
-put-link-requires c κs = search needs
+lay-link-requires : tie.Need-lay-link-requires
+lay-link-requires c κs = search needs
 
-array-copy-out-put-link-2 : tie.Need-array-copy-out-put-link-2
-array-copy-out-put-link-2 c = search needs
+array-copy-out-lay-link-2 : tie.Need-array-copy-out-lay-link-2
+array-copy-out-lay-link-2 c = search needs
 
-put-link-requires-2 : tie.Need-put-link-requires-2
-put-link-requires-2 c κs = search needs
+lay-link-requires-2 : tie.Need-lay-link-requires-2
+lay-link-requires-2 c κs = search needs
 
-array-copy-out-put-link-3 : tie.Need-array-copy-out-put-link-3
-array-copy-out-put-link-3 c = search needs
+array-copy-out-lay-link-3 : tie.Need-array-copy-out-lay-link-3
+array-copy-out-lay-link-3 c = search needs
 
-put-link-requires-3 : tie.Need-put-link-requires-3
-put-link-requires-3 c κs = search needs
+lay-link-requires-3 : tie.Need-lay-link-requires-3
+lay-link-requires-3 c κs = search needs
 
-array-copy-out-put-link-4 : tie.Need-array-copy-out-put-link-4
-array-copy-out-put-link-4 c = search needs
+array-copy-out-lay-link-4 : tie.Need-array-copy-out-lay-link-4
+array-copy-out-lay-link-4 c = search needs
 
-put-link-requires-4 : tie.Need-put-link-requires-4
-put-link-requires-4 c κs = search needs
+lay-link-requires-4 : tie.Need-lay-link-requires-4
+lay-link-requires-4 c κs = search needs
 
-array-copy-out-put-service : tie.Need-array-copy-out-put-service
-array-copy-out-put-service c = search needs
+array-copy-out-lay-service : tie.Need-array-copy-out-lay-service
+array-copy-out-lay-service c = search needs
 
-put-service-requires : tie.Need-put-service-requires
-put-service-requires c κs = search needs
+lay-service-requires : tie.Need-lay-service-requires
+lay-service-requires c κs = search needs
 
-array-copy-out-put-service-2 : tie.Need-array-copy-out-put-service-2
-array-copy-out-put-service-2 c = search needs
+array-copy-out-lay-service-2 : tie.Need-array-copy-out-lay-service-2
+array-copy-out-lay-service-2 c = search needs
 
-put-service-requires-2 : tie.Need-put-service-requires-2
-put-service-requires-2 c κs = search needs
+lay-service-requires-2 : tie.Need-lay-service-requires-2
+lay-service-requires-2 c κs = search needs
 
 same-length : tie.Need-same-length
 same-length c = search needs
@@ -80,16 +80,16 @@ returns c =
     let fits : 0 ≤ length old = omega arith in
     let four = counted .before .four-links .ensures in
     let two = counted .two-services .ensures in
-    let p0 = after-generic .put-service .ensures in
-    let p1 = after-named .put-service2 .ensures in
+    let p0 = after-generic .lay-service .ensures in
+    let p1 = after-named .lay-service2 .ensures in
     let t = turnOctets (d .turn) in
     let links = spell noLink (d .links) 0 4 in
     let services = spell noService (d .services) 0 2 in
-    let l1 : Laid old 0 t (after-turn .put-turn .last .0) 5 = record { is = after-turn .put-turn .ensures; long = turn-long (d .turn) } in
-    let l2 = lay _ (linkOctets (linkAt (d .links) 0)) 10 fits l1 (link-kept (linkAt (d .links) 0) .long) (after-one .put-link .ensures) in
-    let l3 = lay _ (linkOctets (linkAt (d .links) 1)) 10 fits l2 (link-kept (linkAt (d .links) 1) .long) (after-two .put-link2 .ensures) in
-    let l4 = lay _ (linkOctets (linkAt (d .links) 2)) 10 fits l3 (link-kept (linkAt (d .links) 2) .long) (after-three .put-link3 .ensures) in
-    let l5 = lay _ (linkOctets (linkAt (d .links) 3)) 10 fits l4 (link-kept (linkAt (d .links) 3) .long) (after-four .put-link4 .ensures) in
+    let l1 : Laid old 0 t (after-turn .lay-turn .last .0) 5 = record { is = after-turn .lay-turn .ensures; long = turn-long (d .turn) } in
+    let l2 = lay _ (linkOctets (linkAt (d .links) 0)) 10 fits l1 (link-kept (linkAt (d .links) 0) .long) (after-one .lay-link .ensures) in
+    let l3 = lay _ (linkOctets (linkAt (d .links) 1)) 10 fits l2 (link-kept (linkAt (d .links) 1) .long) (after-two .lay-link2 .ensures) in
+    let l4 = lay _ (linkOctets (linkAt (d .links) 2)) 10 fits l3 (link-kept (linkAt (d .links) 2) .long) (after-three .lay-link3 .ensures) in
+    let l5 = lay _ (linkOctets (linkAt (d .links) 3)) 10 fits l4 (link-kept (linkAt (d .links) 3) .long) (after-four .lay-link4 .ensures) in
     let l6 = lay _ (serviceOctets (serviceAt d 0)) 302 fits l5 (p0 .1 .long) (p0 .0) in
     let l7 = lay _ (serviceOctets (serviceAt d 1)) 302 fits l6 (p1 .1 .long) (p1 .0) in
     let all-links : links ≡ d .links = spelled noLink (d .links) 0 4 four in
@@ -100,7 +100,7 @@ returns c =
     behind-is serviceOctets front services
     ∙ (λ i. behind-is linkOctets t links i ++ eachOctets serviceOctets services)
     ∙ (λ i. t ++ eachOctets linkOctets (all-links i) ++ eachOctets serviceOctets (all-services i)) in
-    let is : after-named .put-service2 .last .0 ≡ deskOctets d ++ drop 649 old =
+    let is : after-named .lay-service2 .last .0 ≡ deskOctets d ++ drop 649 old =
     l7 .is ∙ (λ i. (take-all 649 (behind serviceOctets front services) (omega (arith, l7 .long)) ∙ octets) i ++ drop 649 old) in
     (is, ap deskOf is ∙ again d (drop 649 old) four two kept)
 
@@ -110,18 +110,18 @@ encode-spec =
     (tie.spec
     four-links-requires
     two-services-requires
-    put-turn-requires
-    array-copy-out-put-link
-    put-link-requires
-    array-copy-out-put-link-2
-    put-link-requires-2
-    array-copy-out-put-link-3
-    put-link-requires-3
-    array-copy-out-put-link-4
-    put-link-requires-4
-    array-copy-out-put-service
-    put-service-requires
-    array-copy-out-put-service-2
-    put-service-requires-2
+    lay-turn-requires
+    array-copy-out-lay-link
+    lay-link-requires
+    array-copy-out-lay-link-2
+    lay-link-requires-2
+    array-copy-out-lay-link-3
+    lay-link-requires-3
+    array-copy-out-lay-link-4
+    lay-link-requires-4
+    array-copy-out-lay-service
+    lay-service-requires
+    array-copy-out-lay-service-2
+    lay-service-requires-2
     same-length
     returns)

@@ -1,58 +1,28 @@
--- `mcs_state::put_account`: 36 octets at the client's place in the service.
-use mathlib.Core.Path.{_∙_}
-use Prim.Native.Nat.{_+_, _*_}
-use lib.ListN.{length}
-use lib.Seq.{paste}
-use Rattle.mcs_state.specs.Codec.{accountOctets}
-use Rattle.mcs_state.proofs.Round.{account-kept}
+-- `mcs_state::put_account`: an account of a client alone is another.
+use Rattle.mcs_state.proofs.Stored.{account-stored}
 use borrow.Author.Needs.{needs}
 use Rattle.mcs_state.proofs.put_account.Statement.{statement}
 use Rattle.mcs_state.proofs.put_account.Tie as tie
 
-eight-results-requires : tie.Need-eight-results-requires
-eight-results-requires c κs = search needs
+mul-at : tie.Need-mul-at
+mul-at c = search needs
 
-account-octets-requires : tie.Need-account-octets-requires
-account-octets-requires c κs = search needs
+add-at : tie.Need-add-at
+add-at c = search needs
 
-mul-put : tie.Need-mul-put
-mul-put c = search needs
-
-add-put : tie.Need-add-put
-add-put c = search needs
-
-add-put-2 : tie.Need-add-put-2
-add-put-2 c = search needs
-
-slice-aggregate-put : tie.Need-slice-aggregate-put
-slice-aggregate-put c = search needs
-
-put-requires : tie.Need-put-requires
-put-requires c κs = search needs
+lay-account-requires : tie.Need-lay-account-requires
+lay-account-requires c κs = search needs
 
 same-length : tie.Need-same-length
 same-length c = search needs
 
 returns : tie.Need-returns
-unfolding accountOctets
 returns c =
-    let after-put = c .before .before in
-    let after-account-octets = after-put .before .before .before in
-    let after-eight-results = after-account-octets .before in
-    let a = after-eight-results .before .before .before .args in
-    let e = after-account-octets .account-octets .ensures in
-    (after-put .put .ensures ∙ (λ i. paste (a .s .now) (a .at + (158 + a .who * 36)) (e i) (length (e i))), account-kept (a .a) (after-eight-results .eight-results .ensures))
+    let after = c .before .before in
+    let start = after .before .before .before in
+    let a = start .args in
+    let p = after .lay-account .ensures in
+    account-stored (a .s .now) _ (start .pre .0) (start .pre .1 .0) (a .service) (a .who) (a .a) (start .pre .1 .1 .0) (start .pre .1 .1 .1) (p .1) (p .0)
 
 pub put-account-spec : {M : Type 1} → statement M
-put-account-spec =
-    tie.close
-    (tie.spec
-    eight-results-requires
-    account-octets-requires
-    mul-put
-    add-put
-    add-put-2
-    slice-aggregate-put
-    put-requires
-    same-length
-    returns)
+put-account-spec = tie.close (tie.spec mul-at add-at lay-account-requires same-length returns)

@@ -1,62 +1,56 @@
--- `player_values::put`: after i turns the first i octets are copied.
-use mathlib.Core.Path.{_≡_, refl}
-use Prim.Native.Nat.{_≤_, _<_, _-_}
-use native.Mathlib.Omega.{arith}
-use lib.ListN.{length, length-set}
-use Rattle.ground.proofs.Sweep.{copied, copy-turn, copy-end}
+-- `player_values::put`: the place on, as far as the octets go and as many as may be.
+use mathlib.Core.Path.{ap, _∙_}
+use mathlib.Core.List.{List}
+use Prim.Native.Nat.{ℕ}
+use lib.ListN.{length-take, length-drop}
+use Rattle.ground.specs.Lists.{filled}
+use Rattle.player_values.proofs.Parts.{part-whole}
 use borrow.Author.Needs.{needs}
 use Rattle.player_values.proofs.put.Statement.{statement}
 use Rattle.player_values.proofs.put.Tie as tie
 
-abbrev Inv-loop : tie.InvT-loop
-Inv-loop out₀ s i₀ out i = (i ≤ length s) × (length out ≡ length out₀) × (out ≡ copied s out₀ i)
+sub-lesser : tie.Need-sub-lesser
+sub-lesser c = search needs
 
-abbrev μ-loop : tie.MeasureT-loop
-μ-loop out₀ s i₀ out i = length s - i
+lesser-requires : tie.Need-lesser-requires
+lesser-requires c κs = search needs
 
-loop-holds : tie.Need-loop-holds Inv-loop μ-loop
-loop-holds c = (search needs, search needs, refl)
+add-to : tie.Need-add-to
+add-to c = search needs
 
-shared-slice-read-out : tie.Need-shared-slice-read-out Inv-loop μ-loop
-shared-slice-read-out c = c .before .loop-test .taken
+sub-copy : tie.Need-sub-copy
+sub-copy c = search needs
 
-slice-write-out : tie.Need-slice-write-out Inv-loop μ-loop
-slice-write-out c = search needs
+part-copy-start : tie.Need-part-copy-start
+part-copy-start c = search needs
 
-add-i : tie.Need-add-i Inv-loop μ-loop
-add-i c = search needs
+part-copy-end : tie.Need-part-copy-end
+part-copy-end c = search needs
 
-loop-less : tie.Need-loop-less Inv-loop μ-loop
-loop-less c = search needs
+copy-requires : tie.Need-copy-requires
+copy-requires c κs = search needs
 
-loop-again : tie.Need-loop-again Inv-loop μ-loop
-loop-again c =
-    let l = c .before .before .loop in
-    let a = c .before .before .before .args in
-    let room : l .i < length (a .out .now) = omega arith in
-    (omega arith, simp length-set (l .inv .1), copy-turn (a .s .now) (a .out .now) (l .i) (l .out) 0 (c .before .loop-test .taken) room (l .inv .2))
-
-same-length : tie.Need-same-length Inv-loop μ-loop
+same-length : tie.Need-same-length
 same-length c = search needs
 
-returns : tie.Need-returns Inv-loop μ-loop
+returns : tie.Need-returns
 returns c =
-    let l = c .before .loop in
-    let a = c .before .before .args in
-    let e : l .i ≡ length (a .s .now) = omega arith in
-    (e, copy-end (a .s .now) (a .out .now) (l .i) (l .out) e (l .inv .2))
+    let copied = c .before .before in
+    let n = copied .before .before .before in
+    let s = n .before .before .before in
+    let a = s .args in
+    (simp (length-take, length-drop) (n .lesser .ensures), copied .copy .ensures ∙ ap (λ (part : List ℕ). filled part (a .out .now)) (part-whole (a .s .now) (a .from) (a .most) (n .lesser .result) (s .pre .1) (n .lesser .ensures)))
 
 pub put-spec : {M : Type 1} → statement M
 put-spec =
     tie.close
     (tie.spec
-    Inv-loop
-    μ-loop
-    loop-holds
-    shared-slice-read-out
-    slice-write-out
-    add-i
-    loop-less
-    loop-again
+    sub-lesser
+    lesser-requires
+    add-to
+    sub-copy
+    part-copy-start
+    part-copy-end
+    copy-requires
     same-length
     returns)

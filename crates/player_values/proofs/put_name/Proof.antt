@@ -7,6 +7,9 @@ use borrow.Author.Needs.{needs}
 use Rattle.player_values.proofs.put_name.Statement.{statement}
 use Rattle.player_values.proofs.put_name.Tie as tie
 
+long : (c : tie.Start) → length (c .args .p .name .octets) ≡ 128
+long c = search needs
+
 cast-n : tie.Need-cast-n
 cast-n c = search needs
 
@@ -19,11 +22,10 @@ part-put-start c = search needs
 part-put-end : tie.Need-part-put-end
 part-put-end c =
     let start = c .before .before .before .before .before in
-    let l : length (start .args .p .name .octets) ≡ 128 = search needs in
-    omega arith
+    omega (arith, long start)
 
 put-requires : tie.Need-put-requires
-put-requires c κs = search needs
+put-requires c κs = (search needs, rw sub-zero (c .before .before .before .before .before .before .pre .1 .1))
 
 same-length : tie.Need-same-length
 same-length c = search needs

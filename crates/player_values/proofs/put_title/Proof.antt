@@ -10,7 +10,7 @@ title-of-requires : tie.Need-title-of-requires
 title-of-requires c κs = search needs
 
 put-requires : tie.Need-put-requires
-put-requires c κs = omega (arith, ap length (sym (c .before .title-of .ensures)))
+put-requires c κs = let e = ap length (sym (c .before .title-of .ensures)) in (omega (arith, e), omega (arith, e))
 
 same-length : tie.Need-same-length
 same-length c = search needs

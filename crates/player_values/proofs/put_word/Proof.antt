@@ -20,6 +20,7 @@ slice-aggregate-put : tie.Need-slice-aggregate-put
 slice-aggregate-put c = search needs
 
 put-requires : tie.Need-put-requires
+unfolding wordOctets
 put-requires c κs = search needs
 
 same-length : tie.Need-same-length

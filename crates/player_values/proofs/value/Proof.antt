@@ -1,82 +1,117 @@
 -- `player_values::value`: a case for each characteristic that has a value.
-use mathlib.Core.Path.{refl}
-use Rattle.player_values.specs.Values.{wordOctets, opcodesValue, valueOf}
+use mathlib.Core.Path.{_≡_, ap, subst}
+use mathlib.Core.List.{List}
+use Prim.Native.Nat.{ℕ, _≤_}
+use lib.ListN.{length}
+use Rattle.player_values.specs.Values.{source, objectOctets, wordOctets, opcodesValue, valueOf}
 use Rattle.player_values.proofs.Laws.{value-none}
+use Rattle.player_values.proofs.Parts.{nothing-put}
 use borrow.Author.Needs.{needs}
 use Rattle.player_values.proofs.value.Statement.{statement}
 use Rattle.player_values.proofs.value.Tie as tie
 
+abbrev start : tie.After-shared-slice-known5 → tie.Start
+start m = m .before .before .before .before .before .before
+
+-- the place lies in the value of a characteristic
+abbrev Within : tie.Start → ℕ → Type 0
+Within s k =
+    s .args .from
+    ≤ length (valueOf (source (s .args .groups .now) (s .args .tracks .now) (s .args .text .now) (s .args .renames .now) (s .args .office .now)) (s .args .p) k)
+
+within : (m : tie.After-shared-slice-known5) (k : ℕ) → start m .args .c ≡ k → Within (start m) k
+within m k e = subst (Within (start m)) e (start m .pre .1 .1 .1 .1)
+
+fits : (a : ℕ) {v w : List ℕ} → w ≡ v → a ≤ length v → a ≤ length w
+fits a e h = rw e h
+
 put-name-requires : tie.Need-put-name-requires
-put-name-requires c κs = search needs
+unfolding valueOf
+put-name-requires c κs = (search needs, (search needs, within (c .before .before) 1 (c .before .match .keys1)))
 
 put-title-requires : tie.Need-put-title-requires
-put-title-requires c κs = search needs
+unfolding valueOf
+put-title-requires c κs = (search needs, (search needs, within (c .before .before) 5 (c .before .match .keys2)))
 
 duration-word-requires : tie.Need-duration-word-requires
 duration-word-requires c κs = search needs
 
 put-word-requires : tie.Need-put-word-requires
-put-word-requires c κs = search needs
+unfolding valueOf
+put-word-requires c κs = (search needs, fits _ (c .duration-word .ensures) (within (c .before .before .before) 6 (c .before .before .match .keys3)))
 
 position-word-requires : tie.Need-position-word-requires
 position-word-requires c κs = search needs
 
 put-word-requires-2 : tie.Need-put-word-requires-2
-put-word-requires-2 c κs = search needs
+unfolding valueOf
+put-word-requires-2 c κs = (search needs, fits _ (c .position-word .ensures) (within (c .before .before .before) 7 (c .before .before .match .keys4)))
 
 put-octet-requires : tie.Need-put-octet-requires
-put-octet-requires c κs = search needs
+unfolding valueOf
+put-octet-requires c κs = (search needs, within (c .before .before) 8 (c .before .match .keys5))
 
 put-octet-requires-2 : tie.Need-put-octet-requires-2
-put-octet-requires-2 c κs = search needs
+unfolding valueOf
+put-octet-requires-2 c κs = (search needs, within (c .before .before) 9 (c .before .match .keys6))
 
 segments-now-requires : tie.Need-segments-now-requires
 segments-now-requires c κs = search needs
 
 put-object-requires : tie.Need-put-object-requires
-put-object-requires c κs = search needs
+unfolding valueOf
+put-object-requires c κs = (search needs, fits _ (ap objectOctets (c .segments-now .ensures .0)) (within (c .before .before .before) 10 (c .before .before .match .keys7)))
 
 track-now-requires : tie.Need-track-now-requires
 track-now-requires c κs = search needs
 
 put-object-requires-2 : tie.Need-put-object-requires-2
-put-object-requires-2 c κs = search needs
+unfolding valueOf
+put-object-requires-2 c κs = (search needs, fits _ (ap objectOctets (c .track-now .ensures .0)) (within (c .before .before .before) 11 (c .before .before .match .keys8)))
 
 next-now-requires : tie.Need-next-now-requires
 next-now-requires c κs = search needs
 
 put-object-requires-3 : tie.Need-put-object-requires-3
-put-object-requires-3 c κs = search needs
+unfolding valueOf
+put-object-requires-3 c κs = (search needs, fits _ (ap objectOctets (c .next-now .ensures .0)) (within (c .before .before .before) 12 (c .before .before .match .keys9)))
 
 parent-now-requires : tie.Need-parent-now-requires
 parent-now-requires c κs = search needs
 
 put-object-requires-4 : tie.Need-put-object-requires-4
-put-object-requires-4 c κs = search needs
+unfolding valueOf
+put-object-requires-4 c κs = (search needs, fits _ (ap objectOctets (c .parent-now .ensures .0)) (within (c .before .before .before) 13 (c .before .before .match .keys10)))
 
 group-now-requires : tie.Need-group-now-requires
 group-now-requires c κs = search needs
 
 put-object-requires-5 : tie.Need-put-object-requires-5
-put-object-requires-5 c κs = search needs
+unfolding valueOf
+put-object-requires-5 c κs = (search needs, fits _ (ap objectOctets (c .group-now .ensures .0)) (within (c .before .before .before) 14 (c .before .before .match .keys11)))
 
 put-octet-requires-3 : tie.Need-put-octet-requires-3
-put-octet-requires-3 c κs = search needs
+unfolding valueOf
+put-octet-requires-3 c κs = (search needs, within (c .before .before) 15 (c .before .match .keys12))
 
 slice-aggregate-put : tie.Need-slice-aggregate-put
 slice-aggregate-put c = search needs
 
 put-requires : tie.Need-put-requires
-put-requires c κs = search needs
+unfolding valueOf
+put-requires c κs = (search needs, within (c .before .before .before) 16 (c .before .before .match .keys13))
 
 put-octet-requires-4 : tie.Need-put-octet-requires-4
-put-octet-requires-4 c κs = search needs
+unfolding valueOf
+put-octet-requires-4 c κs = (search needs, within (c .before .before) 17 (c .before .match .keys14))
 
 put-word-requires-3 : tie.Need-put-word-requires-3
-put-word-requires-3 c κs = search needs
+unfolding valueOf opcodesValue wordOctets
+put-word-requires-3 c κs = (search needs, within (c .before .before .before) 19 (c .before .before .match .keys15))
 
 put-octet-requires-5 : tie.Need-put-octet-requires-5
-put-octet-requires-5 c κs = search needs
+unfolding valueOf
+put-octet-requires-5 c κs = (search needs, within (c .before .before) 22 (c .before .match .keys16))
 
 same-length : tie.Need-same-length
 same-length c = search needs
@@ -96,7 +131,7 @@ same-length-3 : tie.Need-same-length-3
 same-length-3 c = search needs
 
 returns-3 : tie.Need-returns-3
-unfolding valueOf wordOctets
+unfolding valueOf
 returns-3 c =
     let w = c .before .before in
     let d = w .before in
@@ -106,7 +141,7 @@ same-length-4 : tie.Need-same-length-4
 same-length-4 c = search needs
 
 returns-4 : tie.Need-returns-4
-unfolding valueOf wordOctets
+unfolding valueOf
 returns-4 c =
     let w = c .before .before in
     let d = w .before in
@@ -221,7 +256,7 @@ returns-17 c =
     let a = c .before .before .before .before .before .before .before .args in
     rw
     (value-none (a .groups .now) (a .tracks .now) (a .text .now) (a .renames .now) (a .office .now) (a .p) (a .c) (no .0 .0 .0 .0 .0 .0 .0 .0 .0 .0 .0 .0 .0 .0 .0 .1) (no .0 .0 .0 .0 .0 .0 .0 .0 .0 .0 .0 .0 .0 .0 .1) (no .0 .0 .0 .0 .0 .0 .0 .0 .0 .0 .0 .0 .0 .1) (no .0 .0 .0 .0 .0 .0 .0 .0 .0 .0 .0 .0 .1) (no .0 .0 .0 .0 .0 .0 .0 .0 .0 .0 .0 .1) (no .0 .0 .0 .0 .0 .0 .0 .0 .0 .0 .1) (no .0 .0 .0 .0 .0 .0 .0 .0 .0 .1) (no .0 .0 .0 .0 .0 .0 .0 .0 .1) (no .0 .0 .0 .0 .0 .0 .0 .1) (no .0 .0 .0 .0 .0 .0 .1) (no .0 .0 .0 .0 .0 .1) (no .0 .0 .0 .0 .1) (no .0 .0 .0 .1) (no .0 .0 .1) (no .0 .1) (no .1))
-    (refl, refl)
+    (nothing-put (a .from) (a .most) (a .out .now))
 
 pub value-spec : {M : Type 1} → statement M
 value-spec =
