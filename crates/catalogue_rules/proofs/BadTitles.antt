@@ -9,7 +9,7 @@ use native.Mathlib.Omega.{arith}
 use lib.ListN.{length, getD, drop, length-take, length-drop}
 use lib.Seq.{getD-take, getD-drop}
 use Rattle.ground.specs.Cases.{pick}
-use Rattle.ground.proofs.Cases.{true-or, clash}
+use Rattle.ground.proofs.Cases.{true-or}
 use Rattle.ground.proofs.Bounded.{all-at, all-intro}
 use Rattle.text.specs.Utf8.{isFine, textSaid}
 use Rattle.text.proofs.Law.{offset-within}

@@ -13,7 +13,6 @@ use Rattle.catalogue_titles.specs.declared.Part.{Part}
 use Rattle.catalogue_titles.specs.Titles.{IsPart}
 use Rattle.desk_replies.proofs.Settled.{answer-settles}
 use Rattle.desk_title.specs.declared.Titled.{Titled}
-use Rattle.desk_title.specs.Title.{titleCall}
 use Rattle.desk_title.proofs.which.Reads as which
 use Rattle.desk_title.proofs.title.Reads as title
 

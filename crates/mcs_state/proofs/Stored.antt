@@ -1,11 +1,11 @@
 -- A part of a state, written back over octets that are the encoding of what they mean, leaves the octets of the state with that part. Assumes nothing.
-use mathlib.Core.Path.{_≡_, refl, ap, sym, subst, _∙_}
+use mathlib.Core.Path.{_≡_, refl, ap, sym, _∙_}
 use mathlib.Core.Bool.{true}
 use mathlib.Core.List.{List, _++_}
 use Prim.Native.Nat.{ℕ, zero, suc, _+_, _*_, _≤_, _<_}
 use native.Mathlib.Nat.{add-assoc, add-zero}
 use native.Mathlib.Omega.{arith}
-use lib.ListN.{length, drop, set, length-append, length-set}
+use lib.ListN.{length, drop, length-append, length-set}
 use lib.Seq.{paste, drop-at}
 use Rattle.ground.specs.Lists.{part}
 use Rattle.ground.proofs.Laying.{part-length}

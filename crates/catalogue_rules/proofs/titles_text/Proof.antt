@@ -1,13 +1,12 @@
 -- `catalogue_rules::titles_text`: what is kept is what is said of the titles from the track i on.
-use mathlib.Core.Path.{_≡_, refl, sym, ap, _∙_}
+use mathlib.Core.Path.{_≡_, sym, ap, _∙_}
 use mathlib.Core.List.{List, _∷_}
 use Prim.Native.Nat.{ℕ, suc, _+_, _-_, _<_, _≤_}
 use native.Mathlib.Omega.{arith}
 use Rattle.ground.specs.Cases.{pick}
-use Rattle.ground.specs.Refusals.{Said}
 use Rattle.text.specs.Utf8.{saidOf, textSaid}
 use Rattle.catalogue_tables.specs.Tables.{trackCount, titleOf}
-use Rattle.catalogue_rules.specs.Rules.{badTitleFrom, badTitle, titlesOf}
+use Rattle.catalogue_rules.specs.Rules.{badTitleFrom, titlesOf}
 use Rattle.catalogue_rules.proofs.Runs.{run-part}
 use Rattle.catalogue_rules.proofs.BadTitles.{plain-text}
 use borrow.Author.Needs.{needs}

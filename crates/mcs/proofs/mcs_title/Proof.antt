@@ -1,15 +1,13 @@
 -- `mcs::mcs_title`: `desk_title::which`, and what it says.
 use mathlib.Core.Path.{_≡_, ap, _∙_}
-use mathlib.Core.List.{List}
-use Prim.Native.Nat.{ℕ}
-use Rattle.ground.specs.Refusals.{Said, Left}
+use Rattle.ground.specs.Refusals.{Left}
 use Rattle.catalogue_titles.specs.declared.Part.{Part}
 use Rattle.catalogue_titles.specs.Titles.{partValues}
 use Rattle.catalogue_titles.specs.Lent.{Lent, lending}
 use Rattle.desk_title.specs.Title.{titledBy, titleCall}
 use Rattle.mcs_state.specs.Codec.{deskOf}
 use Rattle.mcs_told.specs.declared.Told.{Told}
-use Rattle.mcs_told.specs.Calls.{toldOf, toldAfter, partAfter}
+use Rattle.mcs_told.specs.Calls.{toldOf, toldAfter}
 use Rattle.mcs_told.proofs.Words.{place-as-said}
 use Rattle.mcs.proofs.Short.{titled-words}
 use borrow.Author.Needs.{needs}

@@ -7,7 +7,7 @@ use lib.ListN.{getD}
 use Rattle.ground.specs.Lists.{allBelow}
 use Rattle.ground.proofs.Bounded.{all-turn, all-end}
 use Rattle.player_check.specs.Standing.{playerRule}
-use Rattle.desk_state.specs.Desk.{noService, serviceAt, serviceRule, servicesRule}
+use Rattle.desk_state.specs.Desk.{noService, serviceRule, servicesRule}
 use Rattle.mcs_state.specs.Codec.{deskOf}
 use borrow.Author.Needs.{needs}
 use Rattle.mcs_state.proofs.services_right.Statement.{statement}
