@@ -9,6 +9,7 @@ ghost use Rattle.ground.specs.Limits.{mostGroups, mostTracks, mostSegments};
 ghost use Rattle.ground.specs.Refusals.{granted, refused, row, saidThrough};
 ghost use Rattle.ground.specs.Lists.{span, laid, filled, tableAfter};
 ghost use Rattle.catalogue_tables.specs.Tables.{tables, groupCount, firstTrackOf, tracksIn};
+ghost use Rattle.catalogue_objects.specs.declared.Kind.the-variants.{Group};
 ghost use Rattle.catalogue_objects.specs.Entries.{trackMember, groupMember, isChild, childrenOf, nameless, memberOctets, labelOctets, allOctets};
 ghost use Rattle.catalogue_objects.specs.Objects.{saidOf, groupOctets, segmentsOctets, hasGroup, hasSegments, writeSaid};
 ghost use Rattle.catalogue_objects.specs.Reading.{labelHead, labelSound, sizeOf, isEntry, wordsOf, widthOf, entriesOf, readSaid};
@@ -300,7 +301,36 @@ struct Overview {
     count: usize,
 }
 
-fn look_over(octets: &[u8], kind: Kind) -> Overview
+// Of a Group object's: they are all as long, so that the end of none is looked for.
+fn members_over(octets: &[u8]) -> Overview
+    ensures { λ r. ⌜ (r .whole ≡ entriesOf Group (now (octets .entry)) .whole) × (r .whole ≡ true → r .count ≡ entriesOf Group (now (octets .entry)) .count) × (r .count ≤ length (now (octets .entry))) ⌝ }
+{
+    let n = octets.len() / MEMBER;
+    let mut i: usize = 0;
+    while i < n {
+        let at = i * MEMBER;
+        if GROUP < octets[at] {
+            return Overview {
+                whole: false,
+                count: 0,
+            };
+        }
+        i += 1;
+    }
+    if octets.len() % MEMBER != 0 {
+        return Overview {
+            whole: false,
+            count: 0,
+        };
+    }
+    Overview {
+        whole: true,
+        count: n,
+    }
+}
+
+// Of either kind, entry by entry.
+fn entries_over(octets: &[u8], kind: Kind) -> Overview
     ensures { λ r. ⌜ (r .whole ≡ entriesOf kind (now (octets .entry)) .whole) × (r .whole ≡ true → r .count ≡ entriesOf kind (now (octets .entry)) .count) × (r .count ≤ length (now (octets .entry))) ⌝ }
 {
     let mut at: usize = 0;
@@ -318,6 +348,15 @@ fn look_over(octets: &[u8], kind: Kind) -> Overview
     Overview {
         whole: true,
         count: count,
+    }
+}
+
+fn look_over(octets: &[u8], kind: Kind) -> Overview
+    ensures { λ r. ⌜ (r .whole ≡ entriesOf kind (now (octets .entry)) .whole) × (r .whole ≡ true → r .count ≡ entriesOf kind (now (octets .entry)) .count) × (r .count ≤ length (now (octets .entry))) ⌝ }
+{
+    match kind {
+        Kind::Group => members_over(octets),
+        Kind::Segments => entries_over(octets, kind),
     }
 }
 
