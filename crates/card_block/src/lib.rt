@@ -1,4 +1,5 @@
 // A block of a card: its head, its check octets and its rules (SCOPE 3.2 to 3.9, 3.12).
+#![tactic(auto)]
 ghost use Rattle.std.specs.Prelude.{◌≡◌, ◌∷◌, [], ◌+◌, ◌*◌, ◌<◌, ◌≤◌, length};
 ghost use Rattle.ground.specs.Refusals.{refused_with, said_by};
 ghost use Rattle.card_block.specs.Sums.{sum_of, running_sums, sums_of};
@@ -16,13 +17,13 @@ const RUNNING_SUM: usize = 511;
 const LAST_KIND: u8 = 4;
 
 // What is said of blocks: that they keep their rules, or the refusal that names a block and the rule that it breaks.
-#[derive(Drop)]
+#[derive(Clone, Copy)]
 pub enum Judged {
     Fine,
     Refused(ground::Refusal),
 }
 
-#[derive(Drop)]
+#[derive(Clone, Copy)]
 pub struct CheckSums {
     pub plain: u32,
     pub running: u32,

@@ -1,4 +1,5 @@
 // The card reader: a card into four lent tables (SCOPE 3.10 to 3.14).
+#![tactic(auto)]
 ghost use Rattle.std.specs.Prelude.{◌≡◌, ◌∷◌, [], ◌+◌, ◌*◌, ◌<◌, ◌≤◌, length, drop};
 ghost use Rattle.std.proofs.Math.Seq.{paste};
 ghost use Rattle.ground.specs.Refusals.{refused_with, said_through, said_by};
@@ -14,7 +15,7 @@ use card_block::Judged;
 const MOST_CARD: usize = 65536;
 
 // How many records of each kind were loaded.
-#[derive(Drop)]
+#[derive(Clone, Copy)]
 pub struct Counts {
     pub groups: usize,
     pub tracks: usize,
@@ -22,7 +23,7 @@ pub struct Counts {
     pub text: usize,
 }
 
-#[derive(Drop)]
+#[derive(Clone, Copy)]
 pub enum Loaded {
     Done(Counts),
     Refused(ground::Refusal),

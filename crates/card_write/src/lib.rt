@@ -1,4 +1,5 @@
 // The card writer: a catalogue into a lent card, block by block (SCOPE 3.15 to 3.17).
+#![tactic(auto)]
 ghost use Rattle.std.specs.Prelude.{◌≡◌, [], ◌∷◌, min, ◌+◌, ◌*◌, ◌<◌, ◌≤◌, length};
 ghost use Rattle.ground.specs.Refusals.{granted, said_through};
 ghost use Rattle.ground.specs.Lists.{laid, table_after};
@@ -62,7 +63,7 @@ fn write_text(card: &mut [u8], first: usize, src: &[u8])
     }
 }
 
-#[derive(Drop)]
+#[derive(Clone, Copy)]
 pub enum Written {
     // How many blocks there are.
     Done(usize),

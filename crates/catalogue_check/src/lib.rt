@@ -1,9 +1,10 @@
 // The catalogue check (SCOPE 4.14).
+#![tactic(auto)]
 ghost use Rattle.std.specs.Prelude.{◌≡◌};
 ghost use Rattle.catalogue_tables.specs.Tables.{tables};
 ghost use Rattle.catalogue_check.specs.Catalogue.{plain_rule, said_of, check_said};
 
-#[derive(Drop)]
+#[derive(Clone, Copy)]
 pub enum Catalogue {
     Fine,
     // 200: a rule is broken. For a title that is not UTF-8 it carries the track and the offset.

@@ -1,4 +1,5 @@
 // Cue sheets: the segment starts of one track, out of a sheet's octets (SCOPE 6). A sheet is gone through twice, so that a refusal has written nothing.
+#![tactic(auto)]
 ghost use Rattle.std.specs.Prelude.{◌≡◌, true, not, [], ◌∷◌, map, ◌+◌, ◌-◌, ◌<◌, ◌≤◌, length, get_or};
 ghost use Rattle.std.proofs.Math.Seq.{paste};
 ghost use Rattle.ground.specs.Lists.{filled, table_after, all_below};
@@ -6,14 +7,14 @@ ghost use Rattle.catalogue_cue.specs.Sheet.{octets, begins, is_digit, digits_at,
 ghost use Rattle.catalogue_cue.specs.Scan.{is_it, is_lf, ahead_end, Passes, CutAt, StartLine, NoStartLine, lines_from, ReadAt, looks_start, AllUnderstood, rises, weighed_of};
 
 // What a line gives (SCOPE 6.5 to 6.8).
-#[derive(Drop)]
+#[derive(Clone, Copy)]
 pub enum Line {
     Start(u32),
     Passed,
     NotUnderstood,
 }
 
-#[derive(Drop)]
+#[derive(Clone, Copy)]
 pub enum Cued {
     // The sheet is read, and has so many starts.
     Done(usize),
@@ -21,21 +22,21 @@ pub enum Cued {
 }
 
 // Where the octets of a line end, and where the next line starts.
-#[derive(Drop)]
+#[derive(Clone, Copy)]
 struct Cut {
     end: usize,
     next: usize,
 }
 
 // What the line at a place gives, and where the next line starts.
-#[derive(Drop)]
+#[derive(Clone, Copy)]
 struct LineRead {
     line: Line,
     next: usize,
 }
 
 // What a line is behind other lines: its fault; how many starts there are with it; and the last of them.
-#[derive(Drop)]
+#[derive(Clone, Copy)]
 struct Weighed {
     fault: u8,
     count: usize,

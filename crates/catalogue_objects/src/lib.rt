@@ -1,4 +1,5 @@
 // The Group object and the Track Segments object (SCOPE 7): written out of a catalogue into lent octets, and read back from octets into lent words.
+#![tactic(auto)]
 ghost use Rattle.std.specs.Prelude.{◌≡◌, true, ◌∷◌, [], map, ◌+◌, ◌*◌, ◌<◌, ◌≤◌, ltb, length, drop};
 ghost use Rattle.ground.specs.Limits.{most_groups, most_tracks, most_segments};
 ghost use Rattle.ground.specs.Refusals.{granted, refused, row, said_through};
@@ -19,7 +20,7 @@ const MEMBER: usize = 7;
 
 const LABEL: usize = 5;
 
-#[derive(Drop)]
+#[derive(Clone, Copy)]
 pub enum Answer {
     // How many octets were written, or entries read.
     Filled(usize),
@@ -210,7 +211,7 @@ fn fill_segments(starts: &[u32], out: &mut [u8]) -> Answer
 }
 
 // Which object octets are read as.
-#[derive(Drop)]
+#[derive(Clone, Copy)]
 pub enum Kind {
     Group,
     Segments,
@@ -293,7 +294,7 @@ fn width_of(kind: Kind) -> usize
 }
 
 // Whether octets are whole entries, and how many.
-#[derive(Drop)]
+#[derive(Clone, Copy)]
 struct Overview {
     whole: bool,
     count: usize,

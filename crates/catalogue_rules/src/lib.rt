@@ -1,4 +1,5 @@
 // The rules of a catalogue, a function for each (SCOPE 4.2 to 4.12). The loops are never left early: they become vector code, or at least have no branches.
+#![tactic(auto)]
 ghost use Rattle.std.specs.Prelude.{◌≡◌, ◌&&◌, ◌∷◌, ℕ, ◌+◌, ◌*◌, ◌<◌, ◌≤◌, length};
 ghost use Rattle.ground.specs.Cases.{pick};
 ghost use Rattle.text.specs.Utf8.{said_of as textSaidOf};
@@ -6,7 +7,7 @@ ghost use Rattle.catalogue_tables.specs.Tables.{word_in, track_count};
 ghost use Rattle.catalogue_rules.specs.Rules.{sizes_rule, parent_right, parents_rule, follow, segment_runs_rule, durations_rule, rise_rule, starts_right, starts_rule, titles_placed_rule, bad_title, titles_of, RunsInside, TitlesInside};
 
 // What is said of all titles.
-#[derive(Drop)]
+#[derive(Clone, Copy)]
 pub enum Titles {
     AllText,
     // The lowest track whose title is not UTF-8, and the offset of the octet where it is not.

@@ -1,20 +1,21 @@
 // Views of a catalogue's tables (SCOPE 4.1, 4.3, 4.9), and object numbers (SCOPE 7.1). They take any words and any number: a word behind the end of a table
 // counts as 0.
+#![tactic(auto)]
 ghost use Rattle.std.specs.Prelude.{◌≡◌, min, ◌+◌, ◌-◌, ◌≤◌, ◌<◌};
 ghost use Rattle.catalogue_tables.specs.Objects.{track_object, group_object, segments_object};
 ghost use Rattle.catalogue_tables.specs.Tables.{word_in, group_count, track_count, parent_of, first_track_of, tracks_in, duration_of, is_running, end_by, end_of, first_segment_of, segments_in, title_offset_of, title_length_of, starts_of};
 
 // Group numbers, track numbers, segment numbers and positions are types of their own, so that none is taken for another (SCOPE 2.3).
-#[derive(Drop)]
+#[derive(Clone, Copy)]
 pub struct GroupNo(pub u32);
 
-#[derive(Drop)]
+#[derive(Clone, Copy)]
 pub struct TrackNo(pub u32);
 
-#[derive(Drop)]
+#[derive(Clone, Copy)]
 pub struct SegmentNo(pub u32);
 // A position is in hundredths of a second, from the start of a track (SCOPE 2.4).
-#[derive(Drop)]
+#[derive(Clone, Copy)]
 pub struct Position(pub u32);
 
 // The words of a record of a group and of a track, and the place of each in it (SCOPE 4.3).
@@ -144,7 +145,7 @@ pub fn title_length(tracks: &[u32], t: TrackNo) -> u32
 }
 
 // The start and the end of a run. Where the run goes on behind the end of its table, it is cut off there.
-#[derive(Drop)]
+#[derive(Clone, Copy)]
 pub struct Run {
     pub start: usize,
     pub end: usize,

@@ -1,4 +1,5 @@
 // The office's titles (SCOPE 5): the entries that rename tracks, and a title as a part of the card's text or of the office's, never a copy.
+#![tactic(auto)]
 ghost use Rattle.std.specs.Prelude.{◌≡◌, ℕ, ◌*◌, eqb, length, get_or};
 ghost use Rattle.ground.specs.Cases.{pick};
 ghost use Rattle.ground.specs.Limits.{rename_words};
@@ -18,7 +19,7 @@ pub const RENAME_OFFSET_AT: usize = 0;
 pub const RENAME_LENGTH_AT: usize = 1;
 
 // A title: a part of the office's text where the track is renamed, and else of the card's (SCOPE 5.5).
-#[derive(Drop)]
+#[derive(Clone, Copy)]
 pub struct Part {
     pub renamed: bool,
     pub offset: u32,

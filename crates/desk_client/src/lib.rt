@@ -1,4 +1,5 @@
 // A client record: what is known of one of the four devices, of its link and of its account with each service.
+#![tactic(auto)]
 ghost use Rattle.std.specs.Prelude.{◌≡◌, ◌≤◌, ◌<◌, get_or};
 ghost use Rattle.ground.specs.Lists.{all_below};
 ghost use Rattle.desk_slots.specs.Slots.{slot_count, service_count, place_count};
@@ -7,14 +8,14 @@ ghost use Rattle.desk_client.specs.Queue.{without_oldest, pushed, popped};
 ghost use Rattle.desk_client.specs.Duties.{joined, dropped, noted, was_read, resulted, result_taken, served, passed_on};
 
 // A result that waits: the requested opcode and the result code.
-#[derive(Drop)]
+#[derive(Clone, Copy)]
 pub struct Entry {
     pub opcode: u8,
     pub code: u8,
 }
 
 // The link of a device: `mark` is the place of its round that was served last.
-#[derive(Drop)]
+#[derive(Clone, Copy)]
 pub struct Link {
     pub connected: bool,
     pub encrypted: bool,
@@ -24,7 +25,7 @@ pub struct Link {
 
 // What a service owes to a device. `subscribed` and `owed` are words of slots, `fresh` a word of characteristics that were read at 0 and have not
 // changed since. The first `waiting` of the results wait, oldest first; the others are dead.
-#[derive(Drop)]
+#[derive(Clone, Copy)]
 pub struct Account {
     pub subscribed: u32,
     pub owed: u32,
@@ -34,7 +35,7 @@ pub struct Account {
 }
 
 // The record of a device: its link, and its account with each service.
-#[derive(Drop)]
+#[derive(Clone, Copy)]
 pub struct Client {
     pub link: Link,
     pub accounts: [Account; 2],

@@ -1,11 +1,12 @@
 // The manual's Goto of a service's player: it checks all that is lent and the state itself, and alters nothing.
+#![tactic(auto)]
 ghost use Rattle.std.specs.Prelude.{◌≡◌};
 ghost use Rattle.catalogue_titles.specs.Lent.{lending};
 ghost use Rattle.mcs_state.specs.Codec.{desk_of};
 ghost use Rattle.desk_goto.specs.Manual.{manual_call, shown_by};
 
 // A result code, or 0 where the allowed steps ran out; the steps made; and where the player would be.
-#[derive(Drop)]
+#[derive(Clone, Copy)]
 pub struct Arrival {
     pub outcome: u8,
     pub steps: u32,
@@ -13,7 +14,7 @@ pub struct Arrival {
 }
 
 // The arrival is of no meaning where the call is refused.
-#[derive(Drop)]
+#[derive(Clone, Copy)]
 pub struct Shown {
     pub answer: desk_replies::Answer,
     pub arrival: Arrival,

@@ -1,11 +1,12 @@
 // What the calls on the whole answer, and the rows of the refusal table that many of them share.
+#![tactic(auto)]
 ghost use Rattle.std.specs.Prelude.{◌≡◌, false, true, [], ◌∷◌, ◌++◌, ◌≤◌, length};
 ghost use Rattle.ground.specs.Refusals.{granted, refused, refusal_of};
 ghost use Rattle.catalogue_titles.specs.Lent.{lending};
 ghost use Rattle.mcs_state.specs.Codec.{desk_of};
 ghost use Rattle.desk_replies.specs.Replies.{said_of, Gated, lent_rows, fronted, on_service, client_row, of_caller, of_characteristic, link_of};
 
-#[derive(Drop)]
+#[derive(Clone, Copy)]
 pub enum Answer {
     // Accepted. Of a take: nothing is owed.
     Done,
@@ -19,7 +20,7 @@ pub enum Answer {
 }
 
 // Whether a call may go on, or what it answers.
-#[derive(Drop)]
+#[derive(Clone, Copy)]
 pub struct Gate {
     pub passes: bool,
     pub answer: Answer,

@@ -1,16 +1,17 @@
 // The state of the whole: the services over the one catalogue, the links of the four clients, and the client that was served last.
+#![tactic(auto)]
 ghost use Rattle.std.specs.Prelude.{◌≡◌, ◌<◌};
 ghost use Rattle.desk_slots.specs.Slots.{service_count, client_count};
 ghost use Rattle.desk_state.specs.Desk.{link_at, service_at, account_in, started_service, started_desk, with_account, with_service};
 
 // A service: its player, and what it owes to each of the four clients.
-#[derive(Drop)]
+#[derive(Clone, Copy)]
 pub struct Service {
     pub player: player_state::Player,
     pub accounts: [desk_client::Account; 4],
 }
 
-#[derive(Drop)]
+#[derive(Clone, Copy)]
 pub struct Desk {
     pub services: [Service; 2],
     pub links: [desk_client::Link; 4],

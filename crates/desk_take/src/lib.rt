@@ -1,4 +1,5 @@
 // What is owed is handed out, to one client at a time.
+#![tactic(auto)]
 ghost use Rattle.std.specs.Prelude.{◌≡◌, true, ◌<◌, ◌≤◌, ◌^◌, length, ◌∷◌, []};
 ghost use Rattle.ground.specs.Lists.{filled, table_after};
 ghost use Rattle.catalogue_titles.specs.Lent.{Fit, lending};
@@ -11,7 +12,7 @@ ghost use Rattle.desk_take.specs.Serving.{places_owed, handed_octets, handed_val
 ghost use Rattle.desk_take.specs.Take.{AllRight, owed_sets, players_of, take_call, take_octets};
 
 // What a client was served, of which service, in how many octets, and its record afterwards.
-#[derive(Drop)]
+#[derive(Clone, Copy)]
 struct Serving {
     service: u32,
     characteristic: u32,
@@ -20,7 +21,7 @@ struct Serving {
 }
 
 // An answer, and a client's record afterwards.
-#[derive(Drop)]
+#[derive(Clone, Copy)]
 pub struct Own {
     pub answer: desk_replies::Answer,
     pub client: desk_client::Client,

@@ -1,5 +1,6 @@
 // The title of a service's player: the part of a lent text that it is, and which part that is. Each call checks all that is lent and the state itself, and alters
 // nothing.
+#![tactic(auto)]
 ghost use Rattle.std.specs.Prelude.{◌≡◌};
 ghost use Rattle.catalogue_titles.specs.Titles.{IsPart};
 ghost use Rattle.catalogue_titles.specs.Lent.{lending};
@@ -7,7 +8,7 @@ ghost use Rattle.mcs_state.specs.Codec.{desk_of};
 ghost use Rattle.desk_title.specs.Title.{title_call, titled_by};
 
 // Whether the title is to be had, and where it stands; the empty front of the card's text where it is refused.
-#[derive(Drop)]
+#[derive(Clone, Copy)]
 pub struct Titled {
     pub answer: desk_replies::Answer,
     pub part: catalogue_titles::Part,

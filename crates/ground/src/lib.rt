@@ -1,4 +1,5 @@
 // Numbers out of octets and into them (SCOPE 2.1, 2.2), the limits of a catalogue (SCOPE 4.2), and refusals (SCOPE 20).
+#![tactic(auto)]
 ghost use Rattle.std.specs.Prelude.{◌≡◌, ◌+◌, ◌<◌, ◌≤◌, length, get_or, ◌∷◌, []};
 ghost use Rattle.ground.specs.Cases.{has};
 ghost use Rattle.ground.specs.Lists.{laid};
@@ -93,14 +94,14 @@ pub const NOT_RISING: u32 = 227;
 pub const MANY_STARTS: u32 = 228;
 
 // What a refusal carries besides its number (SCOPE 20.4).
-#[derive(Drop)]
+#[derive(Clone, Copy)]
 pub enum Carried {
     Nothing,
     One(usize),
     Two(usize, usize),
 }
 
-#[derive(Drop)]
+#[derive(Clone, Copy)]
 pub struct Refusal {
     pub number: u32,
     pub carried: Carried,

@@ -1,6 +1,7 @@
 // What C calls (include/mcs.h). The state is 649 octets that the caller keeps (`mcs_state`); each call reads it out of them, makes its call, and writes it back
 // where that is accepted. A call returns 0, or the number of the refusal: then nothing that was lent is altered, but for the words that are lent for what a
 // refusal carries.
+#![tactic(auto)]
 ghost use Rattle.std.specs.Prelude.{◌≡◌, length as len};
 ghost use Rattle.catalogue_tables.specs.Tables.{tables};
 ghost use Rattle.catalogue_titles.specs.Lent.{lending};

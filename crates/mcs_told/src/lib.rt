@@ -1,4 +1,5 @@
 // What C is told of an answer, and how it is told: the words that a call has for it, and the octets of the state.
+#![tactic(auto)]
 ghost use Rattle.std.specs.Prelude.{◌≡◌, [], ◌∷◌, ◌≤◌, length as len, get_or};
 ghost use Rattle.ground.specs.Cases.{pick};
 ghost use Rattle.catalogue_titles.specs.Titles.{part_values};
@@ -23,7 +24,7 @@ const OFFICE_TEXT: u32 = 1;
 
 // What C is told of an answer: whether the call is accepted, or else whether its refusal carries something, and whether that is a title's track and an offset;
 // the number (SCOPE 20.2), 0 where the call is accepted; and the values as words, 0 where there is none.
-#[derive(Drop)]
+#[derive(Clone, Copy)]
 pub struct Told {
     pub granted: bool,
     pub carries: bool,

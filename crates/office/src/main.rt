@@ -11,6 +11,7 @@
 // as 0, and names as what is there. Other titles are lent from their frame on, and have a line without a state: where the octet of the characteristic is 1,
 // nothing is renamed, as in the beginning; else the word is how many words the entries have, and the text is these, little endian, and then the office's text.
 // The text of a manual's Goto: little endian words, the allowed steps and the opcode.
+#![tactic(auto)]
 ghost use Rattle.std.specs.Prelude.{◌-◌, ◌<◌, ◌≤◌, length};
 ghost use Rattle.desk_slots.specs.Slots.{slot_count};
 
@@ -86,7 +87,7 @@ const MOST_RENAMES: usize = 64;
 
 // What a frame asks, but for its text. The octet is the characteristic; of a start service 0's Content Control ID, of a connect whether it is encrypted,
 // of damage the part of the state.
-#[derive(Drop)]
+#[derive(Clone, Copy)]
 struct Ask {
     kind: u8,
     who: u32,

@@ -1,4 +1,5 @@
 // The clock: how far a step of wall time goes at a playback speed (SCOPE 13.2, 13.3).
+#![tactic(auto)]
 ghost use Rattle.std.specs.Prelude.{◌≡◌, true, min, ◌<◌, length};
 ghost use Rattle.ground.specs.Limits.{most_duration};
 ghost use Rattle.player_clock.specs.Clock.{table_rule, factor_of, rest_rule, stepped_by, stepped};
@@ -32,7 +33,7 @@ const FACTORS: [u32; 256] = [
 const PARTS: u64 = 65536;
 
 // How many hundredths a step goes on, and the parts that are left over for the next one.
-#[derive(Drop)]
+#[derive(Clone, Copy)]
 pub struct Stepped {
     pub whole: u32,
     pub rest: u32,

@@ -1,4 +1,5 @@
 // The manual's Goto of a player (SCOPE 15), over a catalogue that passes its check and a state that stands in it: what the three Gotos come to by single steps.
+#![tactic(auto)]
 ghost use Rattle.std.specs.Prelude.{◌≡◌, true, ◌&&◌, ℕ};
 ghost use Rattle.catalogue_tables.specs.Tables.{starts_of, end_of};
 ghost use Rattle.player_groups.specs.Family.{Current};
@@ -22,7 +23,7 @@ const RAN_OUT: u8 = 0;
 
 // A result code, or that the allowed steps ran out; the steps that are counted, First or Last and a step that cannot be made among them (SCOPE 15.2, 15.4); and
 // the player as it would be.
-#[derive(Drop)]
+#[derive(Clone, Copy)]
 pub struct Gone {
     pub outcome: u8,
     pub steps: u32,

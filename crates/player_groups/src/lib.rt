@@ -1,11 +1,12 @@
 // Group moves: along the groups of one parent (SCOPE 12.1, 12.2).
+#![tactic(auto)]
 ghost use Rattle.std.specs.Prelude.{◌≡◌, false, ◌≤◌, length};
 ghost use Rattle.ground.specs.Limits.{most_groups};
 ghost use Rattle.ground.specs.Lists.{span, those};
 ghost use Rattle.player_walk.specs.Steps.{at, move_in};
 ghost use Rattle.player_groups.specs.Family.{is_sibling, siblings, near_group, Current};
 
-#[derive(Drop)]
+#[derive(Clone, Copy)]
 pub enum NearGroup {
     Found(catalogue_tables::GroupNo),
     None,

@@ -1,11 +1,12 @@
 // The manual's Goto on the places of a list (SCOPE 15): First or Last and then each step, as many as are allowed. A turn of the loop makes and counts one.
+#![tactic(auto)]
 ghost use Rattle.std.specs.Prelude.{◌≡◌, ◌-◌, ◌<◌};
 ghost use Rattle.player_walk.specs.Places.{place_after};
 ghost use Rattle.player_manual.specs.Made.{more, steps, from_end, by_steps};
 ghost use Rattle.player_manual.specs.Places.{on_places};
 
 // How a Goto by single steps ends. Steps are counted, First or Last among them (SCOPE 15.2).
-#[derive(Drop)]
+#[derive(Clone, Copy)]
 pub enum Made {
     // All steps were made: the place that they led to, and how many they were.
     All(usize, u32),

@@ -1,4 +1,5 @@
 // What the opcodes, the clock and the writes do to the player (SCOPE 8 to 14), over a catalogue that passes its check and a state that stands in it.
+#![tactic(auto)]
 ghost use Rattle.std.specs.Prelude.{◌≡◌, true, ℕ, ◌<◌};
 ghost use Rattle.player_state.specs.Player.{at_position};
 ghost use Rattle.player_state.specs.Positions.{held_sum};
@@ -23,7 +24,7 @@ pub const PLAYER_INACTIVE: u8 = 3;
 pub const CANNOT_COMPLETE: u8 = 4;
 
 // A result code, and the player afterwards.
-#[derive(Drop)]
+#[derive(Clone, Copy)]
 pub struct Controlled {
     pub result: u8,
     pub player: player_state::Player,

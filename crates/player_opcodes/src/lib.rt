@@ -1,9 +1,10 @@
 // The opcodes of the control point (SCOPE 9.1 to 9.3).
+#![tactic(auto)]
 ghost use Rattle.std.specs.Prelude.{◌≡◌, ◌≤◌};
 ghost use Rattle.player_opcodes.specs.Opcodes.{mask_bit, offered, parameter_length, step_of, action_of};
 
 // What an opcode asks of the player. Numbers are words in two's complement.
-#[derive(Drop)]
+#[derive(Clone, Copy)]
 pub enum Action {
     Play,
     Pause,

@@ -1,4 +1,5 @@
 // The playing orders: moves along the current group's tracks (SCOPE 11.1 to 11.6).
+#![tactic(auto)]
 ghost use Rattle.std.specs.Prelude.{◌≡◌, ◌+◌, ◌-◌, ◌*◌, ◌<◌, ◌≤◌, ltb, length};
 ghost use Rattle.ground.specs.Cases.{pick};
 ghost use Rattle.ground.specs.Limits.{track_words};
@@ -8,14 +9,14 @@ ghost use Rattle.player_orders.specs.Order.{ordered, by_of, repeats, tracks_in_o
 ghost use Rattle.player_orders.specs.Keys.{key_of, below};
 
 // What a group's tracks are ordered by (SCOPE 11.1). Of equal stamps the lower number comes first (SCOPE 11.2).
-#[derive(Drop)]
+#[derive(Clone, Copy)]
 pub enum By {
     Number,
     Rising,
     Falling,
 }
 
-#[derive(Drop)]
+#[derive(Clone, Copy)]
 pub enum NearTrack {
     Found(catalogue_tables::TrackNo),
     None,

@@ -1,10 +1,11 @@
 // Moves along the segments of a track (SCOPE 10).
+#![tactic(auto)]
 ghost use Rattle.std.specs.Prelude.{◌≡◌};
 ghost use Rattle.player_walk.specs.declared.Step.TheVariants.{Goto};
 ghost use Rattle.player_segments.specs.Segments.{previous_start, next_start, segment_starts, segment_move, near_position, Rising, Past, Cut};
 ghost use Rattle.player_segments.specs.Closed.{start_ahead, start_back};
 
-#[derive(Drop)]
+#[derive(Clone, Copy)]
 pub enum NearPosition {
     Found(catalogue_tables::Position),
     None,

@@ -1,4 +1,5 @@
 // The player's state, and what alters it without a look at the catalogue (SCOPE 8 and 9).
+#![tactic(auto)]
 ghost use Rattle.std.specs.Prelude.{◌≡◌, min, ◌-◌, ◌≤◌, ◌<◌, length};
 ghost use Rattle.ground.specs.Limits.{most_title};
 ghost use Rattle.ground.specs.Lists.{filled};
@@ -8,14 +9,14 @@ ghost use Rattle.player_state.specs.Modes.{rung_up, rung_down, forwarded, rewoun
 ghost use Rattle.player_state.specs.Positions.{held_sum, written, sought};
 
 // A name. The octets behind its length mean nothing (SCOPE 17.17).
-#[derive(Drop)]
+#[derive(Clone, Copy)]
 pub struct Name {
     pub octets: [u8; ground::MOST_TITLE],
     pub len: u8,
 }
 
 // What the player offers: the opcode mask and the Content Control ID.
-#[derive(Drop)]
+#[derive(Clone, Copy)]
 pub struct Offer {
     pub mask: u32,
     pub ccid: u8,
@@ -31,7 +32,7 @@ pub const PAUSED: u8 = 2;
 pub const SEEKING: u8 = 3;
 
 // The media state, the playing order, the playback speed and the seeking speed; both speeds as octets in two's complement.
-#[derive(Drop)]
+#[derive(Clone, Copy)]
 pub struct Mode {
     pub media: u8,
     pub order: u8,
@@ -41,7 +42,7 @@ pub struct Mode {
 
 // Where the player is. While Inactive the first three are 0 (SCOPE 8.7). `rest` is what the clock has left over of a hundredth of a second, in 65,536ths
 // (SCOPE 13.3).
-#[derive(Drop)]
+#[derive(Clone, Copy)]
 pub struct Place {
     pub group: catalogue_tables::GroupNo,
     pub track: catalogue_tables::TrackNo,
@@ -50,7 +51,7 @@ pub struct Place {
 }
 
 // `upcoming` is 0, or one more than the number of the track that a client named to come next (SCOPE 14.4).
-#[derive(Drop)]
+#[derive(Clone, Copy)]
 pub struct Player {
     pub name: Name,
     pub offer: Offer,

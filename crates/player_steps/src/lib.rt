@@ -1,5 +1,6 @@
 // The manual's Goto along tracks, groups and segments (SCOPE 15). Tracks and groups are walked on their places, and what stands at the last place is looked up
 // once. Segments are walked from position to position.
+#![tactic(auto)]
 ghost use Rattle.std.specs.Prelude.{◌≡◌, ◌-◌, ◌<◌, length};
 ghost use Rattle.player_walk.specs.Steps.{at, place};
 ghost use Rattle.player_manual.specs.Made.{more, steps, from_end, by_steps};
@@ -12,21 +13,21 @@ ghost use Rattle.player_steps.specs.Stepping.{along_tracks, along_groups, along_
 use player_manual::Made;
 
 // The same three outcomes for each kind: all steps were made, and where they led; a step could not be made; the allowed steps ran out. Each has the count.
-#[derive(Drop)]
+#[derive(Clone, Copy)]
 pub enum TracksMade {
     All(catalogue_tables::TrackNo, u32),
     Stopped(u32),
     RanOut(u32),
 }
 
-#[derive(Drop)]
+#[derive(Clone, Copy)]
 pub enum GroupsMade {
     All(catalogue_tables::GroupNo, u32),
     Stopped(u32),
     RanOut(u32),
 }
 
-#[derive(Drop)]
+#[derive(Clone, Copy)]
 pub enum SegmentsMade {
     All(catalogue_tables::Position, u32),
     Stopped(u32),

@@ -1,16 +1,17 @@
 // The five moves along a list of any kind, on the places of its elements (SCOPE 10.6, 11.5, 11.6).
+#![tactic(auto)]
 ghost use Rattle.std.specs.Prelude.{◌≡◌, ◌<◌};
 ghost use Rattle.player_walk.specs.Signed.{signed_word, is_negative};
 ghost use Rattle.player_walk.specs.Places.{way_of, wrap, mirror, goto_place, place_after};
 
-#[derive(Drop)]
+#[derive(Clone, Copy)]
 pub enum Near {
     At(usize),
     Nothing,
 }
 
 // The five moves. Goto carries a signed number, as its word in two's complement.
-#[derive(Drop)]
+#[derive(Clone, Copy)]
 pub enum Step {
     Previous,
     Next,
@@ -20,7 +21,7 @@ pub enum Step {
 }
 
 // A signed number taken apart: Ahead(m) is m + 1, and Back(m) is -(m + 1). So |n| is never made in signed 32 bits (SCOPE 22.4).
-#[derive(Drop)]
+#[derive(Clone, Copy)]
 pub enum Way {
     Stay,
     Ahead(u32),

@@ -1,9 +1,10 @@
 // UTF-8 (SCOPE 2.5, 2.6): whether octets are text, and if not, where.
+#![tactic(auto)]
 ghost use Rattle.std.specs.Prelude.{◌≡◌, true, ◌&&◌, ℕ, ◌+◌, ◌<◌, ◌≤◌, length, get_or, drop};
 ghost use Rattle.ground.specs.Cases.{pick, within};
 ghost use Rattle.text.specs.Utf8.{is_tail, char_of, char_length, text_of, is_fine, said_of, text_said};
 
-#[derive(Drop)]
+#[derive(Clone, Copy)]
 pub enum Checked {
     Fine,
     // The offset of the first octet that does not start a whole valid character; all before it are whole valid characters.

@@ -2,6 +2,7 @@
 // titles on framed cases from standard input, and writes a line for each. A frame: an octet for the kind (1 card, 2 catalogue, 3 text, 4 cue sheet, 5 catalogue to
 // be written, 6 and 7 catalogue and group or track whose Group object or Track Segments object is to be written, 8 and 9 such an object that is to be read, 10
 // catalogue with the office's titles), an octet for the length of the name, the name, the case.
+#![tactic(auto)]
 ghost use Rattle.std.specs.Prelude.{◌-◌, ◌≤◌, length};
 
 use card_load::Loaded;
