@@ -27,7 +27,7 @@ def declared():
         lines = open(path, encoding="utf-8").read().split("\n")
         for i, line in enumerate(lines):
             m = SIGNATURE.match(line)
-            if not m or len(m["indent"]) > 4 or m["name"] in ("let", "in", "use", "module", "where"):
+            if not m or len(m["indent"]) > 12 or m["name"] in ("let", "in", "use", "module", "where"):
                 continue
             whole, j = line, i
             while j + 1 < len(lines) and lines[j + 1].startswith(m["indent"] + "    "):
@@ -43,9 +43,8 @@ def in_snake_case(name):
         head, dash, rest = name.partition("-")
         return head + dash + in_snake_case(rest) if rest[:1].islower() else name
     if "-" not in name:
-        name = re.sub(r"(?<=[a-z0-9])[A-Z]", lambda m: "_" + m[0].lower(), name)
-    name = name.replace("-", "_")
-    return re.sub(r"_[A-Z]", lambda m: m[0].lower(), name)
+        name = re.sub(r"(?<!_[a-z])(?<=[a-z0-9])[A-Z]", lambda m: "_" + m[0], name)
+    return name.replace("-", "_").lower()
 
 
 def table():

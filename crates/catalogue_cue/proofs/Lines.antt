@@ -166,8 +166,8 @@ module _ (sheet : List ℕ) (at : ℕ) (h : at ≤ length sheet) (n : ℕ) (e : 
       one_more : length (part sheet at n) ≡ suc (n - 1 - at)
       one_more = long ∙ omega arith
 
-      pub cut-plain : (get_or sheet (n - 1) 0 ≡ cr → ⊥) → CutAt sheet at n (n + 1)
-      cut-plain f =
+      pub cut_plain : (get_or sheet (n - 1) 0 ≡ cr → ⊥) → CutAt sheet at n (n + 1)
+      cut_plain f =
           record {
             low = omega arith;
             high = omega arith;
@@ -177,8 +177,8 @@ module _ (sheet : List ℕ) (at : ℕ) (h : at ≤ length sheet) (n : ℕ) (e : 
             cut = up_to_lf ∙ (λ i. cr_kept (part sheet at n) (n - 1 - at) one_more (λ q. f (sym last_octet ∙ q)) i ∷ lines_from sheet (n + 1));
           }
 
-      pub cut-cr : get_or sheet (n - 1) 0 ≡ cr → CutAt sheet at (n - 1) (n + 1)
-      cut-cr f =
+      pub cut_cr : get_or sheet (n - 1) 0 ≡ cr → CutAt sheet at (n - 1) (n + 1)
+      cut_cr f =
           let short : without_cr (part sheet at n) ≡ part sheet at (n - 1) =
           cr_dropped (part sheet at n) (n - 1 - at) one_more (last_octet ∙ f) ∙ take-take (n - 1 - at) (n - at) (drop at sheet) (omega arith) in
           let behind-cr : n - 1 + 1 ≡ n = omega arith in

@@ -15,7 +15,7 @@ use Rattle.catalogue_cue.specs.Sheet.{cr, space, octets, begins, digits_at, numb
 use Rattle.catalogue_cue.specs.Scan.{is_lf, is_no_space, ahead_end, lines_from, CutAt, StartLine, ReadAt, AllUnderstood, looks_start}
 use Rattle.catalogue_cue.proofs.Words.{passed_by, filled_line}
 use Rattle.catalogue_cue.proofs.Form.{start_form, begins_at, short_index}
-use Rattle.catalogue_cue.proofs.Lines.{part_length, part_at, cut_last, cut_empty, cut-plain, cut-cr}
+use Rattle.catalogue_cue.proofs.Lines.{part_length, part_at, cut_last, cut_empty, cut_plain, cut_cr}
 use Rattle.catalogue_cue.proofs.Starting.{no_lf_within}
 use Rattle.catalogue_cue.proofs.Meaning.{gives_nothing, gives_fault}
 use Rattle.catalogue_cue.proofs.Reading.{unspaced_cut, no_space, skipped, line_read}
@@ -35,8 +35,8 @@ some_cut sheet at h =
     (λ j. record { end = n; cut = cut_empty sheet at h n refl k j })
     (λ j.
     ⊎_elim
-    (λ t. record { end = n - 1; cut = cut-cr sheet at h n refl k j (eqb-true _ _ t) })
-    (λ t. record { end = n; cut = cut-plain sheet at h n refl k j (eqb-false _ _ t) })
+    (λ t. record { end = n - 1; cut = cut_cr sheet at h n refl k j (eqb-true _ _ t) })
+    (λ t. record { end = n; cut = cut_plain sheet at h n refl k j (eqb-false _ _ t) })
     (true_or (eqb (get_or sheet (n - 1) 0) cr)))
     (le_or n at))
     (le_or (length sheet) n)

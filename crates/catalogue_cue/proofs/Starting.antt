@@ -13,7 +13,7 @@ use Rattle.catalogue_cue.specs.Sheet.{lf, cr, is_start}
 use Rattle.catalogue_cue.specs.Scan.{is_lf, ahead_end, CutAt, StartLine, NoStartLine}
 use Rattle.catalogue_cue.proofs.Ahead.{ahead_stops, ahead_goes, ahead_ends, ahead_past}
 use Rattle.catalogue_cue.proofs.Form.{start_form, start_octets}
-use Rattle.catalogue_cue.proofs.Lines.{part_length, part_at, cut_last, cut-plain, cut-cr}
+use Rattle.catalogue_cue.proofs.Lines.{part_length, part_at, cut_last, cut_plain, cut_cr}
 
 module _ (sheet : List ℕ) (at : ℕ) (fits : at + 17 ≤ length sheet) (form : is_start (part sheet at (at + 17)) ≡ true) where
   -- none of its octets lies below the space, so that none is an LF or a CR
@@ -35,7 +35,7 @@ module _ (sheet : List ℕ) (at : ℕ) (fits : at + 17 ≤ length sheet) (form :
   pub ends_lf : at + 17 < length sheet → get_or sheet (at + 17) 0 ≡ lf → StartLine sheet at (at + 17 + 1)
   ends_lf h e =
       let last : at + 17 - 1 ≡ at + 16 = omega arith in
-      made (cut-plain sheet at (omega arith) (at + 17) (ahead_stops is_lf sheet (at + 17) h (eq-eqb _ _ e) ∙ no_lf_within) h (omega arith) (λ q. omega (arith, octet 16 (omega arith), sym (ap (λ (i : ℕ). get_or sheet i 0) last) ∙ q)))
+      made (cut_plain sheet at (omega arith) (at + 17) (ahead_stops is_lf sheet (at + 17) h (eq-eqb _ _ e) ∙ no_lf_within) h (omega arith) (λ q. omega (arith, octet 16 (omega arith), sym (ap (λ (i : ℕ). get_or sheet i 0) last) ∙ q)))
 
   pub ends_cr_lf : at + 17 + 1 < length sheet → get_or sheet (at + 17) 0 ≡ cr → get_or sheet (at + 17 + 1) 0 ≡ lf → StartLine sheet at (at + 17 + 2)
   ends_cr_lf h e f =
@@ -44,7 +44,7 @@ module _ (sheet : List ℕ) (at : ℕ) (fits : at + 17 ≤ length sheet) (form :
       ahead_stops is_lf sheet n h (eq-eqb _ _ f) ∙ ahead_goes is_lf sheet (at + 17) (omega arith) (ne_eqb (get_or sheet (at + 17) 0) lf (λ q. omega (arith, e, q))) ∙ no_lf_within in
       let last : n - 1 ≡ at + 17 = omega arith in
       let next : n + 1 ≡ at + 17 + 2 = omega arith in
-      made (rw (last, next) at (cut-cr sheet at (omega arith) n place h (omega arith) (ap (λ (i : ℕ). get_or sheet i 0) last ∙ e)))
+      made (rw (last, next) at (cut_cr sheet at (omega arith) n place h (omega arith) (ap (λ (i : ℕ). get_or sheet i 0) last ∙ e)))
 
 -- a line that is no start: it has too few octets, or another form, or goes on behind them
 module _ (sheet : List ℕ) (at : ℕ) where

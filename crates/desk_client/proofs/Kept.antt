@@ -172,7 +172,7 @@ module _ (a : Account) (sound : Sound a) where
   pub kept_resulted : (opcode code : ℕ) → length a.results ≡ most_results → a.waiting < most_results → within 1 4 code ≡ true → Sound (resulted opcode code a)
   kept_resulted opcode code long room right =
       ⊎_elim
-      (λ e. subst Sound (sym (resulted_is a opcode code e room)) (with-one e))
+      (λ e. subst Sound (sym (resulted_is a opcode code e room)) (with_one e))
       (λ e. subst Sound (sym (resulted_none a opcode code e)) sound)
       (true_or (has a.subscribed control_slot))
     where
@@ -190,9 +190,9 @@ module _ (a : Account) (sound : Sound a) where
                 ∙ all_at (λ (j : ℕ). within 1 4 (get_or a.results j blank_entry).code) a.waiting sound.codes i (omega arith)
           ]
 
-      with-one : has a.subscribed control_slot ≡ true
+      with_one : has a.subscribed control_slot ≡ true
           → Sound (with_slots a.subscribed (insert a.owed control_slot) (a.waiting + 1) (set a.results a.waiting entry) a)
-      with-one wants =
+      with_one wants =
           record {
             subscribed_slots = sound.subscribed_slots;
             owed_slots = insert_lt slot_count a.owed control_slot sound.owed_slots (omega arith);

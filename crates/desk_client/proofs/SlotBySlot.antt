@@ -102,10 +102,10 @@ module _ (a : Account) (opcode code : ℕ) where
     pub resulted_queue : length a.results ≡ most_results → queue_of (resulted opcode code a) ≡ queue_of a ++ (entry ∷ [])
     unfolding pushed
     resulted_queue long =
-        ap queue_of resulted_is ∙ sym (ap queue_of pushed-is) ∙ push_appends a long opcode code room
+        ap queue_of resulted_is ∙ sym (ap queue_of pushed_is) ∙ push_appends a long opcode code room
       where
-        pushed-is : pushed opcode code a ≡ with_queue (a.waiting + 1) (set a.results a.waiting entry) a
-        pushed-is = sym (here _ (lt-ltb a.waiting most_results room) refl)
+        pushed_is : pushed opcode code a ≡ with_queue (a.waiting + 1) (set a.results a.waiting entry) a
+        pushed_is = sym (here _ (lt-ltb a.waiting most_results room) refl)
 
 -- a slot is served
 module _ (a : Account) where

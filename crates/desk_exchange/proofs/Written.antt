@@ -25,7 +25,7 @@ use Rattle.player_moves.specs.Moves.{Sits}
 use Rattle.player_moves.specs.Clock.{group_written}
 use Rattle.player_moves.proofs.Choices.{by_test, active_above}
 use Rattle.player_moves.proofs.Ready.{shaped}
-use Rattle.player_moves.proofs.Kept.{kept_positioned, kept_speed, kept-track, kept_naming, kept-group, kept_order}
+use Rattle.player_moves.proofs.Kept.{kept_positioned, kept_speed, kept_track, kept_naming, kept_group, kept_order}
 use Rattle.player_values.proofs.Fits.{player_sits}
 use Rattle.desk_slots.specs.Table.{size_of}
 use Rattle.desk_slots.specs.Characteristics.{writables, is_in}
@@ -151,7 +151,7 @@ module _ (k : Tables) (right : Right k) where
     kept_entered : any_group k.groups p value ≡ true → Stands (group_written k.groups k.tracks (group_at value) p)
     kept_entered any =
         let there = group_right k.groups p value any in
-        kept-group k.groups k.tracks k.segments (shaped k right) p stands (active_above p (group_active k.groups p value any)) (group_at value)
+        kept_group k.groups k.tracks k.segments (shaped k right) p stands (active_above p (group_active k.groups p value any)) (group_at value)
         (group_current (group_at value) there)
 
     -- what holds of every player that stands holds of what a write leaves, but for the order, which the last characteristic sets
@@ -164,7 +164,7 @@ module _ (k : Tables) (right : Right k) where
         (λ n8. by_test P (eqb c 11) _ _
         (λ e.
         let own = track_allowed k.groups p value c may (eqb-true c 11 e) in
-        holds _ (kept-track k.groups k.tracks k.segments (shaped k right) p stands (active_above p (track_active k.groups p value own)) _ (track_within k.groups p value own)))
+        holds _ (kept_track k.groups k.tracks k.segments (shaped k right) p stands (active_above p (track_active k.groups p value own)) _ (track_within k.groups p value own)))
         (λ n11. by_test P (eqb c 12) _ _
         (λ e.
         let own = next_allowed k.groups p value c may (eqb-true c 12 e) in

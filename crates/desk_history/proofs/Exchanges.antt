@@ -16,9 +16,9 @@ use Rattle.catalogue_check.specs.Catalogue.{catalogue_row}
 use Rattle.catalogue_check.proofs.Laws.{is_right}
 use Rattle.player_state.specs.declared.Player.{Player}
 use Rattle.player_moves.specs.Control.{controlled}
-use Rattle.player_moves.proofs.Alone.{result-values}
+use Rattle.player_moves.proofs.Alone.{result_values}
 use Rattle.player_moves.proofs.Ready.{shaped}
-use Rattle.player_moves.proofs.Kept.{kept-controlled}
+use Rattle.player_moves.proofs.Kept.{kept_controlled}
 use Rattle.desk_slots.specs.Slots.{service_count, client_count}
 use Rattle.desk_slots.specs.Characteristics.{readables, writables, is_in}
 use Rattle.desk_slots.proofs.SetLaws.{in_below}
@@ -45,7 +45,7 @@ use Rattle.desk_exchange.specs.Write.{first_octet, length_right, allowed, write_
 use Rattle.desk_history.specs.Ledger.{Claims, Book, Ledger, in_service, changing, becoming, reading, resulting, rows_of_read, may_read, may_write, outcome, result_of, control_writing, writing}
 use Rattle.desk_history.specs.Stored.{LikeLink, LikeAccount}
 use Rattle.desk_history.proofs.Likeness.{like_read, like_resulted}
-use Rattle.desk_history.proofs.Steps.{Ok, OkService, fine, fits, fit, ok_becoming, ok-account, guard, ok_call, like_link, within as inside, ok_service, caller_rows}
+use Rattle.desk_history.proofs.Steps.{Ok, OkService, fine, fits, fit, ok_becoming, ok_account, guard, ok_call, like_link, within as inside, ok_service, caller_rows}
 
 -- behind 0x80 there is 0x07 and 0
 other : (t : Bool) → (said_by (row 0x07 t ∷ [])).number < 0x80
@@ -76,16 +76,16 @@ as_many x l a alike fit = ap length (sym alike.waiting) ∙ length-take a.waitin
 code_within : (k : Lent) (opcode number : ℕ) (p : Player) → within 1 4 (controlled k.groups k.tracks k.segments opcode number p).result ≡ true
 code_within k opcode number p =
     ⊎_elim (λ e. ap (within 1 4) e) (λ w. ⊎_elim (λ e. ap (within 1 4) e) (λ v. ⊎_elim (λ e. ap (within 1 4) e) (λ e. ap (within 1 4) e) v) w)
-    (result-values p k.groups k.tracks k.segments opcode number)
+    (result_values p k.groups k.tracks k.segments opcode number)
 
 module _ (k : Lent) (right : lent_rule k ≡ true) (links : List Link) (b : Book) (s : Service) (ok : OkService k links b s) (who : ℕ) (value : List ℕ) where
   control_step : who < client_count → (link_at links who).connected ≡ true → length (b.account who).waiting < most_results
       → OkService k links (control_writing k who value b) (control_written k s who value)
   unfolding control_written
   control_step h on room =
-      ok-account k links b1 s1 ok1 who h on (resulted opcode (code s.player) own) (resulting (result_of k b value)) like2
-      (kept_resulted own own-fit.account opcode (code s.player) like1.long room1 (code_within k opcode (number_of value) s.player))
-      (ap (λ (n : ℕ). (link_at links who).encrypted || eqb n 0) (resulted_subscribed own opcode (code s.player)) ∙ own-fit.safe)
+      ok_account k links b1 s1 ok1 who h on (resulted opcode (code s.player) own) (resulting (result_of k b value)) like2
+      (kept_resulted own own_fit.account opcode (code s.player) like1.long room1 (code_within k opcode (number_of value) s.player))
+      (ap (λ (n : ℕ). (link_at links who).encrypted || eqb n 0) (resulted_subscribed own opcode (code s.player)) ∙ own_fit.safe)
     where
       opcode : ℕ
       opcode = first_octet value
@@ -105,7 +105,7 @@ module _ (k : Lent) (right : lent_rule k ≡ true) (links : List Link) (b : Book
       ok1 : OkService k links b1 s1
       ok1 =
           ok_becoming k links b s ok (λ p. by_writer who 18) moved
-          (kept-controlled k.groups k.tracks k.segments (shaped (catalogue_of k) (is_right (catalogue_of k) (rules_kept k right))) s.player (fine k links b s ok) (first_octet value) (number_of value))
+          (kept_controlled k.groups k.tracks k.segments (shaped (catalogue_of k) (is_right (catalogue_of k) (rules_kept k right))) s.player (fine k links b s ok) (first_octet value) (number_of value))
 
       own : Account
       own = account_in s1 who
@@ -116,8 +116,8 @@ module _ (k : Lent) (right : lent_rule k ≡ true) (links : List Link) (b : Book
       room1 : own.waiting < most_results
       room1 = subst (λ (n : ℕ). n < most_results) (as_many (b1.account who) (link_at links who) own like1 (fits k links b1 s1 ok1 who h)) room
 
-      own-fit : Fit (link_at links who) own
-      own-fit = fit k links b1 s1 ok1 who h on
+      own_fit : Fit (link_at links who) own
+      own_fit = fit k links b1 s1 ok1 who h on
 
       like2 : LikeAccount (resulting (result_of k b value) (b1.account who)) (resulted opcode (code s.player) own)
       like2 =
@@ -237,7 +237,7 @@ module _ (k : Lent) (right : lent_rule k ≡ true) (L : Ledger) (d : Desk) (ok :
       let own = account_of d who v in
       let f = fit k d.links (L.service v) (service_at d v) (inside k right L d ok v t) who h on in
       ok_service k right L d ok v t (changing who (reading c offset)) _
-      (ok-account k d.links (L.service v) (service_at d v) (inside k right L d ok v t) who h on (after_read c offset own) (reading c offset)
+      (ok_account k d.links (L.service v) (service_at d v) (inside k right L d ok v t) who h on (after_read c offset own) (reading c offset)
       (like_read ((L.service v).account who) own ((ok.0.service v t).account who h) c offset)
       (sound (eqb offset 0) own f.account (not-false _ n.1.1.1.1.1.0))
       (ap (λ (s : ℕ). (link_of d who).encrypted || eqb s 0) (same (eqb offset 0) own) ∙ f.safe)))

@@ -186,16 +186,16 @@ module _ (x : Claims) (a : Account) (like : LikeAccount x a) where
           others : (t : ℕ) → (t ≡ control_slot → ⊥) → x.due t ≡ (x.due t && not (eqb control_slot t))
           others t n = sym (ap (λ (b : Bool). x.due t && not b) (ne_eqb control_slot t (λ f. n (sym f))) ∙ and-true (x.due t))
 
-          dropped-one : (l : List Entry) → drop 1 l ≡ behind l
-          dropped-one [] = refl
-          dropped-one (e ∷ l) = refl
+          dropped_one : (l : List Entry) → drop 1 l ≡ behind l
+          dropped_one [] = refl
+          dropped_one (e ∷ l) = refl
 
           result : LikeAccount (serving control_slot x) (served control_slot a)
           result =
               record {
                 wants = λ t h. ap (λ (r : Account). has r.subscribed t) is ∙ like.wants t h;
                 due = λ t h n. ap (λ (r : Account). has r.owed t) is ∙ left t n (ltb 1 a.waiting) ∙ like.due t h n ∙ others t n;
-                waiting = served_queue a (some e) like.long few ∙ ap (drop 1) like.waiting ∙ dropped-one x.waiting;
+                waiting = served_queue a (some e) like.long few ∙ ap (drop 1) like.waiting ∙ dropped_one x.waiting;
                 mind = λ c h. ap (λ (r : Account). has r.fresh c) is ∙ like.mind c h;
                 long = ap (λ (r : Account). length r.results) is ∙ shifted_long a.results like.long;
               }

@@ -23,7 +23,7 @@ use Rattle.player_moves.specs.Moves.{running_now}
 use Rattle.player_moves.specs.Control.{success, track_moved, is_next_track, acted, controlled}
 use Rattle.player_moves.specs.Clock.{stays_below, advanced, activated}
 use Rattle.player_moves.proofs.Choices.{by_test}
-use Rattle.player_moves.proofs.Names.{Keeps, on_its_own, stays, kept_here, kept_elsewhere, renamed_keeps, order_keeps, speed_keeps, positioned_keeps, track_keeps, group_keeps, activated_keeps, next_uses, next_once, end_uses, end_once, advanced_keeps, advanced_elsewhere, controlled-keeps, controlled-elsewhere}
+use Rattle.player_moves.proofs.Names.{Keeps, on_its_own, stays, kept_here, kept_elsewhere, renamed_keeps, order_keeps, speed_keeps, positioned_keeps, track_keeps, group_keeps, activated_keeps, next_uses, next_once, end_uses, end_once, advanced_keeps, advanced_elsewhere, controlled_keeps, controlled_elsewhere}
 use Rattle.desk_slots.specs.Slots.{client_count, slot_of, service_of, slot_at}
 use Rattle.desk_notices.specs.Owed.{no_writer, by_writer}
 use Rattle.desk_console.specs.Console.{name_rows, activate_rows, service_rows, quiet_advance}
@@ -146,7 +146,7 @@ module _ (k : Lent) (p : Player) where
   made_elsewhere (read who v c offset room) = still
   made_elsewhere (write who v c value) =
       by_test (NoneElsewhere p) (eqb c 18) _ _
-      (λ e. controlled-elsewhere p k.groups k.tracks k.segments (first_octet value) (number_of value))
+      (λ e. controlled_elsewhere p k.groups k.tracks k.segments (first_octet value) (number_of value))
       (λ n. written_elsewhere c value)
   made_elsewhere (take room) = still
 
@@ -166,7 +166,7 @@ module _ (k : Lent) (p : Player) where
       let next = is_next_track (action_of (first_octet value) (number_of value)) in
       let both = neither (eqb c 12) (eqb c 18 && next) none in
       by_test (Keeps p) (eqb c 18) _ _
-      (λ e. controlled-keeps p k.groups k.tracks k.segments (first_octet value) (number_of value) (sym (λ i. e i && next) ∙ both.1))
+      (λ e. controlled_keeps p k.groups k.tracks k.segments (first_octet value) (number_of value) (sym (λ i. e i && next) ∙ both.1))
       (λ n. written_keeps c value both.0)
   made_keeps (take room) none = stays p
 

@@ -118,13 +118,13 @@ module _ (k : Lent) (c : ℕ) where
       W : List Entry
       W = (b.account c).waiting
 
-      oldest-shown : (l : List Entry) (n : ℕ) → 2 ≤ n → any l ≡ true → shown l ≡ firsts n (oldest l) ∷ shown (behind l)
-      oldest-shown [] n h e = clash e
-      oldest-shown (a ∷ l) n h e = ap (λ (o : List ℕ). o ∷ shown l) (sym (take_all n (result_octets a) h))
+      oldest_shown : (l : List Entry) (n : ℕ) → 2 ≤ n → any l ≡ true → shown l ≡ firsts n (oldest l) ∷ shown (behind l)
+      oldest_shown [] n h e = clash e
+      oldest_shown (a ∷ l) n h e = ap (λ (o : List ℕ). o ∷ shown l) (sym (take_all n (result_octets a) h))
 
       at : Dec (s ≡ control_slot) → shown W ≡ pick (eqb control_slot s) (octets_in k b c line s ∷ []) [] ++ shown (pick (eqb s control_slot) (behind W) W)
       at (yes e) =
-          oldest-shown W (line.mtu - 3) (omega (arith, m)) (f e)
+          oldest_shown W (line.mtu - 3) (omega (arith, m)) (f e)
           ∙ (λ i. pick (sym (eq-eqb control_slot s (sym e)) i) (firsts (line.mtu - 3) (pick (sym (eq-eqb s control_slot e) i) (oldest W) (value_of (source_of k) b.player (characteristic_of s))) ∷ []) [] ++ shown (pick (sym (eq-eqb s control_slot e) i) (behind W) W))
       at (no n) =
           λ i. pick (sym (ne_eqb control_slot s (λ e. n (sym e))) i) (octets_in k b c line s ∷ []) [] ++ shown (pick (sym (ne_eqb s control_slot n) i) (behind W) W)

@@ -18,7 +18,7 @@ use Rattle.player_check.specs.Standing.{player_rule}
 use Rattle.player_check.proofs.Laws.{group_there, group_used}
 use Rattle.player_moves.specs.Clock.{advanced, activated}
 use Rattle.player_moves.proofs.Ready.{shaped}
-use Rattle.player_moves.proofs.Kept.{kept_deactivated, kept_renamed, kept-advanced, kept-activated}
+use Rattle.player_moves.proofs.Kept.{kept_deactivated, kept_renamed, kept_advanced, kept_activated}
 use Rattle.desk_slots.specs.Slots.{slot_count, service_count, client_count, slot_of, has_slot}
 use Rattle.ground.specs.Refusals.{Row, row, accepted, Left}
 use Rattle.desk_client.specs.declared.Link.{Link}
@@ -71,9 +71,9 @@ module _ (k : Lent) (links : List Link) (b : Book) (s : Service) (ok : OkService
       fit = connected_fit (link_at links who) (account_in s who) fits on
 
       -- its account is another, which asks for nothing where the link is not encrypted
-      pub ok-account : (a : Account) (f : Claims → Claims) → LikeAccount (f (b.account who)) a → Sound a → ((link_at links who).encrypted || eqb a.subscribed 0) ≡ true
+      pub ok_account : (a : Account) (f : Claims → Claims) → LikeAccount (f (b.account who)) a → Sound a → ((link_at links who).encrypted || eqb a.subscribed 0) ≡ true
           → OkService k links (changing who f b) (with_account who a s)
-      ok-account a f alike sound safe = (
+      ok_account a f alike sound safe = (
         like_changing b s ok.0 who h a f alike,
         account_kept b s ok.0 who h a k.groups k.tracks links ok.1 (fit_connected (link_at links who) a on (record { account = sound; safe = safe })),
       )
@@ -140,7 +140,7 @@ module _ (k : Lent) (right : lent_rule k ≡ true) (L : Ledger) (d : Desk) (ok :
       let there = not-false _ n.1.0 in
       player_step v (leb-false service_count v n.0) (λ p. no_writer false) (activated k.groups k.tracks g)
       (λ p stands.
-      kept-activated k.groups k.tracks k.segments (shaped (catalogue_of k) (is_right (catalogue_of k) (rules_kept k right))) p stands g (group_there k.groups g there) (group_used k.groups g there)))
+      kept_activated k.groups k.tracks k.segments (shaped (catalogue_of k) (is_right (catalogue_of k) (rules_kept k right))) p stands g (group_there k.groups g there) (group_used k.groups g there)))
 
   pub deactivate_step : (v : ℕ)
       → Ok k (pick (accepted (service_rows v)) (in_service v (λ b. becoming k (no_writer false) (deactivated b.player) b) L) L) (deactivate_call k d v).state
@@ -159,7 +159,7 @@ module _ (k : Lent) (right : lent_rule k ≡ true) (L : Ledger) (d : Desk) (ok :
   advance_step v step =
       ok_call false (accepted (service_rows v)) (service_rows v) _ _ refl
       (λ e. player_step v (leb-false service_count v (none_of (service_rows v) e).0) (λ p. no_writer (quiet_advance k.tracks step p)) (advanced k.groups k.tracks step)
-      (λ p stands. kept-advanced k.groups k.tracks k.segments (shaped (catalogue_of k) (is_right (catalogue_of k) (rules_kept k right))) p stands step))
+      (λ p stands. kept_advanced k.groups k.tracks k.segments (shaped (catalogue_of k) (is_right (catalogue_of k) (rules_kept k right))) p stands step))
 
   -- ---- the calls of the clients
   -- 202, 219: of a number out of range both say no; of another what stands behind is alike
@@ -237,7 +237,7 @@ module _ (k : Lent) (right : lent_rule k ≡ true) (L : Ledger) (d : Desk) (ok :
       let own = account_of d who v in
       let sound = (fit k d.links (L.service v) (service_at d v) (within v l) who h on).account in
       ok_service v l (changing who (f (slot_of c))) _
-      (ok-account k d.links (L.service v) (service_at d v) (within v l) who h on (g (slot_of c) own) (f (slot_of c))
+      (ok_account k d.links (L.service v) (service_at d v) (within v l) who h on (g (slot_of c) own) (f (slot_of c))
       (alike (slot_of c) ((L.service v).account who) own ((ok.0.service v l).account who h))
       (kept (slot_of c) own sound (ltb-true (slot_of c) slot_count (not-false _ n.1.1.1.1.0)))
       (ap (λ (b : Bool). b || eqb (g (slot_of c) own).subscribed 0) safe)))

@@ -97,13 +97,13 @@ module _ (k : Lent) (right : lent_rule k ≡ true) (L : Ledger) (d : Desk) (ok :
       fits : account_fits (link_of d who) (account_of d who v) ≡ true
       fits = account_stands k.groups k.tracks d ok.1 v who h there
 
-      is-own : account_with own v ≡ account_of d who v
-      is-own = own_account d who v h
+      is_own : account_with own v ≡ account_of d who v
+      is_own = own_account d who v h
 
     all_sets : AllSets (map set_owed (span 0 service_count))
     all_sets =
         all_listed set_owed service_count 0
-        (λ v h. subst (λ (a : Account). a.owed < 2 ^ slot_count) (sym (is-own v (omega arith))) (owed_within (link_of d who) (account_of d who v) (fits v (omega arith))))
+        (λ v h. subst (λ (a : Account). a.owed < 2 ^ slot_count) (sym (is_own v (omega arith))) (owed_within (link_of d who) (account_of d who v) (fits v (omega arith))))
 
     -- the places that are stored as owed are those that the ledger owes
     owed_bit : (place : ℕ) → place < place_count → has (places_owed own) place ≡ owed_at L who place
@@ -114,7 +114,7 @@ module _ (k : Lent) (right : lent_rule k ≡ true) (L : Ledger) (d : Desk) (ok :
         let t = service_there place h in
         ap (has (places_owed own)) (sym (place_again place))
         ∙ has_places (map set_owed (span 0 service_count)) all_sets v s (slot_there place)
-        ∙ ap (λ (w : ℕ). has w s) (listed set_owed service_count v 0 t ∙ ap (λ (a : Account). a.owed) (is-own v t))
+        ∙ ap (λ (w : ℕ). has w s) (listed set_owed service_count v 0 t ∙ ap (λ (a : Account). a.owed) (is_own v t))
         ∙ owed_slot ((L.service v).account who) (link_of d who) (account_of d who v) (alike v t) (fits v t) s (slot_there place)
 
     -- the client is owed something
@@ -206,8 +206,8 @@ module _ (k : Lent) (right : lent_rule k ≡ true) (L : Ledger) (d : Desk) (ok :
     unfolding passed_on client_at
     each_account Fits new others w h =
         at_each Fits (client_at d who).accounts v (served slot (account_with (client_at d who) v)) no_account serviced
-        (subst (λ (a : Account). Fits v (served slot a)) (sym (is-own who inside v serviced)) new) w
-        (λ n. subst (Fits w) (sym (is-own who inside w h)) (others w h n))
+        (subst (λ (a : Account). Fits v (served slot a)) (sym (is_own who inside v serviced)) new) w
+        (λ n. subst (Fits w) (sym (is_own who inside w h)) (others w h n))
 
     served_rule : client_rule after ≡ true
     unfolding passed_on client_at
@@ -277,7 +277,7 @@ module _ (k : Lent) (right : lent_rule k ≡ true) (L : Ledger) (d : Desk) (ok :
     unfolding handed_octets client_at
     octets_agree =
         ap (λ (p : ℕ). firsts (link.mtu - 3) (present_octets k (player_at (players_of d) (service_of p)) (account_with (client_at d who) (service_of p)) (slot_at p))) (place_same who inside)
-        ∙ (λ i. firsts (link.mtu - 3) (present_octets k (listed (λ (w : ℕ). (service_at d w).player) service_count v no_player serviced i) (is-own who inside v serviced i) slot))
+        ∙ (λ i. firsts (link.mtu - 3) (present_octets k (listed (λ (w : ℕ). (service_at d w).player) service_count v no_player serviced i) (is_own who inside v serviced i) slot))
         ∙ (λ i. firsts ((line who inside).mtu i - 3) (present i))
 
     -- the place that is named is the one that was served

@@ -87,11 +87,11 @@ module _ (k : Lent) (who v s : ℕ) where
 
       go : (t : Bool) → slot_changes k s b.player q ≡ t
           → Fate ((b.account who).due s) (((becoming k cause q b).account who).due s) (shown_to x b.player) (shown_to x q) (slot_changes k s b.player q) []
-      go true e = falls (due' ∙ (λ i. (b.account who).due s || (true && (e i && true))) ∙ or-true ((b.account who).due s))
+      go true e = falls (due' ∙ (λ i. (b.account who).due s || (true && (e i && true))) ∙ or_true ((b.account who).due s))
         where
-          or-true : (a : Bool) → (a || true) ≡ true
-          or-true true = refl
-          or-true false = refl
+          or_true : (a : Bool) → (a || true) ≡ true
+          or_true true = refl
+          or_true false = refl
       go false e =
           stays
           (λ z. (neither ((b.account who).due s) _ (sym (due' ∙ (λ i. (b.account who).due s || (true && (e i && true)))) ∙ z)).0)
@@ -166,17 +166,17 @@ module _ (k : Lent) (who v s : ℕ) where
       book = L.service v
 
       -- its own write of this slot: it is shown what it wrote
-      own-known : (value : List ℕ) → Octs value → may_write k L who v about value ≡ true
+      own_known : (value : List ℕ) → Octs value → may_write k L who v about value ≡ true
           → shown_to (L.link who) (writing k who about value book).player ≡ value
-      own-known value octets may =
+      own_known value octets may =
           let known = written_known k right book.player value octets about (writer_knows_lem about (w_in k L who v about value may) not-position not-control)
           (w_long k L who v about value may) (w_allowed k L who v about value may) in
           ap (λ (t : Bool). shown_to (L.link who) (pick t (control_writing k who value book) (becoming k (by_writer who about) (player_written (catalogue_of k) book.player about value) book)).player) (ne_eqb about 18 not-control)
           ∙ ap (firsts ((L.link who).mtu - 3)) known.0 ∙ take_all ((L.link who).mtu - 3) value (omega (arith, known.1))
 
       -- any other write to the service
-      others-write : (by c : ℕ) (value : List ℕ) → (eqb who by && eqb about c) ≡ false → (x : Line) → FateOf x x book (writing k by c value book) []
-      others-write by c value apart x = go (eqb c 18)
+      others_write : (by c : ℕ) (value : List ℕ) → (eqb who by && eqb about c) ≡ false → (x : Line) → FateOf x x book (writing k by c value book) []
+      others_write by c value apart x = go (eqb c 18)
         where
           q : Player
           q = (outcome k book value).player
@@ -197,24 +197,24 @@ module _ (k : Lent) (who v s : ℕ) where
           go true = result (eqb who by)
           go false = told x (by_writer by c) (player_written (catalogue_of k) book.player c value) book (unspared_by by c apart)
 
-      write-fate : (by w c : ℕ) (value : List ℕ) (number : ℕ) → Octs value → eqb number 0 ≡ may_write k L by w c value
+      write_fate : (by w c : ℕ) (value : List ℕ) (number : ℕ) → Octs value → eqb number 0 ≡ may_write k L by w c value
           → FateIn L (pick (may_write k L by w c value) (in_service w (writing k by c value) L) L) (own_write who v s number (write by w c value))
-      write-fate by w c value number octets said =
+      write_fate by w c value number octets said =
           subst
           (λ (t : Bool). FateIn L (pick (may_write k L by w c value) (in_service w (writing k by c value) L) L) (pick (t && (eqb who by && (eqb v w && eqb about c))) (value ∷ []) []))
           (sym said) (go (may_write k L by w c value) refl)
         where
           -- to this service
-          here-written : v ≡ w → may_write k L by w c value ≡ true → (t : Bool) → (eqb who by && eqb about c) ≡ t
+          here_written : v ≡ w → may_write k L by w c value ≡ true → (t : Bool) → (eqb who by && eqb about c) ≡ t
               → FateOf (L.link who) (L.link who) book (writing k by c value book) (pick t (value ∷ []) [])
-          here-written same may true mine wants wants' =
+          here_written same may true mine wants wants' =
               let me = eqb-true who by (and_left (eqb who by) (eqb about c) mine) in
               let it = eqb-true about c (and_right (eqb who by) (eqb about c) mine) in
               learns_it (ap (λ (o : List ℕ). o ∷ []) (sym (
               subst (λ (n : ℕ). shown_to (L.link who) (writing k n c value book).player ≡ value) me
               (subst (λ (n : ℕ). shown_to (L.link who) (writing k who n value book).player ≡ value) it
-              (own-known value octets ((λ i. may_write k L (me i) (same i) (it i) value) ∙ may))))))
-          here-written same may false mine wants wants' = others-write by c value mine (L.link who) wants wants'
+              (own_known value octets ((λ i. may_write k L (me i) (same i) (it i) value) ∙ may))))))
+          here_written same may false mine wants wants' = others_write by c value mine (L.link who) wants wants'
 
           go : (t : Bool) → may_write k L by w c value ≡ t
               → FateIn L (pick t (in_service w (writing k by c value) L) L) (pick (t && (eqb who by && (eqb v w && eqb about c))) (value ∷ []) [])
@@ -222,7 +222,7 @@ module _ (k : Lent) (who v s : ℕ) where
             where
               at : (u : Bool) → eqb v w ≡ u
                   → FateOf (L.link who) (L.link who) book (pick u (writing k by c value book) book) (pick (eqb who by && (u && eqb about c)) (value ∷ []) [])
-              at true e = here-written (eqb-true v w e) may (eqb who by && eqb about c) refl
+              at true e = here_written (eqb-true v w e) may (eqb who by && eqb about c) refl
               at false e =
                   subst (FateOf (L.link who) (L.link who) book book) (λ i. pick (sym (and_fails (eqb who by) {b = false} refl) i) (value ∷ []) []) (same_fate (L.link who) book)
           go false may = same_fate (L.link who) book
@@ -237,26 +237,26 @@ module _ (k : Lent) (who v s : ℕ) where
         abbrev served : Ledger
         served = serving_at L n p
 
-        same-player : (served.service v).player ≡ (L.service v).player
-        same-player = go (eqb v (service_of p))
+        same_player : (served.service v).player ≡ (L.service v).player
+        same_player = go (eqb v (service_of p))
           where
             go : (t : Bool) → (pick t (changing n (serving (slot_at p)) (L.service v)) (L.service v)).player ≡ (L.service v).player
             go true = refl
             go false = refl
 
-        same-mtu : (served.link who).mtu ≡ (L.link who).mtu
-        same-mtu = go (eqb who n)
+        same_mtu : (served.link who).mtu ≡ (L.link who).mtu
+        same_mtu = go (eqb who n)
           where
             go : (t : Bool) → (pick t (passing p (L.link who)) (L.link who)).mtu ≡ (L.link who).mtu
             go true = refl
             go false = refl
 
-        same-shown : shown_to (served.link who) (served.service v).player ≡ shown_to (L.link who) (L.service v).player
-        same-shown = λ i. firsts (same-mtu i - 3) (value_of (source_of k) (same-player i) about)
+        same_shown : shown_to (served.link who) (served.service v).player ≡ shown_to (L.link who) (L.service v).player
+        same_shown = λ i. firsts (same_mtu i - 3) (value_of (source_of k) (same_player i) about)
 
         -- another place than this one leaves what is owed here
-        still-due : (eqb who n && eqb (place_of v s) p) ≡ false → ((served.service v).account who).due s ≡ ((L.service v).account who).due s
-        still-due apart =
+        still_due : (eqb who n && eqb (place_of v s) p) ≡ false → ((served.service v).account who).due s ≡ ((L.service v).account who).due s
+        still_due apart =
             elim (ℕ_discrete who n) [
               | no z ↦ ap (λ (a : Claims). a.due s) (account_other L n p v who z)
               | yes q ↦
@@ -278,18 +278,18 @@ module _ (k : Lent) (who v s : ℕ) where
                 and-true true = refl
                 and-true false = refl
 
-        serving-fate : (t : Bool) → (eqb who n && eqb (place_of v s) p) ≡ t
+        serving_fate : (t : Bool) → (eqb who n && eqb (place_of v s) p) ≡ t
             → FateIn L served (pick t (octets_in k (L.service (service_of p)) n (L.link n) (slot_at p) ∷ []) [])
-        serving-fate true mine wants wants' =
+        serving_fate true mine wants wants' =
             let me = eqb-true who n (and_left (eqb who n) (eqb (place_of v s) p) mine) in
             let it = slot_is slot p (eqb-true (place_of v s) p (and_right (eqb who n) (eqb (place_of v s) p) mine)) in
             learns_it (ap (λ (o : List ℕ). o ∷ [])
-            (sym (λ i. octets_in k (L.service (it.0 i)) (me i) (L.link (me i)) (it.1 i)) ∙ shown_octets no_results (L.service v) (L.link who) ∙ sym same-shown))
-        serving-fate false mine wants wants' =
-            stays (λ d. sym (still-due mine) ∙ d) same-shown (ap (slot_changes k s (L.service v).player) same-player ∙ unchanged (L.service v).player) refl
+            (sym (λ i. octets_in k (L.service (it.0 i)) (me i) (L.link (me i)) (it.1 i)) ∙ shown_octets no_results (L.service v) (L.link who) ∙ sym same_shown))
+        serving_fate false mine wants wants' =
+            stays (λ d. sym (still_due mine) ∙ d) same_shown (ap (slot_changes k s (L.service v).player) same_player ∙ unchanged (L.service v).player) refl
 
-      take-fate : (room : ℕ) → FateIn L (after k (take room) L) (handouts_to who v s (prepend (due_out k (take room) L) []) ++ [])
-      take-fate room = go (may_take room) (leb client_count (next_in L))
+      take_fate : (room : ℕ) → FateIn L (after k (take room) L) (handouts_to who v s (prepend (due_out k (take room) L) []) ++ [])
+      take_fate room = go (may_take room) (leb client_count (next_in L))
         where
           n : ℕ
           n = next_in L
@@ -305,7 +305,7 @@ module _ (k : Lent) (who v s : ℕ) where
           go true true = same_fate (L.link who) (L.service v)
           go true false =
               subst (FateIn L (serving_next L)) (sym (append-nil (pick (eqb who n && eqb (place_of v s) p) (octets ∷ []) [])))
-              (serving-fate n p (eqb who n && eqb (place_of v s) p) refl)
+              (serving_fate n p (eqb who n && eqb (place_of v s) p) refl)
           go false u = same_fate (L.link who) (L.service v)
 
       -- ---- every call; a write was answered 0 exactly where it was accepted
@@ -340,5 +340,5 @@ module _ (k : Lent) (who v s : ℕ) where
           left_alone wants true false w d = d
           left_alone wants false false w d = refl
       fate right m (read by w c offset room) number o a = changing_in (may_read k L by w c offset room) w by (reading c offset) L (λ x w' d. d)
-      fate right m (write by w c value) number o a = write-fate right L m by w c value number o a
-      fate right m (take room) number o a = take-fate room
+      fate right m (write by w c value) number o a = write_fate right L m by w c value number o a
+      fate right m (take room) number o a = take_fate room

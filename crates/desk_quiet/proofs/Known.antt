@@ -70,8 +70,8 @@ module _ (k : Lent) (right : lent_rule k ≡ true) (gen nam : Beginning) (gt : t
         now : List (List ℕ)
         now = learnt_by who v s c (left k c (desk_at k gen nam h)).said.number (handed_out k c (desk_at k gen nam h))
 
-        its-fate : subscribed_at k gen nam who v s h ≡ true → Fate (due h) (due (c ∷ h)) (shown h) (shown (c ∷ h)) (changed_by k gen nam who v s c h) now
-        its-fate before =
+        its_fate : subscribed_at k gen nam who v s h ≡ true → Fate (due h) (due (c ∷ h)) (shown h) (shown (c ∷ h)) (changed_by k gen nam who v s c h) now
+        its_fate before =
             subst (λ (o : List (List ℕ)). Fate (due h) (due (c ∷ h)) (shown h) (shown (c ∷ h)) (changed_by k gen nam who v s c h) o)
             (λ i. learnt_by who v s c (left k c (desk_at k gen nam h)).said.number (sym (hands_at k right gen nam gt nt c h) i))
             (fate k who v s client not-position not-control slot no_results (ledger h) (is_right (catalogue_of k) (rules_kept k right)) (mtu_at k right gen nam gt nt h who client)
@@ -83,12 +83,12 @@ module _ (k : Lent) (right : lent_rule k ≡ true) (gen nam : Beginning) (gt : t
         after (untouched e f) same unchanged nothing = untouched ((λ i. unchanged i || e i)) (λ i. nothing i ++ f i)
         after (knows e) same unchanged nothing = knows ((λ i. newest (nothing i ++ learnt k gen nam who v s h)) ∙ e ∙ ap some (sym same))
 
-        by-fate : Fate (due h) (due (c ∷ h)) (shown h) (shown (c ∷ h)) (changed_by k gen nam who v s c h) now
+        by_fate : Fate (due h) (due (c ∷ h)) (shown h) (shown (c ∷ h)) (changed_by k gen nam who v s c h) now
             → (due h ≡ false → Tells (changed_since k gen nam who v s h) (learnt k gen nam who v s h) (shown h))
             → Tells (changed_by k gen nam who v s c h || changed_since k gen nam who v s h) (now ++ learnt k gen nam who v s h) (shown (c ∷ h))
-        by-fate (stays still same unchanged nothing) knew = after (knew (still unowed)) same unchanged nothing
-        by-fate (falls owed) knew = clash (sym unowed ∙ owed)
-        by-fate (learns_it e) knew = knows (λ i. newest (e i ++ learnt k gen nam who v s h))
+        by_fate (stays still same unchanged nothing) knew = after (knew (still unowed)) same unchanged nothing
+        by_fate (falls owed) knew = clash (sym unowed ∙ owed)
+        by_fate (learns_it e) knew = knows (λ i. newest (e i ++ learnt k gen nam who v s h))
 
         go : (t : Bool) → subscribed_at k gen nam who v s h ≡ t
             → (subscribed_at k gen nam who v s h ≡ true → due h ≡ false → Tells (changed_since k gen nam who v s h) (learnt k gen nam who v s h) (shown h))
@@ -96,7 +96,7 @@ module _ (k : Lent) (right : lent_rule k ≡ true) (gen nam : Beginning) (gt : t
             (pick (subscribed_at k gen nam who v s h) (now ++ learnt k gen nam who v s h) []) (shown (c ∷ h))
         go true before knew =
             subst (λ (t : Bool). Tells (t && (changed_by k gen nam who v s c h || changed_since k gen nam who v s h)) (pick t (now ++ learnt k gen nam who v s h) []) (shown (c ∷ h))) (sym before)
-            (by-fate (its-fate before) (knew before))
+            (by_fate (its_fate before) (knew before))
         go false before knew =
             untouched (λ i. before i && (changed_by k gen nam who v s c h || changed_since k gen nam who v s h)) (λ i. pick (before i) (now ++ learnt k gen nam who v s h) [])
 

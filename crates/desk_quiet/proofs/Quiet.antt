@@ -85,11 +85,11 @@ module _ (k : Lent) (right : lent_rule k ≡ true) (gen nam : Beginning) (gt : t
     pub then_screens_agree : (h ks : List Call) → OnlyTakes ks → most_owed ≤ length ks → AllOctets h → subscribed_at k gen nam who v s (then h ks) ≡ true
         → changed_since k gen nam who v s (then h ks) ≡ true → newest (learnt k gen nam who v s (then h ks)) ≡ some (present_at k gen nam who v s (then h ks))
     then_screens_agree h ks only enough octets subscribed changed =
-        known_unless_owed (then h ks) (takes-write-nothing h ks only octets) subscribed (quiet_by_the_168th h ks only enough who v s client service claimed.slot) changed
+        known_unless_owed (then h ks) (takes_write_nothing h ks only octets) subscribed (quiet_by_the_168th h ks only enough who v s client service claimed.slot) changed
       where
-        takes-write-nothing : (h ks : List Call) → OnlyTakes ks → AllOctets h → AllOctets (then h ks)
-        takes-write-nothing h ks no_call o = o
-        takes-write-nothing h ks (a_take {room = room} {ks = rest} enough more) o = takes-write-nothing (take room ∷ h) rest more (tt, o)
+        takes_write_nothing : (h ks : List Call) → OnlyTakes ks → AllOctets h → AllOctets (then h ks)
+        takes_write_nothing h ks no_call o = o
+        takes_write_nothing h ks (a_take {room = room} {ks = rest} enough more) o = takes_write_nothing (take room ∷ h) rest more (tt, o)
 
   -- so two clients with one ATT_MTU know the same of it
   pub two_know_the_same : (a b v s : ℕ) → a < client_count → b < client_count → v < service_count → Claimed s → (h : List Call) → AllOctets h → Quiet (ledger h)

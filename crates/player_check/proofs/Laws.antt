@@ -195,27 +195,27 @@ module _ (groups tracks : List ℕ) (p : Player) where
 
     -- an active player has a group, a track of it and a position up to the end
     module _ (active : inactive < media) where
-      within-group : in_group groups group track ≡ true
+      within_group : in_group groups group track ≡ true
       unfolding place_rule
-      within-group =
+      within_group =
           and_left (in_group groups group track) (leb position (end_of tracks track))
           (chosen (some_place groups tracks p.place) (no_place p.place) (lt-ltb inactive media active) place_kept)
 
-      group-and-start : (ltb group (group_count groups) && leb first track) ≡ true
-      group-and-start = and_left (ltb group (group_count groups) && leb first track) (ltb track (first + count)) within-group
+      group_and_start : (ltb group (group_count groups) && leb first track) ≡ true
+      group_and_start = and_left (ltb group (group_count groups) && leb first track) (ltb track (first + count)) within_group
 
-      pub group-exists : group < group_count groups
-      group-exists = ltb-true _ _ (and_left (ltb group (group_count groups)) (leb first track) group-and-start)
+      pub group_exists : group < group_count groups
+      group_exists = ltb-true _ _ (and_left (ltb group (group_count groups)) (leb first track) group_and_start)
 
-      pub track-from : first ≤ track
-      track-from = leb-true _ _ (and_right (ltb group (group_count groups)) (leb first track) group-and-start)
+      pub track_from : first ≤ track
+      track_from = leb-true _ _ (and_right (ltb group (group_count groups)) (leb first track) group_and_start)
 
-      pub track-to : track < first + count
-      track-to = ltb-true _ _ (and_right (ltb group (group_count groups) && leb first track) (ltb track (first + count)) within-group)
+      pub track_to : track < first + count
+      track_to = ltb-true _ _ (and_right (ltb group (group_count groups) && leb first track) (ltb track (first + count)) within_group)
 
-      pub position-held : position ≤ end_of tracks track
+      pub position_held : position ≤ end_of tracks track
       unfolding place_rule
-      position-held =
+      position_held =
           leb-true _ _
           (and_right (in_group groups group track) (leb position (end_of tracks track))
           (chosen (some_place groups tracks p.place) (no_place p.place) (lt-ltb inactive media active) place_kept))
@@ -226,17 +226,17 @@ module _ (groups tracks : List ℕ) (p : Player) where
       unfolding place_rule
       no_place = left_over (some_place groups tracks p.place) (no_place p.place) (le-ltb inactive media (omega arith)) place_kept
 
-      no-group-and-track : (eqb group 0 && eqb track 0) ≡ true
-      no-group-and-track = and_left (eqb group 0 && eqb track 0) (eqb position 0) no_place
+      no_group_and_track : (eqb group 0 && eqb track 0) ≡ true
+      no_group_and_track = and_left (eqb group 0 && eqb track 0) (eqb position 0) no_place
 
       pub no_group : group ≡ 0
-      no_group = eqb-true _ _ (and_left (eqb group 0) (eqb track 0) no-group-and-track)
+      no_group = eqb-true _ _ (and_left (eqb group 0) (eqb track 0) no_group_and_track)
 
-      pub no-track : track ≡ 0
-      no-track = eqb-true _ _ (and_right (eqb group 0) (eqb track 0) no-group-and-track)
+      pub no_track : track ≡ 0
+      no_track = eqb-true _ _ (and_right (eqb group 0) (eqb track 0) no_group_and_track)
 
-      pub no-position : position ≡ 0
-      no-position = eqb-true _ _ (and_right (eqb group 0 && eqb track 0) (eqb position 0) no_place)
+      pub no_position : position ≡ 0
+      no_position = eqb-true _ _ (and_right (eqb group 0 && eqb track 0) (eqb position 0) no_place)
 
-      pub no-speed : p.mode.seeking ≡ 0
-      no-speed = speed_none (λ e. omega arith)
+      pub no_speed : p.mode.seeking ≡ 0
+      no_speed = speed_none (λ e. omega arith)

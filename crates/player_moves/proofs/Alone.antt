@@ -147,53 +147,53 @@ module _ (p : Player) where
     advanced_idle d n m = sym (past _ (ne_eqb _ _ n) (past _ (ne_eqb _ _ m) refl))
 
     module _ (segments : List ℕ) where
-      acted-setting : (a : Action) → Alike (acted groups tracks segments a p).player
+      acted_setting : (a : Action) → Alike (acted groups tracks segments a p).player
       unfolding acted track_moved forwarded rewound
-      acted-setting Play = refl
-      acted-setting Pause = refl
-      acted-setting Rewind = refl
-      acted-setting Forward = refl
-      acted-setting Stop = refl
-      acted-setting (Relative n) = refl
-      acted-setting (Segment step) =
+      acted_setting Play = refl
+      acted_setting Pause = refl
+      acted_setting Rewind = refl
+      acted_setting Forward = refl
+      acted_setting Stop = refl
+      acted_setting (Relative n) = refl
+      acted_setting (Segment step) =
           by_segment (λ c. Alike c.player) tracks segments step p refl (λ x e. refl) refl
-      acted-setting (Track step) =
+      acted_setting (Track step) =
           by_found (λ c. Alike c.player) (track_reached groups tracks step p) _ p (λ t e. moved_setting (left_named step p.upcoming) p.place.group.0 t) refl
-      acted-setting (Group step) =
+      acted_setting (Group step) =
           by_found (λ c. Alike c.player) (group_after groups step p) (entered groups tracks p) p
           (λ g e. by_found (λ c. Alike c.player) (entry_of groups tracks p.mode.order g) _ p (λ t i. moved_setting p.upcoming g t) refl)
           refl
-      acted-setting Unknown = refl
+      acted_setting Unknown = refl
 
-      acted-ends : (a : Action) → (a ≡ Unknown → ⊥) → Ends p (acted groups tracks segments a p)
+      acted_ends : (a : Action) → (a ≡ Unknown → ⊥) → Ends p (acted groups tracks segments a p)
       unfolding acted track_moved
-      acted-ends Play known = inl refl
-      acted-ends Pause known = inl refl
-      acted-ends Rewind known = inl refl
-      acted-ends Forward known = inl refl
-      acted-ends Stop known = inl refl
-      acted-ends (Relative n) known = inl refl
-      acted-ends (Segment step) known = by_segment (Ends p) tracks segments step p (inl refl) (λ x e. inl refl) (inr refl)
-      acted-ends (Track step) known = by_found (Ends p) (track_reached groups tracks step p) _ p (λ t e. inl refl) (inr refl)
-      acted-ends (Group step) known =
+      acted_ends Play known = inl refl
+      acted_ends Pause known = inl refl
+      acted_ends Rewind known = inl refl
+      acted_ends Forward known = inl refl
+      acted_ends Stop known = inl refl
+      acted_ends (Relative n) known = inl refl
+      acted_ends (Segment step) known = by_segment (Ends p) tracks segments step p (inl refl) (λ x e. inl refl) (inr refl)
+      acted_ends (Track step) known = by_found (Ends p) (track_reached groups tracks step p) _ p (λ t e. inl refl) (inr refl)
+      acted_ends (Group step) known =
           by_found (Ends p) (group_after groups step p) (entered groups tracks p) p
           (λ g e. by_found (Ends p) (entry_of groups tracks p.mode.order g) _ p (λ t i. inl refl) (inr refl))
           (inr refl)
-      acted-ends Unknown known = absurd (known refl)
+      acted_ends Unknown known = absurd (known refl)
 
       module _ (opcode number : ℕ) where
         abbrev outcome : Controlled
         outcome = controlled groups tracks segments opcode number p
 
-        pub controlled-setting : setting outcome.player ≡ setting p
-        controlled-setting =
+        pub controlled_setting : setting outcome.player ≡ setting p
+        controlled_setting =
             by_control (λ c. Alike c.player) groups tracks segments opcode number p (λ n. refl) (λ y n. refl)
-            (λ y a. acted-setting (action_of opcode number))
+            (λ y a. acted_setting (action_of opcode number))
 
         -- what is offered has an action
         ends : offered p.offer.mask opcode ≡ true → Ends p (acted groups tracks segments (action_of opcode number) p)
         unfolding offered
-        ends y = acted-ends (action_of opcode number) (action_known opcode number (ltb-true _ _ (and_left (ltb (mask_bit opcode) 21) (has p.offer.mask (mask_bit opcode)) y)))
+        ends y = acted_ends (action_of opcode number) (action_known opcode number (ltb-true _ _ (and_left (ltb (mask_bit opcode) 21) (has p.offer.mask (mask_bit opcode)) y)))
 
         answer : Answer p opcode outcome
         answer =
@@ -202,8 +202,8 @@ module _ (p : Player) where
             (λ y n. idle refl y n)
             (λ y a. ⊎_elim (λ e. done e y a) (λ e. stuck e y a) (ends y))
 
-        pub result-values : (outcome.result ≡ 1) ⊎ ((outcome.result ≡ 2) ⊎ ((outcome.result ≡ 3) ⊎ (outcome.result ≡ 4)))
-        result-values = values answer
+        pub result_values : (outcome.result ≡ 1) ⊎ ((outcome.result ≡ 2) ⊎ ((outcome.result ≡ 3) ⊎ (outcome.result ≡ 4)))
+        result_values = values answer
           where
             values : Answer p opcode outcome → (outcome.result ≡ 1) ⊎ ((outcome.result ≡ 2) ⊎ ((outcome.result ≡ 3) ⊎ (outcome.result ≡ 4)))
             values (done e y a) = inl e
@@ -211,8 +211,8 @@ module _ (p : Player) where
             values (idle e y n) = inr (inr (inl (ap result e)))
             values (stuck e y a) = inr (inr (inr (ap result e)))
 
-        pub refused-alone : (outcome.result ≡ 1 → ⊥) → outcome.player ≡ p
-        refused-alone refused = before answer
+        pub refused_alone : (outcome.result ≡ 1 → ⊥) → outcome.player ≡ p
+        refused_alone refused = before answer
           where
             before : Answer p opcode outcome → outcome.player ≡ p
             before (done e y a) = absurd (refused e)
@@ -220,8 +220,8 @@ module _ (p : Player) where
             before (idle e y n) = ap player e
             before (stuck e y a) = ap player e
 
-        pub result-two : (outcome.result ≡ 2) ↔ (offered p.offer.mask opcode ≡ false)
-        result-two = (two answer, λ n. back n answer)
+        pub result_two : (outcome.result ≡ 2) ↔ (offered p.offer.mask opcode ≡ false)
+        result_two = (two answer, λ n. back n answer)
           where
             two : Answer p opcode outcome → outcome.result ≡ 2 → offered p.offer.mask opcode ≡ false
             two (done e y a) h = absurd (let z : ⊥ = omega arith in z)
@@ -235,8 +235,8 @@ module _ (p : Player) where
             back n (idle e y m) = clash (sym n ∙ y)
             back n (stuck e y a) = clash (sym n ∙ y)
 
-        pub result-three : (outcome.result ≡ 3) ↔ ((offered p.offer.mask opcode ≡ true) × (p.mode.media ≡ inactive))
-        result-three = (three answer, λ h. back h.0 h.1 answer)
+        pub result_three : (outcome.result ≡ 3) ↔ ((offered p.offer.mask opcode ≡ true) × (p.mode.media ≡ inactive))
+        result_three = (three answer, λ h. back h.0 h.1 answer)
           where
             three : Answer p opcode outcome → outcome.result ≡ 3 → (offered p.offer.mask opcode ≡ true) × (p.mode.media ≡ inactive)
             three (done e y a) h = absurd (let z : ⊥ = omega arith in z)

@@ -131,22 +131,22 @@ module _ (p : Player) where
     activated_rests g = on_rests g (entry_of groups tracks p.mode.order g)
 
     module _ (segments : List ℕ) where
-      acted-rests : (a : Action) → Rests (acted groups tracks segments a p).player
+      acted_rests : (a : Action) → Rests (acted groups tracks segments a p).player
       unfolding acted track_moved forwarded rewound
-      acted-rests Play = inl refl
-      acted-rests Pause = inl refl
-      acted-rests Rewind = inl refl
-      acted-rests Forward = inl refl
-      acted-rests Stop = inr refl
-      acted-rests (Relative n) = inr refl
-      acted-rests (Segment step) = by_segment (λ c. Rests c.player) tracks segments step p (inl refl) (λ x e. inr refl) (inl refl)
-      acted-rests (Track step) =
+      acted_rests Play = inl refl
+      acted_rests Pause = inl refl
+      acted_rests Rewind = inl refl
+      acted_rests Forward = inl refl
+      acted_rests Stop = inr refl
+      acted_rests (Relative n) = inr refl
+      acted_rests (Segment step) = by_segment (λ c. Rests c.player) tracks segments step p (inl refl) (λ x e. inr refl) (inl refl)
+      acted_rests (Track step) =
           by_found (λ c. Rests c.player) (track_reached groups tracks step p) _ p
           (λ t e. inr (moved_rests (left_named step p.upcoming) p.place.group.0 t)) (inl refl)
-      acted-rests (Group step) =
+      acted_rests (Group step) =
           by_found (λ c. Rests c.player) (group_after groups step p) (entered groups tracks p) p (λ g e. entered_rests g) (inl refl)
-      acted-rests Unknown = inl refl
+      acted_rests Unknown = inl refl
 
-      pub controlled-rests : (opcode number : ℕ) → Rests (controlled groups tracks segments opcode number p).player
-      controlled-rests opcode number =
-          by_control (λ c. Rests c.player) groups tracks segments opcode number p (λ n. inl refl) (λ y n. inl refl) (λ y a. acted-rests (action_of opcode number))
+      pub controlled_rests : (opcode number : ℕ) → Rests (controlled groups tracks segments opcode number p).player
+      controlled_rests opcode number =
+          by_control (λ c. Rests c.player) groups tracks segments opcode number p (λ n. inl refl) (λ y n. inl refl) (λ y a. acted_rests (action_of opcode number))

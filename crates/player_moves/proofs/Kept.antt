@@ -124,7 +124,7 @@ module _ (groups tracks : List ℕ) where
     stay_stands was m h active x r held rests =
         let q = clocked_to x r (with_mode m p) in
         laws.stands groups tracks q (laws.name_kept groups tracks p right) h
-        (laws.place_stands groups tracks q active (laws.group-exists groups tracks p right was) (laws.track-from groups tracks p right was) (laws.track-to groups tracks p right was) held)
+        (laws.place_stands groups tracks q active (laws.group_exists groups tracks p right was) (laws.track_from groups tracks p right was) (laws.track_to groups tracks p right was) held)
         (next_stands (ltb inactive m.media) (lt-ltb inactive m.media active) _ refl) rests
 
     -- no track is named
@@ -163,35 +163,35 @@ module _ (groups tracks : List ℕ) where
         (laws.place_kept groups tracks p right) (laws.next_kept groups tracks p right) (laws.rest_kept groups tracks p right)
 
     module _ (active : 0 < p.mode.media) where
-      in-stands : (m : Mode) → mode_rule m ≡ true → 0 < m.media → Stands (with_mode m p)
-      in-stands m h above = stay_stands active m h above p.place.position.0 p.place.rest (laws.position-held groups tracks p right active) (laws.rest_kept groups tracks p right)
+      in_stands : (m : Mode) → mode_rule m ≡ true → 0 < m.media → Stands (with_mode m p)
+      in_stands m h above = stay_stands active m h above p.place.position.0 p.place.rest (laws.position_held groups tracks p right active) (laws.rest_kept groups tracks p right)
 
-      clocked-stands : (x r : ℕ) → x ≤ end_now tracks p → rest_rule r ≡ true → Stands (clocked_to x r p)
-      clocked-stands x r h rests = stay_stands active p.mode (laws.mode_kept groups tracks p right) active x r h rests
+      clocked_stands : (x r : ℕ) → x ≤ end_now tracks p → rest_rule r ≡ true → Stands (clocked_to x r p)
+      clocked_stands x r h rests = stay_stands active p.mode (laws.mode_kept groups tracks p right) active x r h rests
 
-      position-stands : (x : ℕ) → x ≤ end_now tracks p → Stands (at_position x p)
-      position-stands x h = clocked-stands x 0 h refl
+      position_stands : (x : ℕ) → x ≤ end_now tracks p → Stands (at_position x p)
+      position_stands x h = clocked_stands x 0 h refl
 
-      moved-stands : (g t : ℕ) → Found g t → Stands (moved_to g t p)
+      moved_stands : (g t : ℕ) → Found g t → Stands (moved_to g t p)
       unfolding moved_to
-      moved-stands g t f =
+      moved_stands g t f =
           by_test (λ q. Stands (at_place g t 0 q)) (eqb p.mode.media seeking) (in_mode playing 0 p) p
           (λ e. at_stands (in_mode playing 0 p).mode (calm 1 (omega arith)) (omega arith) g t 0 f (omega arith))
           (λ e. at_stands p.mode (laws.mode_kept groups tracks p right) active g t 0 f (omega arith))
 
-      forward-stands : Stands (forwarded p)
+      forward_stands : Stands (forwarded p)
       unfolding forwarded
-      forward-stands =
+      forward_stands =
           by_test (λ speed. Stands (in_mode seeking speed p)) (eqb p.mode.media seeking) (rung_up p.mode.seeking) 4
-          (λ e. in-stands _ (fast _ (up_rung _ (laws.speed_rung groups tracks p right (eqb-true _ _ e)))) (omega arith))
-          (λ e. in-stands _ (fast 4 refl) (omega arith))
+          (λ e. in_stands _ (fast _ (up_rung _ (laws.speed_rung groups tracks p right (eqb-true _ _ e)))) (omega arith))
+          (λ e. in_stands _ (fast 4 refl) (omega arith))
 
-      rewind-stands : Stands (rewound p)
+      rewind_stands : Stands (rewound p)
       unfolding rewound
-      rewind-stands =
+      rewind_stands =
           by_test (λ speed. Stands (in_mode seeking speed p)) (eqb p.mode.media seeking) (rung_down p.mode.seeking) 0xFC
-          (λ e. in-stands _ (fast _ (down_rung _ (laws.speed_rung groups tracks p right (eqb-true _ _ e)))) (omega arith))
-          (λ e. in-stands _ (fast 0xFC refl) (omega arith))
+          (λ e. in_stands _ (fast _ (down_rung _ (laws.speed_rung groups tracks p right (eqb-true _ _ e)))) (omega arith))
+          (λ e. in_stands _ (fast 0xFC refl) (omega arith))
 
     pub kept_positioned : (number : ℕ) → Stands (positioned tracks number p)
     unfolding positioned
@@ -199,7 +199,7 @@ module _ (groups tracks : List ℕ) where
         by_test Stands (is_active p) _ p
         (λ a. by_test Stands (running_now tracks p && is_negative (signed_word number)) p _
         (λ t. right)
-        (λ t. position-stands (active_above p a) _ (written_within (end_now tracks p) (signed_word number))))
+        (λ t. position_stands (active_above p a) _ (written_within (end_now tracks p) (signed_word number))))
         (λ a. right)
 
   module _ (segments : List ℕ) (s : Shaped groups tracks segments) where
@@ -212,122 +212,122 @@ module _ (groups tracks : List ℕ) where
 
     module _ (p : Player) (right : Stands p) where
       module _ (active : 0 < p.mode.media) where
-        track-found : (step : Step) (t : ℕ) → track_after groups tracks step p ≡ At t → Found p.place.group.0 t
+        track_found_lem : (step : Step) (t : ℕ) → track_after groups tracks step p ≡ At t → Found p.place.group.0 t
         unfolding track_after
-        track-found step t e =
+        track_found_lem step t e =
             let g = p.place.group.0 in
             let r =
             move_in_run p.mode.order tracks (length tracks) (first_track_of groups g) (tracks_in groups g) p.place.track.0
             (ready.seated groups tracks segments s p right active) step t e in
-            record { exists = laws.group-exists groups tracks p right active; from = r.0; to = r.1 }
+            record { exists = laws.group_exists groups tracks p right active; from = r.0; to = r.1 }
 
         -- the next track, and where any track move leads; what that leaves of the name
-        next-found : (t : ℕ) → next_track groups tracks p ≡ At t → Found p.place.group.0 t
-        next-found t e =
+        next_found : (t : ℕ) → next_track groups tracks p ≡ At t → Found p.place.group.0 t
+        next_found t e =
             ⊎_elim
-            (λ z. track-found Next t (sym (next_ordered groups tracks p (eqb-true _ _ z)) ∙ e))
+            (λ z. track_found_lem Next t (sym (next_ordered groups tracks p (eqb-true _ _ z)) ∙ e))
             (λ z.
             let some = eqb-false p.upcoming 0 z in
             let one : p.upcoming - 1 ≡ t = at_one (sym (next_named groups tracks p some) ∙ e) in
             in_found p.place.group.0 t (rw (sym one) (laws.named_within groups tracks p right some)))
             (true_or (eqb p.upcoming 0))
 
-        reached-found : (step : Step) (t : ℕ) → track_reached groups tracks step p ≡ At t → Found p.place.group.0 t
-        reached-found Next t e = next-found t e
-        reached-found Previous t e = track-found Previous t e
-        reached-found First t e = track-found First t e
-        reached-found Last t e = track-found Last t e
-        reached-found (Goto n) t e = track-found (Goto n) t e
+        reached_found : (step : Step) (t : ℕ) → track_reached groups tracks step p ≡ At t → Found p.place.group.0 t
+        reached_found Next t e = next_found t e
+        reached_found Previous t e = track_found_lem Previous t e
+        reached_found First t e = track_found_lem First t e
+        reached_found Last t e = track_found_lem Last t e
+        reached_found (Goto n) t e = track_found_lem (Goto n) t e
 
-        used-stands : (step : Step) → Stands (used step p)
-        used-stands Next = kept_unnamed p right
-        used-stands Previous = right
-        used-stands First = right
-        used-stands Last = right
-        used-stands (Goto n) = right
+        used_stands : (step : Step) → Stands (used step p)
+        used_stands Next = kept_unnamed p right
+        used_stands Previous = right
+        used_stands First = right
+        used_stands Last = right
+        used_stands (Goto n) = right
 
-        segment-within : (step : Step) (x : ℕ) → segment_after tracks segments step p ≡ At x → x ≤ end_now tracks p
+        segment_within : (step : Step) (x : ℕ) → segment_after tracks segments step p ≡ At x → x ≤ end_now tracks p
         unfolding segment_after
-        segment-within step x e =
+        segment_within step x e =
             move_within step (starts_of tracks segments p.place.track.0) (past_last tracks p.place.track.0) (end_now tracks p) p.place.position.0 x
-            (ready.below_now groups tracks segments s p right active) (past_end tracks p.place.track.0) (laws.position-held groups tracks p right active) e
+            (ready.below_now groups tracks segments s p right active) (past_end tracks p.place.track.0) (laws.position_held groups tracks p right active) e
 
         group_current : (step : Step) (g : ℕ) → group_after groups step p ≡ At g → Current groups g
         unfolding group_after
         group_current step g e = stays_current step groups p.place.group.0 g (ready.current groups tracks segments s p right active) e
 
-        group-entered : (g : ℕ) → Current groups g → Stands (entered groups tracks p g).player
-        group-entered g c =
+        group_entered : (g : ℕ) → Current groups g → Stands (entered groups tracks p g).player
+        group_entered g c =
             by_found (λ c. Stands c.player) (entry_of groups tracks p.mode.order g) _ p
-            (λ t i. moved-stands p right active g t (entry_found p.mode.order g t c i)) right
+            (λ t i. moved_stands p right active g t (entry_found p.mode.order g t c i)) right
 
-        kept-acted : (a : Action) → Stands (acted groups tracks segments a p).player
+        kept_acted : (a : Action) → Stands (acted groups tracks segments a p).player
         unfolding acted track_moved
-        kept-acted Play = in-stands p right active _ (calm p right 1 (omega arith)) (omega arith)
-        kept-acted Pause = in-stands p right active _ (calm p right 2 (omega arith)) (omega arith)
-        kept-acted Rewind = rewind-stands p right active
-        kept-acted Forward = forward-stands p right active
-        kept-acted Stop = stay_stands p right active (in_mode paused 0 p).mode (calm p right 2 (omega arith)) (omega arith) 0 0 (omega arith) refl
-        kept-acted (Relative n) = position-stands p right active _ (held_within (end_now tracks p) p.place.position.0 (signed_word n))
-        kept-acted (Segment step) =
-            by_segment (λ c. Stands c.player) tracks segments step p right (λ x e. position-stands p right active x (segment-within step x e)) right
-        kept-acted (Track step) =
+        kept_acted Play = in_stands p right active _ (calm p right 1 (omega arith)) (omega arith)
+        kept_acted Pause = in_stands p right active _ (calm p right 2 (omega arith)) (omega arith)
+        kept_acted Rewind = rewind_stands p right active
+        kept_acted Forward = forward_stands p right active
+        kept_acted Stop = stay_stands p right active (in_mode paused 0 p).mode (calm p right 2 (omega arith)) (omega arith) 0 0 (omega arith) refl
+        kept_acted (Relative n) = position_stands p right active _ (held_within (end_now tracks p) p.place.position.0 (signed_word n))
+        kept_acted (Segment step) =
+            by_segment (λ c. Stands c.player) tracks segments step p right (λ x e. position_stands p right active x (segment_within step x e)) right
+        kept_acted (Track step) =
             by_found (λ c. Stands c.player) (track_reached groups tracks step p) _ p
-            (λ t e. moved-stands (used step p) (used-stands step) active _ t (reached-found step t e)) right
-        kept-acted (Group step) =
+            (λ t e. moved_stands (used step p) (used_stands step) active _ t (reached_found step t e)) right
+        kept_acted (Group step) =
             by_found (λ c. Stands c.player) (group_after groups step p) (entered groups tracks p) p
-            (λ g e. group-entered g (group_current step g e))
+            (λ g e. group_entered g (group_current step g e))
             right
-        kept-acted Unknown = right
+        kept_acted Unknown = right
 
-        kept-after : (near : Near) → next_track groups tracks p ≡ near → Stands (after_end tracks near p)
-        kept-after (At t) e =
-            at_stands (unnamed p) (kept_unnamed p right) p.mode (laws.mode_kept groups tracks p right) active _ t 0 (reached-found Next t e) (omega arith)
-        kept-after Nothing e =
+        kept_after : (near : Near) → next_track groups tracks p ≡ near → Stands (after_end tracks near p)
+        kept_after (At t) e =
+            at_stands (unnamed p) (kept_unnamed p right) p.mode (laws.mode_kept groups tracks p right) active _ t 0 (reached_found Next t e) (omega arith)
+        kept_after Nothing e =
             stay_stands p right active (in_mode paused 0 p).mode (calm p right 2 (omega arith)) (omega arith) (end_now tracks p) 0 (omega arith) refl
 
-        kept-played-on : (d : ℕ) → Stands (played_on groups tracks d p)
+        kept_played_on : (d : ℕ) → Stands (played_on groups tracks d p)
         unfolding played_on
-        kept-played-on d =
+        kept_played_on d =
             by_test Stands (stays_below tracks d p) _ _
-            (λ t. clocked-stands p right active _ _ (omega (arith, ltb-true (p.place.position.0 + (clock_step d p).whole) (end_now tracks p) t))
+            (λ t. clocked_stands p right active _ _ (omega (arith, ltb-true (p.place.position.0 + (clock_step d p).whole) (end_now tracks p) t))
             (step_leaves p.place.rest d p.mode.speed))
             (λ t. by_test Stands (running_now tracks p) _ _
-            (λ r. clocked-stands p right active _ _ (omega arith) (laws.rest_kept groups tracks p right))
-            (λ r. kept-after (next_track groups tracks p) refl))
+            (λ r. clocked_stands p right active _ _ (omega arith) (laws.rest_kept groups tracks p right))
+            (λ r. kept_after (next_track groups tracks p) refl))
 
-        kept-sought-on : (d : ℕ) → Stands (sought_on tracks d p)
+        kept_sought_on : (d : ℕ) → Stands (sought_on tracks d p)
         unfolding sought_on
-        kept-sought-on d = position-stands p right active _ (sought_within (end_now tracks p) p.place.position.0 p.mode.seeking d)
+        kept_sought_on d = position_stands p right active _ (sought_within (end_now tracks p) p.place.position.0 p.mode.seeking d)
 
         -- a write goes to a track of the current group
-        pub kept-track : (t : ℕ) → in_group groups p.place.group.0 t ≡ true → Stands (track_written t p)
+        pub kept_track : (t : ℕ) → in_group groups p.place.group.0 t ≡ true → Stands (track_written t p)
         unfolding track_written
-        kept-track t within = moved-stands p right active _ t (in_found p.place.group.0 t within)
+        kept_track t within = moved_stands p right active _ t (in_found p.place.group.0 t within)
 
         -- or to a group that has tracks
-        pub kept-group : (g : ℕ) → Current groups g → Stands (group_written groups tracks g p)
+        pub kept_group : (g : ℕ) → Current groups g → Stands (group_written groups tracks g p)
         unfolding group_written
-        kept-group g c = group-entered g c
+        kept_group g c = group_entered g c
 
-      pub kept-controlled : (opcode number : ℕ) → Stands (controlled groups tracks segments opcode number p).player
-      kept-controlled opcode number =
+      pub kept_controlled : (opcode number : ℕ) → Stands (controlled groups tracks segments opcode number p).player
+      kept_controlled opcode number =
           by_control (λ c. Stands c.player) groups tracks segments opcode number p (λ n. right) (λ y n. right)
-          (λ y a. kept-acted (active_above p a) (action_of opcode number))
+          (λ y a. kept_acted (active_above p a) (action_of opcode number))
 
-      pub kept-advanced : (d : ℕ) → Stands (advanced groups tracks d p)
+      pub kept_advanced : (d : ℕ) → Stands (advanced groups tracks d p)
       unfolding advanced
-      kept-advanced d =
+      kept_advanced d =
           by_test Stands (eqb p.mode.media playing) _ _
-          (λ e. kept-played-on (omega (arith, eqb-true p.mode.media playing e)) d)
-          (λ n. by_test Stands (eqb p.mode.media seeking) _ _ (λ e. kept-sought-on (omega (arith, eqb-true p.mode.media seeking e)) d) (λ m. right))
+          (λ e. kept_played_on (omega (arith, eqb-true p.mode.media playing e)) d)
+          (λ n. by_test Stands (eqb p.mode.media seeking) _ _ (λ e. kept_sought_on (omega (arith, eqb-true p.mode.media seeking e)) d) (λ m. right))
 
       kept_on : (g : ℕ) (near : Near) → Current groups g → entry_of groups tracks p.mode.order g ≡ near → Stands (activated_on g near p)
       kept_on g (At t) c e =
           at_stands p right (in_mode paused 0 p).mode (calm p right 2 (omega arith)) (omega arith) g t 0 (entry_found p.mode.order g t c e) (omega arith)
       kept_on g Nothing c e = right
 
-      pub kept-activated : (g : ℕ) → g < group_count groups → 0 < tracks_in groups g → Stands (activated groups tracks g p)
+      pub kept_activated : (g : ℕ) → g < group_count groups → 0 < tracks_in groups g → Stands (activated groups tracks g p)
       unfolding activated
-      kept-activated g there used =
+      kept_activated g there used =
           kept_on g (entry_of groups tracks p.mode.order g) (record { few = s.few_groups; there = there; used = used }) refl

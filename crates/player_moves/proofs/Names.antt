@@ -164,49 +164,49 @@ module _ (p : Player) where
         by_found (λ c. NoneElsewhere c.player) (next_track groups tracks p) _ p (λ t e off. used_moved p.place.group.0 t) still
 
     module _ (segments : List ℕ) where
-      acted-keeps : (a : Action) → is_next_track a ≡ false → Keeps p (acted groups tracks segments a p).player
+      acted_keeps : (a : Action) → is_next_track a ≡ false → Keeps p (acted groups tracks segments a p).player
       unfolding acted forwarded rewound
-      acted-keeps Play n = stays
-      acted-keeps Pause n = stays
-      acted-keeps Rewind n = stays
-      acted-keeps Forward n = stays
-      acted-keeps Stop n = stays
-      acted-keeps (Relative k) n = stays
-      acted-keeps (Segment step) n =
+      acted_keeps Play n = stays
+      acted_keeps Pause n = stays
+      acted_keeps Rewind n = stays
+      acted_keeps Forward n = stays
+      acted_keeps Stop n = stays
+      acted_keeps (Relative k) n = stays
+      acted_keeps (Segment step) n =
           by_segment (λ c. Keeps p c.player) tracks segments step p stays (λ x e. stays) stays
-      acted-keeps (Track step) n = track_moved_keeps step n
-      acted-keeps (Group step) n =
+      acted_keeps (Track step) n = track_moved_keeps step n
+      acted_keeps (Group step) n =
           by_found (λ c. Keeps p c.player) (group_after groups step p) (entered groups tracks p) p (λ g e. entered_keeps g) stays
-      acted-keeps Unknown n = stays
+      acted_keeps Unknown n = stays
 
-      not-next : (a : Action) → is_next_track a ≡ false → NoneElsewhere (acted groups tracks segments a p).player
-      not-next a n = kept_elsewhere p (acted groups tracks segments a p).player (acted-keeps a n)
+      not_next : (a : Action) → is_next_track a ≡ false → NoneElsewhere (acted groups tracks segments a p).player
+      not_next a n = kept_elsewhere p (acted groups tracks segments a p).player (acted_keeps a n)
 
-      acted-elsewhere : (a : Action) → NoneElsewhere (acted groups tracks segments a p).player
+      acted_elsewhere : (a : Action) → NoneElsewhere (acted groups tracks segments a p).player
       unfolding acted
-      acted-elsewhere Play = not-next Play refl
-      acted-elsewhere Pause = not-next Pause refl
-      acted-elsewhere Rewind = not-next Rewind refl
-      acted-elsewhere Forward = not-next Forward refl
-      acted-elsewhere Stop = not-next Stop refl
-      acted-elsewhere (Relative k) = not-next (Relative k) refl
-      acted-elsewhere (Segment step) = not-next (Segment step) refl
-      acted-elsewhere (Track Next) = next_elsewhere
-      acted-elsewhere (Track Previous) = not-next (Track Previous) refl
-      acted-elsewhere (Track First) = not-next (Track First) refl
-      acted-elsewhere (Track Last) = not-next (Track Last) refl
-      acted-elsewhere (Track (Goto m)) = not-next (Track (Goto m)) refl
-      acted-elsewhere (Group step) = not-next (Group step) refl
-      acted-elsewhere Unknown = not-next Unknown refl
+      acted_elsewhere Play = not_next Play refl
+      acted_elsewhere Pause = not_next Pause refl
+      acted_elsewhere Rewind = not_next Rewind refl
+      acted_elsewhere Forward = not_next Forward refl
+      acted_elsewhere Stop = not_next Stop refl
+      acted_elsewhere (Relative k) = not_next (Relative k) refl
+      acted_elsewhere (Segment step) = not_next (Segment step) refl
+      acted_elsewhere (Track Next) = next_elsewhere
+      acted_elsewhere (Track Previous) = not_next (Track Previous) refl
+      acted_elsewhere (Track First) = not_next (Track First) refl
+      acted_elsewhere (Track Last) = not_next (Track Last) refl
+      acted_elsewhere (Track (Goto m)) = not_next (Track (Goto m)) refl
+      acted_elsewhere (Group step) = not_next (Group step) refl
+      acted_elsewhere Unknown = not_next Unknown refl
 
       module _ (opcode number : ℕ) where
         -- the control point keeps the name, but for Next Track, and in no case leaves one elsewhere
-        pub controlled-keeps : is_next_track (action_of opcode number) ≡ false → Keeps p (controlled groups tracks segments opcode number p).player
-        controlled-keeps n =
+        pub controlled_keeps : is_next_track (action_of opcode number) ≡ false → Keeps p (controlled groups tracks segments opcode number p).player
+        controlled_keeps n =
             by_control (λ c. Keeps p c.player) groups tracks segments opcode number p (λ u. stays) (λ y i. stays)
-            (λ y a. acted-keeps (action_of opcode number) n)
+            (λ y a. acted_keeps (action_of opcode number) n)
 
-        pub controlled-elsewhere : NoneElsewhere (controlled groups tracks segments opcode number p).player
-        controlled-elsewhere =
+        pub controlled_elsewhere : NoneElsewhere (controlled groups tracks segments opcode number p).player
+        controlled_elsewhere =
             by_control (λ c. NoneElsewhere c.player) groups tracks segments opcode number p (λ u. still) (λ y i. still)
-            (λ y a. acted-elsewhere (action_of opcode number))
+            (λ y a. acted_elsewhere (action_of opcode number))

@@ -34,15 +34,15 @@ module _ (groups tracks segments : List ℕ) (s : Shaped groups tracks segments)
 
   module _ (p : Player) (right : player_rule groups tracks p ≡ true) (active : 0 < p.mode.media) where
     there : p.place.group.0 < group_count groups
-    there = stands.group-exists groups tracks p right active
+    there = stands.group_exists groups tracks p right active
 
     pub seated : Seated groups tracks p
     seated =
         record {
           small = (run_of p.place.group.0 there).small;
           inside = (run_of p.place.group.0 there).inside;
-          low = stands.track-from groups tracks p right active;
-          high = stands.track-to groups tracks p right active;
+          low = stands.track_from groups tracks p right active;
+          high = stands.track_to groups tracks p right active;
         }
 
     pub current : Current groups p.place.group.0
@@ -50,11 +50,11 @@ module _ (groups tracks segments : List ℕ) (s : Shaped groups tracks segments)
         record {
           few = s.few_groups;
           there = there;
-          used = omega (arith, stands.track-from groups tracks p right active, stands.track-to groups tracks p right active);
+          used = omega (arith, stands.track_from groups tracks p right active, stands.track_to groups tracks p right active);
         }
 
     pub track_there : p.place.track.0 < track_count tracks
-    track_there = omega (arith, stands.track-to groups tracks p right active, s.runs p.place.group.0 there)
+    track_there = omega (arith, stands.track_to groups tracks p right active, s.runs p.place.group.0 there)
 
     pub rising_now : Rising (starts_of tracks segments p.place.track.0)
     rising_now = s.rising p.place.track.0 track_there

@@ -20,7 +20,7 @@ use Rattle.player_moves.specs.Moves.{running_now, next_track, group_after, entry
 use Rattle.player_moves.specs.Control.{entered, track_reached, left_named, track_moved, acted, controlled}
 use Rattle.player_moves.specs.Clock.{stays_below, after_end, played_on, sought_on, advanced, positioned}
 use Rattle.player_moves.proofs.Choices.{by_test, by_found, by_segment, by_control}
-use Rattle.player_moves.proofs.Alone.{refused-alone, advanced_running}
+use Rattle.player_moves.proofs.Alone.{refused_alone, advanced_running}
 
 -- the track number, and whether there is a track
 pub record Seat : Type 0 where
@@ -87,55 +87,55 @@ module _ (p : Player) where
     module _ (segments : List ℕ) where
       module _ (active : is_active p ≡ true) where
         -- with any track named
-        moved-active : (n g t : ℕ) → Same (moved_to g t (with_upcoming n p))
+        moved_active : (n g t : ℕ) → Same (moved_to g t (with_upcoming n p))
         unfolding moved_to
-        moved-active n g t =
+        moved_active n g t =
             by_test (λ q. Same (at_place g t 0 q)) (eqb p.mode.media seeking) (in_mode playing 0 (with_upcoming n p)) (with_upcoming n p) (λ e. sym active) (λ e. refl)
 
-        acted-stays : (a : Action) → ((step : Step) → a ≡ Track step → ⊥) → ((step : Step) → a ≡ Group step → ⊥)
+        acted_stays : (a : Action) → ((step : Step) → a ≡ Track step → ⊥) → ((step : Step) → a ≡ Group step → ⊥)
             → Stays (acted groups tracks segments a p).player
         unfolding acted track_moved forwarded rewound
-        acted-stays Play n m = rw active
-        acted-stays Pause n m = rw active
-        acted-stays Rewind n m = rw active
-        acted-stays Forward n m = rw active
-        acted-stays Stop n m = rw active
-        acted-stays (Relative k) n m = refl
-        acted-stays (Segment step) n m =
+        acted_stays Play n m = rw active
+        acted_stays Pause n m = rw active
+        acted_stays Rewind n m = rw active
+        acted_stays Forward n m = rw active
+        acted_stays Stop n m = rw active
+        acted_stays (Relative k) n m = refl
+        acted_stays (Segment step) n m =
             by_segment (λ c. Stays c.player) tracks segments step p refl (λ x e. refl) refl
-        acted-stays (Track step) n m = absurd (n step refl)
-        acted-stays (Group step) n m = absurd (m step refl)
-        acted-stays Unknown n m = refl
+        acted_stays (Track step) n m = absurd (n step refl)
+        acted_stays (Group step) n m = absurd (m step refl)
+        acted_stays Unknown n m = refl
 
-        acted-active : (a : Action) → Same (acted groups tracks segments a p).player
+        acted_active : (a : Action) → Same (acted groups tracks segments a p).player
         unfolding acted track_moved forwarded rewound
-        acted-active Play = sym active
-        acted-active Pause = sym active
-        acted-active Rewind = sym active
-        acted-active Forward = sym active
-        acted-active Stop = sym active
-        acted-active (Relative k) = refl
-        acted-active (Segment step) =
+        acted_active Play = sym active
+        acted_active Pause = sym active
+        acted_active Rewind = sym active
+        acted_active Forward = sym active
+        acted_active Stop = sym active
+        acted_active (Relative k) = refl
+        acted_active (Segment step) =
             by_segment (λ c. Same c.player) tracks segments step p refl (λ x e. refl) refl
-        acted-active (Track step) =
-            by_found (λ c. Same c.player) (track_reached groups tracks step p) _ p (λ t e. moved-active (left_named step p.upcoming) p.place.group.0 t) refl
-        acted-active (Group step) =
+        acted_active (Track step) =
+            by_found (λ c. Same c.player) (track_reached groups tracks step p) _ p (λ t e. moved_active (left_named step p.upcoming) p.place.group.0 t) refl
+        acted_active (Group step) =
             by_found (λ c. Same c.player) (group_after groups step p) (entered groups tracks p) p
-            (λ g e. by_found (λ c. Same c.player) (entry_of groups tracks p.mode.order g) _ p (λ t i. moved-active p.upcoming g t) refl)
+            (λ g e. by_found (λ c. Same c.player) (entry_of groups tracks p.mode.order g) _ p (λ t i. moved_active p.upcoming g t) refl)
             refl
-        acted-active Unknown = refl
+        acted_active Unknown = refl
 
       module _ (opcode number : ℕ) where
-        pub controlled-stays : ((step : Step) → action_of opcode number ≡ Track step → ⊥) → ((step : Step) → action_of opcode number ≡ Group step → ⊥)
+        pub controlled_stays : ((step : Step) → action_of opcode number ≡ Track step → ⊥) → ((step : Step) → action_of opcode number ≡ Group step → ⊥)
             → seat (controlled groups tracks segments opcode number p).player ≡ seat p
-        controlled-stays n m =
+        controlled_stays n m =
             by_control (λ c. Stays c.player) groups tracks segments opcode number p (λ u. refl) (λ y i. refl)
-            (λ y a. acted-stays a (action_of opcode number) n m)
+            (λ y a. acted_stays a (action_of opcode number) n m)
 
-        pub refused-stays : ((controlled groups tracks segments opcode number p).result ≡ 1 → ⊥) → seat (controlled groups tracks segments opcode number p).player ≡ seat p
-        refused-stays refused = ap seat (refused-alone p groups tracks segments opcode number refused)
+        pub refused_stays : ((controlled groups tracks segments opcode number p).result ≡ 1 → ⊥) → seat (controlled groups tracks segments opcode number p).player ≡ seat p
+        refused_stays refused = ap seat (refused_alone p groups tracks segments opcode number refused)
 
-        pub controlled-active : is_active (controlled groups tracks segments opcode number p).player ≡ is_active p
-        controlled-active =
+        pub controlled_active : is_active (controlled groups tracks segments opcode number p).player ≡ is_active p
+        controlled_active =
             by_control (λ c. Same c.player) groups tracks segments opcode number p (λ u. refl) (λ y i. refl)
-            (λ y a. acted-active a (action_of opcode number))
+            (λ y a. acted_active a (action_of opcode number))

@@ -118,9 +118,9 @@ module _ (by : By) (tracks : List ℕ) (first count : ℕ) (small : first + coun
       pub beside_none : best ≡ 0xFFFF_FFFF_FFFF_FFFF → Nothing ≡ pick back before at (ordered by tracks first count) (below (key_of by tracks) x (span first count))
       beside_none e = past_all back ∙ moved_to 0xFFFF_FFFF_FFFF_FFFF (sym e)
 
-      pub beside-some : (best ≡ 0xFFFF_FFFF_FFFF_FFFF → ⊥)
+      pub beside_some : (best ≡ 0xFFFF_FFFF_FFFF_FFFF → ⊥)
           → At (turn back 0xFFFF_FFFF_FFFF_FFFE best % 0x1_0000_0000) ≡ pick back before at (ordered by tracks first count) (below (key_of by tracks) x (span first count))
-      beside-some ne = ⊎_elim (λ e. absurd (ne e)) some inv.hit
+      beside_some ne = ⊎_elim (λ e. absurd (ne e)) some inv.hit
         where
           some : (u : ℕ) × (first ≤ u) × (u < first + count) × (turn back 0xFFFF_FFFF_FFFF_FFFE (key_of by tracks u) ≡ best)
               → At (turn back 0xFFFF_FFFF_FFFF_FFFE best % 0x1_0000_0000) ≡ pick back before at (ordered by tracks first count) (below (key_of by tracks) x (span first count))

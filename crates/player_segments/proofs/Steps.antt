@@ -77,14 +77,14 @@ module _ (l : List ℕ) where
 
     module _ (past : Near) (over : (d : ℕ) → past ≡ At d → (i : ℕ) → i < length l → get_or l i 0 ≤ d) where
       -- from past the last there is nothing further
-      stays-past : (near : Near) → past ≡ near → then near (next_start l past) ≡ near
+      stays_past : (near : Near) → past ≡ near → then near (next_start l past) ≡ near
       unfolding next_start
-      stays-past (At d) e = least_none (λ x. ltb d x) past l (λ i h. le-ltb d (get_or l i 0) (over d e i h)) ∙ e
-      stays-past Nothing e = refl
+      stays_past (At d) e = least_none (λ x. ltb d x) past l (λ i h. le-ltb d (get_or l i 0) (over d e i h)) ∙ e
+      stays_past Nothing e = refl
 
-      next-on : (k : ℕ) → then (start_ahead l past k) (next_start l past) ≡ start_ahead l past (suc k)
-      next-on k = ⊎_elim
-          (λ h. rw (ahead_over l k past h, ahead_over l (suc k) past (omega arith)) (stays-past past refl))
+      next_on : (k : ℕ) → then (start_ahead l past k) (next_start l past) ≡ start_ahead l past (suc k)
+      next_on k = ⊎_elim
+          (λ h. rw (ahead_over l k past h, ahead_over l (suc k) past (omega arith)) (stays_past past refl))
           (λ h. ⊎_elim (last h) (inner h) (le_or (length l) (suc k)))
           (le_or (length l) k)
         where
@@ -110,7 +110,7 @@ module _ (l : List ℕ) (rises : Rises l) (h : 0 < length l) (begin : get_or l 0
   unfolding goto
   goto_is (pos zero) = refl
   goto_is (pos (suc m)) =
-      sym (rw (ahead_is l 0 past h, zero-add) at (endless (next_start l past) (start_ahead l past) (next-on l rises past over) m 0))
+      sym (rw (ahead_is l 0 past h, zero-add) at (endless (next_start l past) (start_ahead l past) (next_on l rises past over) m 0))
   goto_is (negsuc m) =
       sym (rw (last_is l h, zero-add) at (endless (λ q. At (previous_start l q)) (λ k. At (start_back l k)) (λ k. ap (λ (n : ℕ). At n) (previous_on l rises h begin k)) m 0))
 

@@ -109,8 +109,8 @@ module _ (groups tracks text renames office : List ℕ) (p : Player) where
   value_short n t c =
       short (eqb c 1) _ _ (simp length-take (omega arith))
       (short (eqb c 5) _ _ t
-      (short (eqb c 6) _ _ (word-short _)
-      (short (eqb c 7) _ _ (word-short _)
+      (short (eqb c 6) _ _ (word_short _)
+      (short (eqb c 7) _ _ (word_short _)
       (short (eqb c 8) _ _ (omega arith)
       (short (eqb c 9) _ _ (omega arith)
       (short (eqb c 10) _ _ (object_short (segments_now tracks p))
@@ -121,12 +121,12 @@ module _ (groups tracks text renames office : List ℕ) (p : Player) where
       (short (eqb c 15) _ _ (omega arith)
       (short (eqb c 16) _ _ (omega arith)
       (short (eqb c 17) _ _ (omega arith)
-      (short (eqb c 19) _ _ (word-short _)
+      (short (eqb c 19) _ _ (word_short _)
       (short (eqb c 22) _ _ (omega arith) (omega arith))))))))))))))))
     where
       short : (u : Bool) (a b : List ℕ) → length a ≤ 128 → length b ≤ 128 → length (pick u a b) ≤ 128
       short true a b h k = h
       short false a b h k = k
 
-      word-short : (w : ℕ) → length (word_octets w) ≤ 128
-      word-short w = rw (word_long w) (omega arith)
+      word_short : (w : ℕ) → length (word_octets w) ≤ 128
+      word_short w = rw (word_long w) (omega arith)

@@ -10,17 +10,17 @@ use lib.ListN.{length, get_or, drop, length-append, length-drop, get_or-eq_defau
 use lib.Seq.{drop-cons, get_or-drop}
 use Rattle.ground.specs.Cases.{pick, within}
 use Rattle.ground.proofs.Cases.{le_or, and_left, and_right}
-use Rattle.text.specs.Grammar.{In, Tail, Char, Char.one, Char.two, Char.three_e0, Char.three_e1, Char.three_eD, Char.three_eE, Char.four_f0, Char.four_f1, Char.four_f4, Starts}
+use Rattle.text.specs.Grammar.{In, Tail, Char, Char.one, Char.two, Char.three_e0, Char.three_e1, Char.three_ed, Char.three_ee, Char.four_f0, Char.four_f1, Char.four_f4, Starts}
 use Rattle.text.specs.Utf8.{is_tail, char_of, char_length}
-use Rattle.text.proofs.Rows.{tested, ranged, row_one, row_two, row_e0, row_e1, row_eD, row_eE, row_f0, row_f1, row_f4}
+use Rattle.text.proofs.Rows.{tested, ranged, row_one, row_two, row_e0, row_e1, row_ed, row_ee, row_f0, row_f1, row_f4}
 
 pub char_sound : {c : List ℕ} → Char c → (t : List ℕ) → char_length (c ++ t) ≡ length c
 char_sound (one {a = a} ha) t = simp (row_one a (get_or t 0 0) (get_or t 1 0) (get_or t 2 0) ha)
 char_sound (two {a = a} {b = b} ha hb) t = simp (row_two a b (get_or t 0 0) (get_or t 1 0) ha, tested hb)
 char_sound (three_e0 {a = a} {b = b} {c = c} ha hb hc) t = simp (row_e0 a b c (get_or t 0 0) ha, tested hb, tested hc)
 char_sound (three_e1 {a = a} {b = b} {c = c} ha hb hc) t = simp (row_e1 a b c (get_or t 0 0) ha, tested hb, tested hc)
-char_sound (three_eD {a = a} {b = b} {c = c} ha hb hc) t = simp (row_eD a b c (get_or t 0 0) ha, tested hb, tested hc)
-char_sound (three_eE {a = a} {b = b} {c = c} ha hb hc) t = simp (row_eE a b c (get_or t 0 0) ha, tested hb, tested hc)
+char_sound (three_ed {a = a} {b = b} {c = c} ha hb hc) t = simp (row_ed a b c (get_or t 0 0) ha, tested hb, tested hc)
+char_sound (three_ee {a = a} {b = b} {c = c} ha hb hc) t = simp (row_ee a b c (get_or t 0 0) ha, tested hb, tested hc)
 char_sound (four_f0 {a = a} {b = b} {c = c} {d = d} ha hb hc hd) t = simp (row_f0 a b c d ha, tested hb, tested hc, tested hd)
 char_sound (four_f1 {a = a} {b = b} {c = c} {d = d} ha hb hc hd) t = simp (row_f1 a b c d ha, tested hb, tested hc, tested hd)
 char_sound (four_f4 {a = a} {b = b} {c = c} {d = d} ha hb hc hd) t = simp (row_f4 a b c d ha, tested hb, tested hc, tested hd)
@@ -31,8 +31,8 @@ char_long (one ha) = omega arith
 char_long (two ha hb) = omega arith
 char_long (three_e0 ha hb hc) = omega arith
 char_long (three_e1 ha hb hc) = omega arith
-char_long (three_eD ha hb hc) = omega arith
-char_long (three_eE ha hb hc) = omega arith
+char_long (three_ed ha hb hc) = omega arith
+char_long (three_ee ha hb hc) = omega arith
 char_long (four_f0 ha hb hc hd) = omega arith
 char_long (four_f1 ha hb hc hd) = omega arith
 char_long (four_f4 ha hb hc hd) = omega arith
@@ -108,8 +108,8 @@ module _ (s : List ℕ) (full : 0 < length s) where
       (or_else (of_two 0xC2 0xDF 0x80 0xBF (omega arith) two)
       (or_else (of_three 0xE0 0xE0 0xA0 0xBF (omega arith) three_e0)
       (or_else (of_three 0xE1 0xEC 0x80 0xBF (omega arith) three_e1)
-      (or_else (of_three 0xED 0xED 0x80 0x9F (omega arith) three_eD)
-      (or_else (of_three 0xEE 0xEF 0x80 0xBF (omega arith) three_eE)
+      (or_else (of_three 0xED 0xED 0x80 0x9F (omega arith) three_ed)
+      (or_else (of_three 0xEE 0xEF 0x80 0xBF (omega arith) three_ee)
       (or_else (of_four 0xF0 0xF0 0x90 0xBF (omega arith) four_f0)
       (or_else (of_four 0xF1 0xF3 0x80 0xBF (omega arith) four_f1)
       (or_else (of_four 0xF4 0xF4 0x80 0x8F (omega arith) four_f4)

@@ -72,15 +72,15 @@ module _ (a b c d : ℕ) where
   pub row_e1 : In 0xE1 0xEC a → char_of a b c d ≡ pick (is_tail b && is_tail c) 3 0
   row_e1 h = just_three (omega arith) ∙ simp (over 0xE0 0xE0 a (omega arith), tested h, lt-leb 0xED a (omega arith), lt-leb 0xEE a (omega arith))
 
-  pub row_eD : In 0xED 0xED a → char_of a b c d ≡ pick (within 0x80 0x9F b && is_tail c) 3 0
-  row_eD h = just_three (omega arith) ∙ simp (over 0xE0 0xE0 a (omega arith), over 0xE1 0xEC a (omega arith), tested h, lt-leb 0xEE a (omega arith))
+  pub row_ed : In 0xED 0xED a → char_of a b c d ≡ pick (within 0x80 0x9F b && is_tail c) 3 0
+  row_ed h = just_three (omega arith) ∙ simp (over 0xE0 0xE0 a (omega arith), over 0xE1 0xEC a (omega arith), tested h, lt-leb 0xEE a (omega arith))
 
-  pub row_eE : In 0xEE 0xEF a → char_of a b c d ≡ pick (is_tail b && is_tail c) 3 0
-  row_eE h = just_three (omega arith) ∙ simp (over 0xE0 0xE0 a (omega arith), over 0xE1 0xEC a (omega arith), over 0xED 0xED a (omega arith), tested h)
+  pub row_ee : In 0xEE 0xEF a → char_of a b c d ≡ pick (is_tail b && is_tail c) 3 0
+  row_ee h = just_three (omega arith) ∙ simp (over 0xE0 0xE0 a (omega arith), over 0xE1 0xEC a (omega arith), over 0xED 0xED a (omega arith), tested h)
 
   -- the two lines of three octets that ask the same of what follows
   pub three_tails : In 0xE1 0xEF a → (a ≡ 0xED → ⊥) → char_of a b c d ≡ pick (is_tail b && is_tail c) 3 0
-  three_tails h n = ⊎_elim (λ l. row_e1 (omega arith)) (λ l. row_eE (omega arith)) (le_or a 0xEC)
+  three_tails h n = ⊎_elim (λ l. row_e1 (omega arith)) (λ l. row_ee (omega arith)) (le_or a 0xEC)
 
   pub row_f0 : In 0xF0 0xF0 a → char_of a b c d ≡ pick (within 0x90 0xBF b && is_tail c && is_tail d) 4 0
   row_f0 h = from_four (omega arith) ∙ simp (tested h, lt-leb 0xF1 a (omega arith), lt-leb 0xF4 a (omega arith))

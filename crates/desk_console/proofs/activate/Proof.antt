@@ -12,7 +12,7 @@ use Rattle.player_check.specs.Standing.{group_row}
 use Rattle.player_check.proofs.Laws.{group_there, group_used}
 use Rattle.player_moves.specs.Clock.{activated}
 use Rattle.player_moves.proofs.Ready.{shaped, run_of}
-use Rattle.player_moves.proofs.Kept.{kept-activated}
+use Rattle.player_moves.proofs.Kept.{kept_activated}
 use Rattle.mcs_state.specs.Codec.{desk_of}
 use Rattle.desk_replies.specs.Replies.{fronted, service_row}
 use Rattle.desk_replies.proofs.Gates.{refuses, none, shut_gate, refused_so, plain_so, fit}
@@ -96,7 +96,7 @@ becoming-requires c κs =
     let there = leb-false _ _ (passed e).1.1.1.1.0 in
     let may = sym t.group_right.ensures ∙ not-false _ g.if2.false in
     let kept =
-    kept-activated k.groups k.tracks k.segments (sitting.shaped k (desk_of old) rows (passed e) service there) (player_of (desk_of old) service)
+    kept_activated k.groups k.tracks k.segments (sitting.shaped k (desk_of old) rows (passed e) service there) (player_of (desk_of old) service)
     (sitting.stands k (desk_of old) rows (passed e) service there) s.args.group.0 (group_there k.groups s.args.group.0 may) (group_used k.groups s.args.group.0 may) in (
       plain_so k false old rows (passed e) (search rules) o.are-octets.ensures,
       (there, (sitting.sits k (desk_of old) rows (passed e) service there, sitting.sits_after k (desk_of old) rows (passed e) service there _ _ (n.activate.ensures ∙ ap (activated k.groups k.tracks s.args.group.0) n.before.player-at.ensures) kept)),

@@ -10,7 +10,7 @@ use Rattle.catalogue_titles.proofs.Laws.{fit_right}
 use Rattle.player_check.specs.Standing.{player_rule}
 use Rattle.player_moves.specs.Clock.{advanced}
 use Rattle.player_moves.proofs.Ready.{shaped, seated}
-use Rattle.player_moves.proofs.Kept.{kept-advanced}
+use Rattle.player_moves.proofs.Kept.{kept_advanced}
 use Rattle.mcs_state.specs.Codec.{desk_of}
 use Rattle.desk_replies.specs.Replies.{fronted, service_row}
 use Rattle.desk_replies.proofs.Gates.{refuses, none, shut_gate, refused_so, plain_so, fit, player}
@@ -77,7 +77,7 @@ becoming-requires c κs =
     let rows = service_row service ∷ [] in
     let there = leb-false _ _ (passed e).1.1.1.1.0 in
     let kept =
-    kept-advanced k.groups k.tracks k.segments (sitting.shaped k (desk_of old) rows (passed e) service there) (player_of (desk_of old) service)
+    kept_advanced k.groups k.tracks k.segments (sitting.shaped k (desk_of old) rows (passed e) service there) (player_of (desk_of old) service)
     (sitting.stands k (desk_of old) rows (passed e) service there) s.args.step in (
       plain_so k false old rows (passed e) (search rules) o.are-octets.ensures,
       (there, (sitting.sits k (desk_of old) rows (passed e) service there, sitting.sits_after k (desk_of old) rows (passed e) service there _ _ (n.advance.ensures ∙ ap (advanced k.groups k.tracks s.args.step) n.before.player-at.ensures) kept)),

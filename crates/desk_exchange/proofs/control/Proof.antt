@@ -7,7 +7,7 @@ use Rattle.player_moves.specs.declared.Controlled.{Controlled}
 use Rattle.player_moves.specs.Moves.{Sits}
 use Rattle.player_moves.specs.Control.{controlled}
 use Rattle.player_moves.proofs.Ready.{shaped}
-use Rattle.player_moves.proofs.Kept.{kept-controlled}
+use Rattle.player_moves.proofs.Kept.{kept_controlled}
 use Rattle.player_values.specs.Values.{source_of}
 use Rattle.player_values.proofs.Fits.{player_sits}
 use Rattle.desk_client.specs.Duties.{resulted}
@@ -46,7 +46,7 @@ settle-requires c κs =
       player_sits (catalogue_of (lent s)) (fit_right (lent s) s.requires.0) a.s.player s.requires.1.0,
       subst (λ (done : Controlled). Sits a.groups.now a.tracks.now done.player) (sym after-control.control.ensures)
           (player_sits (catalogue_of (lent s)) (fit_right (lent s) s.requires.0) _
-          (kept-controlled a.groups.now a.tracks.now a.segments.now (shaped (catalogue_of (lent s)) (fit_right (lent s) s.requires.0)) a.s.player s.requires.1.0
+          (kept_controlled a.groups.now a.tracks.now a.segments.now (shaped (catalogue_of (lent s)) (fit_right (lent s) s.requires.0)) a.s.player s.requires.1.0
           after-octet-or-zero.octet-or-zero.result after-number-of.number_of_lem.result)),
     )
 

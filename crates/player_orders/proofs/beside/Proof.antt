@@ -6,7 +6,7 @@ use native.Mathlib.Nat.{eq-or-lt_of_le}
 use native.Mathlib.Omega.{arith}
 use borrow.Author.Rules.{rules}
 use Rattle.player_orders.specs.Keys.{key_of}
-use Rattle.player_orders.proofs.Nearest.{Least, turn, least_none, least_more, least_all, beside_none, beside-some}
+use Rattle.player_orders.proofs.Nearest.{Least, turn, least_none, least_more, least_all, beside_none, beside_some}
 use Rattle.player_orders.proofs.beside.Statement.{statement}
 use Rattle.player_orders.proofs.beside.Tie as tie
 
@@ -65,7 +65,7 @@ returns-2 c =
     let l = c.before.before.before in
     let s = l.before.before.before.before in
     let a = s.args in
-    rw c.turned3.ensures (beside-some _ _ _ _ s.requires.small (λ i. (l.before.before.before.shared-slice-known.given i).fits) a.x _ (omega arith) a.back (least_all _ _ _ _ _ _ _ l.before.turned.ensures l.loop.invariant.1 c.before.before.loop-test.false l.loop.invariant.2) c.before.if1.false)
+    rw c.turned3.ensures (beside_some _ _ _ _ s.requires.small (λ i. (l.before.before.before.shared-slice-known.given i).fits) a.x _ (omega arith) a.back (least_all _ _ _ _ _ _ _ l.before.turned.ensures l.loop.invariant.1 c.before.before.loop-test.false l.loop.invariant.2) c.before.if1.false)
 
 pub beside-spec : {M : Type 1} → statement M
 beside-spec =

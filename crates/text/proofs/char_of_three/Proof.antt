@@ -2,7 +2,7 @@
 use mathlib.Core.Path.{sym, ◌∙◌}
 use native.Mathlib.Omega.{arith}
 use borrow.Author.Rules.{rules}
-use Rattle.text.proofs.Rows.{row_e0, row_eD, three_tails}
+use Rattle.text.proofs.Rows.{row_e0, row_ed, three_tails}
 use Rattle.text.proofs.char_of_three.Statement.{statement}
 use Rattle.text.proofs.char_of_three.Tie as tie
 
@@ -20,7 +20,7 @@ three-requires-2 c κs = search rules
 returns-2 : tie.Need-returns-2
 returns-2 c d =
     let x = c.before.before.before.args in
-    c.three2.ensures ∙ sym (row_eD x.a x.b x.c d (omega arith))
+    c.three2.ensures ∙ sym (row_ed x.a x.b x.c d (omega arith))
 
 three-requires-3 : tie.Need-three-requires-3
 three-requires-3 c κs = search rules
