@@ -1,0 +1,16 @@
+-- `card_load::copy_octets`: after i turns the first i octets are pasted in.
+use Prim.Native.Nat.{◌≤◌, ◌<◌, ◌-◌, ◌+◌}
+use mathlib.Core.Path.{◌≡◌, sym}
+use native.Mathlib.Omega.{arith}
+use borrow.Author.Rules.{rules}
+use lib.ListN.{length, get_or, drop, length-set, length-drop}
+use lib.Seq.{paste, paste-zero, get_or-drop}
+use Rattle.card_load.proofs.Copying.{copy_turn, copy_end}
+use Rattle.card_load.proofs.copy_octets.Given as goal
+
+abbrev pub invariant-loop-i : goal.invariant-loop-i
+invariant-loop-i l =
+    (l.i ≤ l.n) × (length l.dst ≡ length l.initial.dst) × (l.dst ≡ paste l.initial.dst l.at (drop l.from l.src) l.i)
+
+abbrev pub decreases-loop-i : goal.decreases-loop-i
+decreases-loop-i l = l.n - l.i

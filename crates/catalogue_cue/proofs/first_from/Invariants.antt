@@ -1,0 +1,14 @@
+-- `catalogue_cue::first_from`: each octet is one step.
+use mathlib.Core.Path.{sym, ◌∙◌}
+use Prim.Native.Nat.{◌-◌}
+use lib.ListN.{length}
+use Rattle.catalogue_cue.specs.Scan.{is_it, Passes}
+use Rattle.catalogue_cue.proofs.Ahead.{ahead_stops, ahead_ends, passes_one}
+use borrow.Author.Rules.{rules}
+use Rattle.catalogue_cue.proofs.first_from.Given as goal
+
+abbrev pub invariant-loop-i : goal.invariant-loop-i
+invariant-loop-i l = Passes (is_it l.x l.equal) l.s l.at l.i
+
+abbrev pub decreases-loop-i : goal.decreases-loop-i
+decreases-loop-i l = length l.s - l.i

@@ -1,0 +1,34 @@
+-- `catalogue_titles::renames_right`: whether there are as many entries as tracks, and then whether all are zeros, or entry by entry.
+use mathlib.Core.Path.{◌≡◌, sym, ap, ◌∙◌}
+use Prim.Native.Nat.{ℕ, ◌*◌}
+use native.Mathlib.Omega.{arith}
+use borrow.Author.Tests.{eq-eqb, ne_eqb}
+use lib.ListN.{length}
+use Rattle.ground.specs.Limits.{rename_words}
+use Rattle.catalogue_tables.specs.Tables.{track_count}
+use Rattle.catalogue_titles.specs.Titles.{count_rule, renames_rule}
+use Rattle.catalogue_titles.proofs.Zeros.{zeros_right}
+use borrow.Author.Rules.{rules}
+
+-- there is an entry for each track
+use Rattle.catalogue_titles.proofs.renames_right.Goals as goal
+
+pub returns-then-renames-count : goal.returns-then-renames-count
+unfolding count_rule renames_rule
+returns-then-renames-count c =
+    rw (ne_eqb _ _ (λ e. c.if-renames-count.true (e ∙ ap (λ (n : ℕ). n * rename_words) (sym c.track_count-count.ensures))))
+
+pub returns-then-all_zero : goal.returns-then-all_zero
+unfolding count_rule renames_rule
+returns-then-all_zero c =
+    let as_many : let a = c.args in length a.renames.now ≡ track_count a.tracks.now * rename_words = c.if-renames-count.false ∙ ap (λ (n : ℕ). n * rename_words) c.track_count-count.ensures in
+    let a = c.args in
+    let m = as_many in
+    rw
+    (eq-eqb _ _ m, zeros_right (track_count a.tracks.now) (length a.renames.now) a.renames.now a.office.now (omega arith) (sym c.all_zero.ensures ∙ c.if-all_zero.true))
+
+pub returns : goal.returns
+unfolding count_rule renames_rule
+returns c =
+    let as_many : let a = c.args in length a.renames.now ≡ track_count a.tracks.now * rename_words = c.if-renames-count.false ∙ ap (λ (n : ℕ). n * rename_words) c.track_count-count.ensures in
+    rw (eq-eqb _ _ (as_many), ← c.track_count-count.ensures) c.entries_right.ensures

@@ -1,0 +1,9 @@
+-- `desk_console::fresh`: each player freshly started.
+use Rattle.desk_state.specs.Desk.{started_desk}
+use mathlib.Core.Path.{ap₂, ◌∙◌}
+use borrow.Author.Rules.{rules}
+use Rattle.desk_console.proofs.fresh.Goals as goal
+
+pub returns : goal.returns
+returns c =
+    c.fresh_desk.ensures ∙ ap₂ started_desk c.start-p.ensures c.start-q.ensures

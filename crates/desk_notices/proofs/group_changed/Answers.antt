@@ -1,0 +1,11 @@
+-- `desk_notices::group_changed`: the objects are compared, each as its octets.
+use mathlib.Core.Path.{◌∙◌}
+use mathlib.Core.Bool.{not}
+use Rattle.player_values.specs.Values.{object_octets}
+use Rattle.desk_notices.specs.Changes.{same_octets}
+use borrow.Author.Rules.{rules}
+use Rattle.desk_notices.proofs.group_changed.Goals as goal
+
+pub returns : goal.returns
+returns c =
+    c.objects_differ.ensures ∙ (λ k. not (same_octets (object_octets (c.group_now-a.ensures.0 k)) (object_octets (c.group_now-b.ensures.0 k))))

@@ -1,0 +1,17 @@
+-- `desk_notices::note_all`: after i turns, the first i accounts are told.
+use mathlib.Core.Path.{◌≡◌, refl, ap, ◌∙◌}
+use Prim.Native.Nat.{ℕ, ◌≤◌, ◌-◌}
+use native.Mathlib.Omega.{arith}
+use lib.ListN.{length, get_or}
+use Rattle.ground.proofs.Sweep.{up_to, turn, swept}
+use Rattle.desk_client.specs.Client.{no_account}
+use Rattle.desk_client.specs.Duties.{noted}
+use Rattle.desk_notices.specs.Owed.{noticed}
+use borrow.Author.Rules.{rules}
+use Rattle.desk_notices.proofs.note_all.Given as goal
+
+abbrev pub invariant-loop-i : goal.invariant-loop-i
+invariant-loop-i l = (l.i ≤ 4) × (length l.initial.out ≡ 4) × (l.out ≡ up_to (noticed l.altered l.track l.cause) 0 l.i l.initial.out)
+
+abbrev pub decreases-loop-i : goal.decreases-loop-i
+decreases-loop-i l = 4 - l.i

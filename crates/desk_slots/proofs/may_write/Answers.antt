@@ -1,0 +1,12 @@
+-- `desk_slots::may_write`: the bits of the word are those that may be written.
+use mathlib.Core.Path.{◌∙◌, refl}
+use Rattle.desk_slots.specs.Slots.{insert}
+use Rattle.desk_slots.specs.Characteristics.{writables, is_in, set_of}
+use Rattle.desk_slots.proofs.SetLaws.{listed}
+use borrow.Author.Rules.{rules}
+use Rattle.desk_slots.proofs.may_write.Goals as goal
+
+pub returns : goal.returns
+unfolding insert is_in set_of
+returns c =
+    c.in_word.ensures ∙ listed 32 writables refl c.args.c

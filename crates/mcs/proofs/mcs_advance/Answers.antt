@@ -1,0 +1,13 @@
+-- `mcs::mcs_advance`: `desk_console::advance`, then what C is told.
+use Rattle.mcs.proofs.Leaving.{ends, small_said}
+use Rattle.mcs.proofs.Short.{advance_words}
+use borrow.Author.Rules.{rules}
+use Rattle.mcs.proofs.mcs_advance.Goals as goal
+
+pub finish-requires-clause-all_words : goal.finish-requires-clause-all_words
+finish-requires-clause-all_words c =
+    small_said c.advance-o.ensures (advance_words _ _ _ _)
+
+pub returns : goal.returns
+returns c =
+    ends c.advance-o.ensures c.finish.ensures

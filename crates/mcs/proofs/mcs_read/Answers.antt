@@ -1,0 +1,42 @@
+-- `mcs::mcs_read`: `desk_exchange::read`, what it says of it, then the end that every call has.
+use mathlib.Core.Path.{ap, ◌∙◌}
+use lib.ListN.{length}
+use Rattle.ground.specs.Refusals.{Said}
+use Rattle.ground.specs.Lists.{table_after}
+use Rattle.desk_exchange.specs.Read.{read_call, read_octets}
+use Rattle.mcs_state.specs.Codec.{desk_of}
+use Rattle.catalogue_titles.specs.Lent.{lending}
+use Rattle.mcs_told.specs.declared.Told.{Told}
+use Rattle.mcs_told.specs.Calls.{told_of, told_after}
+use Rattle.mcs.proofs.Leaving.{ends, small_said}
+use Rattle.mcs_told.proofs.Words.{told_as_said}
+use Rattle.mcs.proofs.Short.{read_words}
+use borrow.Author.Rules.{rules}
+use Rattle.mcs.proofs.mcs_read.Goals as goal
+
+pub finish-requires-clause-all_words : goal.finish-requires-clause-all_words
+finish-requires-clause-all_words c =
+    small_said c.read-o.ensures.answers (read_words _ _ _ _ _ _ _)
+
+pub returns-clause-ends : goal.returns-clause-ends
+returns-clause-ends c =
+
+    let k = lending c.args.groups.now c.args.tracks.now c.args.segments.now c.args.text.now c.args.renames.now c.args.office.now in
+    let o = c.read-o in
+    let said = o.ensures.0.said in ends o.ensures.0 c.finish.ensures
+
+pub returns-clause-out_after : goal.returns-clause-out_after
+returns-clause-out_after c =
+
+    let k = lending c.args.groups.now c.args.tracks.now c.args.segments.now c.args.text.now c.args.renames.now c.args.office.now in
+    let o = c.read-o in
+    let said = o.ensures.0.said in o.ensures.1 ∙ ap (λ (x : Said). table_after x (read_octets k (desk_of c.args.state.now) c.args.client c.args.service c.args.characteristic c.args.offset) c.args.out.now) said
+
+pub returns-clause-length_after : goal.returns-clause-length_after
+returns-clause-length_after c =
+
+    let k = lending c.args.groups.now c.args.tracks.now c.args.segments.now c.args.text.now c.args.renames.now c.args.office.now in
+    let o = c.read-o in
+    let said = o.ensures.0.said in c.tell.ensures
+            ∙ ap (λ (t : Told). told_after t.granted t.values c.args.length.now) (c.told_of-t.ensures ∙ ap told_of said)
+            ∙ told_as_said (read_call k (desk_of c.args.state.now) c.args.client c.args.service c.args.characteristic c.args.offset (length c.args.out.now)).said c.args.length.now (read_words k (desk_of c.args.state.now) c.args.client c.args.service c.args.characteristic c.args.offset (length c.args.out.now))

@@ -1,0 +1,13 @@
+-- `mcs::mcs_write`: `desk_exchange::write`, then what C is told.
+use Rattle.mcs.proofs.Leaving.{ends, small_said}
+use Rattle.mcs.proofs.Short.{written_words}
+use borrow.Author.Rules.{rules}
+use Rattle.mcs.proofs.mcs_write.Goals as goal
+
+pub finish-requires-clause-all_words : goal.finish-requires-clause-all_words
+finish-requires-clause-all_words c =
+    small_said c.write-o.ensures (written_words _ _ _ _ _ _)
+
+pub returns : goal.returns
+returns c =
+    ends c.write-o.ensures c.finish.ensures

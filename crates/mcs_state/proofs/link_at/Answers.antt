@@ -1,0 +1,9 @@
+-- `mcs_state::link_at`: the link at the client's place.
+use mathlib.Core.Path.{sym, ◌∙◌}
+use Rattle.mcs_state.proofs.Places.{link_there}
+use borrow.Author.Rules.{rules}
+use Rattle.mcs_state.proofs.link_at.Goals as goal
+
+pub returns : goal.returns
+returns c =
+    c.link_from.ensures ∙ sym (link_there c.args.s.now c.args.who c.requires.who_lt_client_count)

@@ -1,0 +1,16 @@
+-- `mcs_told::tell_count`: an arm an answer.
+use mathlib.Core.Path.{sym, ap, ◌∙◌}
+use Rattle.catalogue_objects.specs.declared.Answer.{Answer}
+use Rattle.catalogue_objects.specs.Objects.{said_of}
+use Rattle.mcs_told.specs.Calls.{words_after}
+use Rattle.mcs_told.proofs.Words.{one_count}
+use borrow.Author.Rules.{rules}
+use Rattle.mcs_told.proofs.tell_count.Goals as goal
+
+pub returns-in-Filled-clause-value : goal.returns-in-Filled-clause-value
+returns-in-Filled-clause-value c =
+    ap (λ (a : Answer). (said_of a).number) (sym c.in-Filled.is)
+
+pub returns-in-Filled-clause-count_after : goal.returns-in-Filled-clause-count_after
+returns-in-Filled-clause-count_after c =
+    one_count _ c.args.count.now c.requires ∙ ap (λ (a : Answer). words_after (said_of a) c.args.count.now) (sym c.in-Filled.is)

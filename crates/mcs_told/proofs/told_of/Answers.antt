@@ -1,0 +1,40 @@
+-- `mcs_told::told_of`: an arm an answer.
+use mathlib.Core.Path.{◌≡◌, sym, ap, ◌∙◌}
+use mathlib.Core.List.{[], ◌∷◌}
+use Rattle.ground.specs.Refusals.{granted}
+use Rattle.desk_replies.specs.declared.Answer.{Answer}
+use Rattle.desk_replies.specs.Replies.{said_of}
+use Rattle.mcs_told.specs.Calls.{told_of}
+use borrow.Author.Rules.{rules}
+
+-- what is told of the answer's arm is told of the answer
+use Rattle.mcs_told.proofs.told_of.Goals as goal
+
+back : {a b : Answer} → a ≡ b → told_of (said_of b) ≡ told_of (said_of a)
+back e = sym (ap (λ (x : Answer). told_of (said_of x)) e)
+
+pub returns-in-Done : goal.returns-in-Done
+returns-in-Done c =
+    c.granted.ensures ∙ back c.in-Done.is
+
+pub returns-in-Octets : goal.returns-in-Octets
+returns-in-Octets c =
+    c.granted-in-Octets.ensures ∙ back c.in-Octets.is
+
+pub returns-in-Served : goal.returns-in-Served
+returns-in-Served c =
+    let a = c.a-in-Served-1 in
+    c.granted-in-Served.ensures
+    ∙ (λ k. told_of (granted (c.wide_word.ensures.0 k ∷ c.wide_word-in-Served.ensures.0 k ∷ c.wide_word-in-Served-2.ensures.0 k ∷ a.given.0.1.1.1.0 ∷ [])))
+    ∙ back a.given.1
+
+pub returns-in-Handed : goal.returns-in-Handed
+returns-in-Handed c =
+    let a = c.a-in-Handed-1 in
+    c.granted-in-Handed.ensures
+    ∙ (λ k. told_of (granted (c.wide_word-in-Handed.ensures.0 k ∷ c.wide_word-in-Handed-2.ensures.0 k ∷ a.given.0.1.1.0 ∷ [])))
+    ∙ back a.given.1
+
+pub returns-in-Refused : goal.returns-in-Refused
+returns-in-Refused c =
+    c.refused.ensures ∙ back c.in-Refused.is

@@ -1,0 +1,20 @@
+-- `mcs_told::told_of_load`: an arm an answer.
+use mathlib.Core.Path.{◌≡◌, sym, ap, ◌∙◌}
+use Rattle.card_load.specs.declared.Loaded.{Loaded}
+use Rattle.card_load.specs.Load.{said_of}
+use Rattle.mcs_told.specs.Calls.{told_of}
+use borrow.Author.Rules.{rules}
+
+-- what is told of the answer's arm is told of the answer
+use Rattle.mcs_told.proofs.told_of_load.Goals as goal
+
+back : {a b : Loaded} → a ≡ b → told_of (said_of b) ≡ told_of (said_of a)
+back e = sym (ap (λ (x : Loaded). told_of (said_of x)) e)
+
+pub returns-in-Done : goal.returns-in-Done
+returns-in-Done c =
+    c.granted.ensures ∙ back c.in-Done.is
+
+pub returns-in-Refused : goal.returns-in-Refused
+returns-in-Refused c =
+    c.refused.ensures ∙ back c.in-Refused.is

@@ -1,0 +1,30 @@
+-- `player_groups::siblings_below`: what is counted and what is left to count make up all of them.
+use mathlib.Core.Path.{◌≡◌, sym, ◌∙◌}
+use mathlib.Core.Logic.{⊎_elim}
+use Prim.Native.Nat.{◌+◌, ◌-◌, ◌≤◌}
+use native.Mathlib.Nat.{zero-add}
+use native.Mathlib.Omega.{arith}
+use lib.ListN.{length}
+use Rattle.ground.specs.Lists.{span, those}
+use Rattle.player_groups.specs.Family.{is_sibling}
+use Rattle.player_groups.proofs.Scan.{all_left, counted, passed, count_ends}
+use borrow.Author.Rules.{rules}
+use Rattle.player_groups.proofs.siblings_below.Goals as goal
+
+pub loop-i-init : goal.loop-i-init
+loop-i-init c =
+    (search rules, search rules, rw (zero-add, all_left))
+
+pub loop-i-preserved : goal.loop-i-preserved
+loop-i-preserved c =
+    let l = c.loop-i in
+    let test = is_sibling c.args.groups.now c.args.g.0 in
+    let h = c.loop-i-test.true in
+    ⊎_elim
+    (λ w. (omega arith, omega (arith, w.1), counted test _ l.i l.n _ l.invariant.2 h c.if-found.n (sym c.is_sibling-found.ensures ∙ w.0.taken) w.1))
+    (λ w. (omega arith, omega (arith, w.1), passed test _ l.i l.n _ l.invariant.2 h c.if-found.n (sym c.is_sibling-found.ensures ∙ w.0.left) w.1))
+    c.if-found.branch
+
+pub returns : goal.returns
+returns c =
+    (count_ends _ _ _ _ _ c.loop-i.invariant.2 c.loop-i-test.false, search rules)

@@ -1,0 +1,18 @@
+-- `player_groups::siblings_below`: what is counted and what is left to count make up all of them.
+use mathlib.Core.Path.{◌≡◌, sym, ◌∙◌}
+use mathlib.Core.Logic.{⊎_elim}
+use Prim.Native.Nat.{◌+◌, ◌-◌, ◌≤◌}
+use native.Mathlib.Nat.{zero-add}
+use native.Mathlib.Omega.{arith}
+use lib.ListN.{length}
+use Rattle.ground.specs.Lists.{span, those}
+use Rattle.player_groups.specs.Family.{is_sibling}
+use Rattle.player_groups.proofs.Scan.{all_left, counted, passed, count_ends}
+use borrow.Author.Rules.{rules}
+use Rattle.player_groups.proofs.siblings_below.Given as goal
+
+abbrev pub invariant-loop-i : goal.invariant-loop-i
+invariant-loop-i l = (l.i ≤ l.end) × (l.n ≤ l.i) × (l.n + length (those (is_sibling l.groups l.g.0) (span l.i (l.end - l.i))) ≡ length (those (is_sibling l.groups l.g.0) (span 0 l.end)))
+
+abbrev pub decreases-loop-i : goal.decreases-loop-i
+decreases-loop-i l = l.end - l.i

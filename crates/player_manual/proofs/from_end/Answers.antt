@@ -1,0 +1,32 @@
+-- `player_manual::from_end`: none allowed, the end, and on.
+use mathlib.Core.Path.{sym, ◌∙◌}
+use native.Mathlib.Omega.{arith}
+use Rattle.player_manual.proofs.Steps.{none_allowed, no_end, at_end_lem}
+use Rattle.player_manual.proofs.Places.{stays}
+use borrow.Author.Rules.{rules}
+use Rattle.player_manual.proofs.from_end.Goals as goal
+
+pub returns-then-allowed-eq0 : goal.returns-then-allowed-eq0
+returns-then-allowed-eq0 c =
+    none_allowed _ _ _ _ c.if-allowed-eq0.true
+
+pub steps_on-requires-clause-k_lt_len : goal.steps_on-requires-clause-k_lt_len
+steps_on-requires-clause-k_lt_len c =
+
+    let a = c.args in stays a.len a.end a.repeat a.k _ (omega arith) (sym c.place_after-p.ensures ∙ c.in-At.is)
+
+pub steps_on-requires-clause-allowed_nonzero : goal.steps_on-requires-clause-allowed_nonzero
+steps_on-requires-clause-allowed_nonzero c =
+
+    let a = c.args in omega arith
+
+pub returns-in-At : goal.returns-in-At
+returns-in-At c =
+    let a = c.args in
+    c.steps_on.ensures
+    ∙ at_end_lem _ _ _ a.allowed _ (omega arith) (sym c.place_after-p.ensures ∙ c.in-At.is)
+
+pub returns-in-Nothing : goal.returns-in-Nothing
+returns-in-Nothing c =
+    let a = c.args in
+    no_end _ _ _ a.allowed (omega arith) (sym c.place_after-p.ensures ∙ c.in-Nothing.is)

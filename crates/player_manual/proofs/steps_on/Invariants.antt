@@ -1,0 +1,18 @@
+-- `player_manual::steps_on`: what is left of the walk, from where the loop stands, is the whole walk.
+use mathlib.Core.Path.{◌≡◌, refl, sym, ◌∙◌}
+use Prim.Native.Nat.{◌+◌, ◌-◌, ◌<◌, ◌≤◌}
+use native.Mathlib.Omega.{arith}
+use Rattle.player_walk.specs.Places.{place_after}
+use Rattle.player_manual.specs.Made.{more, steps}
+use Rattle.player_manual.proofs.Steps.{arrives, runs_out, stops, goes_on_lem}
+use Rattle.player_manual.proofs.Places.{stays}
+use borrow.Author.Rules.{rules}
+use Rattle.player_manual.proofs.steps_on.Given as goal
+
+abbrev pub invariant-loop-left : goal.invariant-loop-left
+invariant-loop-left l =
+    (l.at < l.len) × (0 < l.made) × (l.made ≤ l.allowed)
+    × (more l.made (steps (place_after l.step l.repeat l.len) (l.allowed - l.made) l.left l.at) ≡ more 1 (steps (place_after l.step l.repeat l.len) (l.allowed - 1) l.wanted l.k))
+
+abbrev pub decreases-loop-left : goal.decreases-loop-left
+decreases-loop-left l = l.left

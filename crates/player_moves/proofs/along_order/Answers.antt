@@ -1,0 +1,12 @@
+-- `player_moves::along_order`: to what is found along the order.
+use mathlib.Core.Path.{ap, ◌∙◌}
+use Rattle.player_walk.specs.declared.Near.{Near}
+use Rattle.player_state.specs.Modes.{moved_to}
+use Rattle.player_moves.specs.Control.{success, onward}
+use borrow.Author.Rules.{rules}
+use Rattle.player_moves.proofs.along_order.Goals as goal
+
+pub returns : goal.returns
+returns c =
+    let a = c.args in
+    c.go_to.ensures ∙ ap (λ (n : Near). onward n (λ t. success (moved_to a.p.place.group.0 t a.p)) a.p) c.near_track-near.ensures

@@ -1,0 +1,32 @@
+-- `player_opcodes::step_of`: a case for each of the five steps.
+use mathlib.Core.Path.{refl}
+use borrow.Author.Tests.{ne_eqb}
+use Rattle.ground.proofs.Cases.{past}
+use Rattle.player_opcodes.specs.Opcodes.{step_of}
+use Rattle.player_opcodes.proofs.step_of.Goals as goal
+
+pub returns-in-0 : goal.returns-in-0
+unfolding step_of
+returns-in-0 c =
+    rw c.in-0.is
+
+pub returns-in-1 : goal.returns-in-1
+unfolding step_of
+returns-in-1 c =
+    rw c.in-1.is
+
+pub returns-in-2 : goal.returns-in-2
+unfolding step_of
+returns-in-2 c =
+    rw c.in-2.is
+
+pub returns-in-3 : goal.returns-in-3
+unfolding step_of
+returns-in-3 c =
+    rw c.in-3.is
+
+pub returns-in_default : goal.returns-in_default
+unfolding step_of
+returns-in_default c =
+    let r = c.in_default.in_default-own.rest in
+    past _ (ne_eqb _ _ r.0.0.0.1) (past _ (ne_eqb _ _ r.0.0.1) (past _ (ne_eqb _ _ r.0.1) (past _ (ne_eqb _ _ r.1) refl)))

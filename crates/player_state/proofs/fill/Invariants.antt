@@ -1,0 +1,14 @@
+-- `player_state::fill`: after i turns the first i octets are copied.
+use mathlib.Core.Path.{◌≡◌, refl}
+use Prim.Native.Nat.{◌≤◌, ◌<◌, ◌-◌}
+use native.Mathlib.Omega.{arith}
+use lib.ListN.{length, length-set}
+use Rattle.ground.proofs.Sweep.{copied, copy_turn, copy_end}
+use borrow.Author.Rules.{rules}
+use Rattle.player_state.proofs.fill.Given as goal
+
+abbrev pub invariant-loop-i : goal.invariant-loop-i
+invariant-loop-i l = (l.i ≤ length l.name) × (length l.name ≤ 128) × (length l.initial.out ≡ 128) × (length l.out ≡ 128) × (l.out ≡ copied l.name l.initial.out l.i)
+
+abbrev pub decreases-loop-i : goal.decreases-loop-i
+decreases-loop-i l = length l.name - l.i

@@ -1,0 +1,18 @@
+-- `player_steps::segments_on`: what is left of the walk, from where the loop stands, is the whole walk.
+use mathlib.Core.Path.{◌≡◌, refl, sym, ap, ◌∙◌}
+use Prim.Native.Nat.{◌+◌, ◌-◌, ◌<◌, ◌≤◌}
+use native.Mathlib.Omega.{arith}
+use Rattle.player_manual.specs.Made.{more, steps}
+use Rattle.player_manual.proofs.Steps.{arrives, runs_out, stops, goes_on_lem}
+use Rattle.player_segments.specs.Segments.{near_position}
+use Rattle.player_steps.specs.Stepping.{along_segments}
+use borrow.Author.Rules.{rules}
+use Rattle.player_steps.proofs.segments_on.Given as goal
+
+abbrev pub invariant-loop-left : goal.invariant-loop-left
+invariant-loop-left l =
+    (0 < l.made) × (l.made ≤ l.allowed)
+    × (more l.made (steps (along_segments l.starts (near_position l.past) l.step) (l.allowed - l.made) l.left l.at.0) ≡ more 1 (steps (along_segments l.starts (near_position l.past) l.step) (l.allowed - 1) l.wanted l.initial.at.0))
+
+abbrev pub decreases-loop-left : goal.decreases-loop-left
+decreases-loop-left l = l.left

@@ -1,0 +1,14 @@
+-- `player_values::put_word`: the four octets are the word's.
+use Rattle.player_values.specs.Values.{word_octets}
+use borrow.Author.Rules.{rules}
+use Rattle.player_values.proofs.put_word.Goals as goal
+
+pub returns-clause-value : goal.returns-clause-value
+unfolding word_octets
+returns-clause-value c =
+    (c.put.ensures).0
+
+pub returns-clause-out_after : goal.returns-clause-out_after
+unfolding word_octets
+returns-clause-out_after c =
+    (c.put.ensures).1

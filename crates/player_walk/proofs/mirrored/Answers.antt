@@ -1,0 +1,12 @@
+-- `player_walk::mirrored`: a place that is there has one from the other end.
+use borrow.Author.Tests.{lt-ltb, le-ltb}
+use borrow.Author.Rules.{rules}
+use Rattle.player_walk.proofs.mirrored.Goals as goal
+
+pub returns-then-k-len : goal.returns-then-k-len
+returns-then-k-len c =
+    rw (c.in-At.is, lt-ltb _ _ c.if-k-len.true)
+
+pub returns-else-k-len : goal.returns-else-k-len
+returns-else-k-len c =
+    rw (c.in-At.is, le-ltb _ _ c.if-k-len.false)
