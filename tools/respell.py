@@ -38,6 +38,15 @@ def declared():
     return files, signatures
 
 
+def brought(text):
+    """The names that a file brings from a library that is not of this repository: they stay in it."""
+    names = set()
+    for module, listed in re.findall(r"\buse ([\w.·]+)\.\{([^}]*)\}", text):
+        if not re.match(r"Rattle[.·]", module) or module.startswith("Rattle.std."):
+            names |= {n.strip().split(" ")[0] for n in listed.split(",")}
+    return names
+
+
 def in_snake_case(name):
     if not name[0].islower():
         head, dash, rest = name.partition("-")
@@ -90,9 +99,11 @@ def main(argv):
         print("\n".join(f"{a} {b}" for a, b in sorted(new.items())))
         return 0
 
+    stay = set()
+
     def token(m):
         old = m[0]
-        to = new.get(old, old)
+        to = old if old in stay else new.get(old, old)
         # A name that was in snake case before is one of a path too, as proofs.place_at.Tie: that stays.
         return old if "-" not in old and old.islower() and m.string[: m.start()].endswith(".") else to
 
@@ -120,6 +131,8 @@ def main(argv):
 
     def turn(path, by_line):
         text = open(path, encoding="utf-8").read()
+        stay.clear()
+        stay.update(brought(text))
         to = "".join(by_line(line) for line in text.splitlines(keepends=True))
         if to != text:
             open(path, "w", encoding="utf-8").write(to)

@@ -1,6 +1,6 @@
 -- The laws of sets of slots, for any number n of slots: what is in each set, and its bound. Assumes nothing.
 use mathlib.Core.Path.{◌≡◌, refl, sym, ap, ◌∙◌}
-use mathlib.Core.Bool.{Bool, true, false, not, xor, ◌&&◌, ◌||◌, or_true, or-false, and-true, and-false}
+use mathlib.Core.Bool.{Bool, true, false, not, xor, ◌&&◌, ◌||◌, or-true, or-false, and-true, and-false}
 use mathlib.Core.List.{List}
 use mathlib.Core.Logic.{⊎_elim}
 use Prim.Native.Nat.{ℕ, ◌+◌, ◌^◌, ◌≤◌, ◌<◌}
@@ -69,7 +69,7 @@ eqb_self : (k : ℕ) → eqb k k ≡ true
 eqb_self k = eq-eqb k k refl
 
 pub insert_same : (w s : ℕ) → has (insert w s) s ≡ true
-insert_same w s = has_insert w s s ∙ ap (λ (b : Bool). has w s || b) (eqb_self s) ∙ or_true (has w s)
+insert_same w s = has_insert w s s ∙ ap (λ (b : Bool). has w s || b) (eqb_self s) ∙ or-true (has w s)
 
 pub insert_other : (w s t : ℕ) → (s ≡ t → ⊥) → has (insert w s) t ≡ has w t
 insert_other w s t h = has_insert w s t ∙ ap (λ (b : Bool). has w t || b) (ne_eqb s t h) ∙ or-false (has w t)
