@@ -1,7 +1,8 @@
-// What C calls (include/mcs.h). The state is 649 octets that the caller keeps (`mcs_state`); each call reads it out of them, makes its call, and writes it back
+// What C calls, by the exports of `mcs_c` (include/mcs.h). The state is 649 octets that the caller keeps (`mcs_state`); each call reads it out of them, makes its call, and writes it back
 // where that is accepted. A call returns 0, or the number of the refusal: then nothing that was lent is altered, but for the words that are lent for what a
 // refusal carries.
 #![tactic(auto)]
+
 ghost use Rattle.std.specs.Prelude.{◌≡◌, length as len};
 ghost use Rattle.catalogue_tables.specs.Tables.{tables};
 ghost use Rattle.catalogue_titles.specs.Lent.{lending};
@@ -12,7 +13,7 @@ ghost use Rattle.card_load.specs.Load.{load_said};
 ghost use Rattle.card_write.specs.Card.{card_of};
 ghost use Rattle.card_write.specs.Write.{write_said};
 ghost use Rattle.catalogue_cue.specs.Sheet.{cue_said, sheet_lines, starts_of};
-ghost use Rattle.catalogue_objects.specs.Objects.{group_octets, segments_octets, has_group, has_segments, write_said as objectSaid};
+ghost use Rattle.catalogue_objects.specs.Objects.{group_octets, segments_octets, has_group, has_segments, write_said as object_said};
 ghost use Rattle.catalogue_objects.specs.Reading.{entries_of, read_said};
 ghost use Rattle.catalogue_objects.specs.declared.Kind.TheVariants.{Group, Segments};
 ghost use Rattle.mcs_state.specs.Codec.{flag, desk_of};
@@ -26,8 +27,7 @@ ghost use Rattle.desk_goto.specs.Manual.{manual_call};
 ghost use Rattle.mcs_told.specs.Calls.{Ends, words_after, carried_after, track_after, offset_after, part_after, made_after, arrival_after};
 
 // Card load.
-#[unsafe(no_mangle)]
-pub extern "C" fn mcs_card_load(
+pub fn mcs_card_load(
     card: &[u8],
     groups: &mut [u32],
     tracks: &mut [u32],
@@ -53,8 +53,7 @@ pub extern "C" fn mcs_card_load(
 }
 
 // Card write.
-#[unsafe(no_mangle)]
-pub extern "C" fn mcs_card_write(
+pub fn mcs_card_write(
     groups: &[u32],
     tracks: &[u32],
     segments: &[u32],
@@ -79,8 +78,7 @@ pub extern "C" fn mcs_card_write(
 }
 
 // Cue sheet.
-#[unsafe(no_mangle)]
-pub extern "C" fn mcs_cue_sheet(
+pub fn mcs_cue_sheet(
     sheet: &[u8],
     starts: &mut [u32],
     count: &mut [u32; 1],
@@ -100,8 +98,7 @@ pub extern "C" fn mcs_cue_sheet(
 }
 
 // The Group object of a group, written.
-#[unsafe(no_mangle)]
-pub extern "C" fn mcs_group_object_write(
+pub fn mcs_group_object_write(
     groups: &[u32],
     tracks: &[u32],
     segments: &[u32],
@@ -112,11 +109,11 @@ pub extern "C" fn mcs_group_object_write(
     track: &mut [u32; 1],
     octet: &mut [u32; 1],
 ) -> u32
-    ensures value { result ≡ (objectSaid (tables groups.now tracks.now segments.now text.now) (has_group (tables groups.now tracks.now segments.now text.now) group) (group_octets groups.now group) (len out.old)).number }
-    ensures out_after { out.new ≡ table_after (objectSaid (tables groups.now tracks.now segments.now text.now) (has_group (tables groups.now tracks.now segments.now text.now) group) (group_octets groups.now group) (len out.old)) (group_octets groups.now group) out.old }
-    ensures written_after { written.new ≡ words_after (objectSaid (tables groups.now tracks.now segments.now text.now) (has_group (tables groups.now tracks.now segments.now text.now) group) (group_octets groups.now group) (len out.old)) written.old }
-    ensures track_after { track.new ≡ track_after (objectSaid (tables groups.now tracks.now segments.now text.now) (has_group (tables groups.now tracks.now segments.now text.now) group) (group_octets groups.now group) (len out.old)) track.old }
-    ensures octet_after { octet.new ≡ offset_after (objectSaid (tables groups.now tracks.now segments.now text.now) (has_group (tables groups.now tracks.now segments.now text.now) group) (group_octets groups.now group) (len out.old)) octet.old }
+    ensures value { result ≡ (object_said (tables groups.now tracks.now segments.now text.now) (has_group (tables groups.now tracks.now segments.now text.now) group) (group_octets groups.now group) (len out.old)).number }
+    ensures out_after { out.new ≡ table_after (object_said (tables groups.now tracks.now segments.now text.now) (has_group (tables groups.now tracks.now segments.now text.now) group) (group_octets groups.now group) (len out.old)) (group_octets groups.now group) out.old }
+    ensures written_after { written.new ≡ words_after (object_said (tables groups.now tracks.now segments.now text.now) (has_group (tables groups.now tracks.now segments.now text.now) group) (group_octets groups.now group) (len out.old)) written.old }
+    ensures track_after { track.new ≡ track_after (object_said (tables groups.now tracks.now segments.now text.now) (has_group (tables groups.now tracks.now segments.now text.now) group) (group_octets groups.now group) (len out.old)) track.old }
+    ensures octet_after { octet.new ≡ offset_after (object_said (tables groups.now tracks.now segments.now text.now) (has_group (tables groups.now tracks.now segments.now text.now) group) (group_octets groups.now group) (len out.old)) octet.old }
 {
     let a = catalogue_objects::write_group(
         groups,
@@ -134,8 +131,7 @@ pub extern "C" fn mcs_group_object_write(
 }
 
 // The Track Segments object of a track, written.
-#[unsafe(no_mangle)]
-pub extern "C" fn mcs_segments_object_write(
+pub fn mcs_segments_object_write(
     groups: &[u32],
     tracks: &[u32],
     segments: &[u32],
@@ -146,11 +142,11 @@ pub extern "C" fn mcs_segments_object_write(
     track: &mut [u32; 1],
     octet: &mut [u32; 1],
 ) -> u32
-    ensures value { result ≡ (objectSaid (tables groups.now tracks.now segments.now text.now) (has_segments (tables groups.now tracks.now segments.now text.now) ofTrack) (segments_octets tracks.now segments.now ofTrack) (len out.old)).number }
-    ensures out_after { out.new ≡ table_after (objectSaid (tables groups.now tracks.now segments.now text.now) (has_segments (tables groups.now tracks.now segments.now text.now) ofTrack) (segments_octets tracks.now segments.now ofTrack) (len out.old)) (segments_octets tracks.now segments.now ofTrack) out.old }
-    ensures written_after { written.new ≡ words_after (objectSaid (tables groups.now tracks.now segments.now text.now) (has_segments (tables groups.now tracks.now segments.now text.now) ofTrack) (segments_octets tracks.now segments.now ofTrack) (len out.old)) written.old }
-    ensures track_after { track.new ≡ track_after (objectSaid (tables groups.now tracks.now segments.now text.now) (has_segments (tables groups.now tracks.now segments.now text.now) ofTrack) (segments_octets tracks.now segments.now ofTrack) (len out.old)) track.old }
-    ensures octet_after { octet.new ≡ offset_after (objectSaid (tables groups.now tracks.now segments.now text.now) (has_segments (tables groups.now tracks.now segments.now text.now) ofTrack) (segments_octets tracks.now segments.now ofTrack) (len out.old)) octet.old }
+    ensures value { result ≡ (object_said (tables groups.now tracks.now segments.now text.now) (has_segments (tables groups.now tracks.now segments.now text.now) ofTrack) (segments_octets tracks.now segments.now ofTrack) (len out.old)).number }
+    ensures out_after { out.new ≡ table_after (object_said (tables groups.now tracks.now segments.now text.now) (has_segments (tables groups.now tracks.now segments.now text.now) ofTrack) (segments_octets tracks.now segments.now ofTrack) (len out.old)) (segments_octets tracks.now segments.now ofTrack) out.old }
+    ensures written_after { written.new ≡ words_after (object_said (tables groups.now tracks.now segments.now text.now) (has_segments (tables groups.now tracks.now segments.now text.now) ofTrack) (segments_octets tracks.now segments.now ofTrack) (len out.old)) written.old }
+    ensures track_after { track.new ≡ track_after (object_said (tables groups.now tracks.now segments.now text.now) (has_segments (tables groups.now tracks.now segments.now text.now) ofTrack) (segments_octets tracks.now segments.now ofTrack) (len out.old)) track.old }
+    ensures octet_after { octet.new ≡ offset_after (object_said (tables groups.now tracks.now segments.now text.now) (has_segments (tables groups.now tracks.now segments.now text.now) ofTrack) (segments_octets tracks.now segments.now ofTrack) (len out.old)) octet.old }
 {
     let a = catalogue_objects::write_segments(
         groups,
@@ -168,12 +164,7 @@ pub extern "C" fn mcs_segments_object_write(
 }
 
 // A Group object, read back.
-#[unsafe(no_mangle)]
-pub extern "C" fn mcs_group_object_read(
-    octets: &[u8],
-    members: &mut [u32],
-    count: &mut [usize; 1],
-) -> u32
+pub fn mcs_group_object_read(octets: &[u8], members: &mut [u32], count: &mut [usize; 1]) -> u32
     ensures value { result ≡ (read_said Group octets.now (len members.old)).number }
     ensures members_after { members.new ≡ table_after (read_said Group octets.now (len members.old)) (entries_of Group octets.now).words members.old }
     ensures count_after { count.new ≡ words_after (read_said Group octets.now (len members.old)) count.old }
@@ -183,12 +174,7 @@ pub extern "C" fn mcs_group_object_read(
 }
 
 // A Track Segments object, read back.
-#[unsafe(no_mangle)]
-pub extern "C" fn mcs_segments_object_read(
-    octets: &[u8],
-    positions: &mut [u32],
-    count: &mut [usize; 1],
-) -> u32
+pub fn mcs_segments_object_read(octets: &[u8], positions: &mut [u32], count: &mut [usize; 1]) -> u32
     ensures value { result ≡ (read_said Segments octets.now (len positions.old)).number }
     ensures positions_after { positions.new ≡ table_after (read_said Segments octets.now (len positions.old)) (entries_of Segments octets.now).words positions.old }
     ensures count_after { count.new ≡ words_after (read_said Segments octets.now (len positions.old)) count.old }
@@ -198,8 +184,7 @@ pub extern "C" fn mcs_segments_object_read(
 }
 
 // Start.
-#[unsafe(no_mangle)]
-pub extern "C" fn mcs_start(
+pub fn mcs_start(
     groups: &[u32],
     tracks: &[u32],
     segments: &[u32],
@@ -226,8 +211,7 @@ pub extern "C" fn mcs_start(
 }
 
 // Set name.
-#[unsafe(no_mangle)]
-pub extern "C" fn mcs_set_name<'a>(
+pub fn mcs_set_name<'a>(
     groups: &[u32],
     tracks: &[u32],
     segments: &[u32],
@@ -249,8 +233,7 @@ pub extern "C" fn mcs_set_name<'a>(
 }
 
 // Activate a group.
-#[unsafe(no_mangle)]
-pub extern "C" fn mcs_activate<'a>(
+pub fn mcs_activate<'a>(
     groups: &[u32],
     tracks: &[u32],
     segments: &[u32],
@@ -273,8 +256,7 @@ pub extern "C" fn mcs_activate<'a>(
 }
 
 // Deactivate.
-#[unsafe(no_mangle)]
-pub extern "C" fn mcs_deactivate<'a>(
+pub fn mcs_deactivate<'a>(
     groups: &[u32],
     tracks: &[u32],
     segments: &[u32],
@@ -295,8 +277,7 @@ pub extern "C" fn mcs_deactivate<'a>(
 }
 
 // Advance.
-#[unsafe(no_mangle)]
-pub extern "C" fn mcs_advance<'a>(
+pub fn mcs_advance<'a>(
     groups: &[u32],
     tracks: &[u32],
     segments: &[u32],
@@ -318,8 +299,7 @@ pub extern "C" fn mcs_advance<'a>(
 }
 
 // Connect; 0 is not encrypted.
-#[unsafe(no_mangle)]
-pub extern "C" fn mcs_connect(
+pub fn mcs_connect(
     groups: &[u32],
     tracks: &[u32],
     segments: &[u32],
@@ -351,8 +331,7 @@ pub extern "C" fn mcs_connect(
 }
 
 // Disconnect.
-#[unsafe(no_mangle)]
-pub extern "C" fn mcs_disconnect(
+pub fn mcs_disconnect(
     groups: &[u32],
     tracks: &[u32],
     segments: &[u32],
@@ -373,8 +352,7 @@ pub extern "C" fn mcs_disconnect(
 }
 
 // Subscribe.
-#[unsafe(no_mangle)]
-pub extern "C" fn mcs_subscribe(
+pub fn mcs_subscribe(
     groups: &[u32],
     tracks: &[u32],
     segments: &[u32],
@@ -406,8 +384,7 @@ pub extern "C" fn mcs_subscribe(
 }
 
 // Unsubscribe.
-#[unsafe(no_mangle)]
-pub extern "C" fn mcs_unsubscribe(
+pub fn mcs_unsubscribe(
     groups: &[u32],
     tracks: &[u32],
     segments: &[u32],
@@ -439,8 +416,7 @@ pub extern "C" fn mcs_unsubscribe(
 }
 
 // Read at an offset.
-#[unsafe(no_mangle)]
-pub extern "C" fn mcs_read<'a>(
+pub fn mcs_read<'a>(
     groups: &[u32],
     tracks: &[u32],
     segments: &[u32],
@@ -482,8 +458,7 @@ pub extern "C" fn mcs_read<'a>(
 }
 
 // Take.
-#[unsafe(no_mangle)]
-pub extern "C" fn mcs_take<'a>(
+pub fn mcs_take<'a>(
     groups: &[u32],
     tracks: &[u32],
     segments: &[u32],
@@ -508,8 +483,7 @@ pub extern "C" fn mcs_take<'a>(
 }
 
 // Write.
-#[unsafe(no_mangle)]
-pub extern "C" fn mcs_write<'a>(
+pub fn mcs_write<'a>(
     groups: &[u32],
     tracks: &[u32],
     segments: &[u32],
@@ -543,8 +517,7 @@ pub extern "C" fn mcs_write<'a>(
 }
 
 // Title: of which text, from where on and how long. The state is lent to be read alone.
-#[unsafe(no_mangle)]
-pub extern "C" fn mcs_title(
+pub fn mcs_title(
     groups: &[u32],
     tracks: &[u32],
     segments: &[u32],
@@ -574,8 +547,7 @@ pub extern "C" fn mcs_title(
 }
 
 // The manual's Goto: what it comes to, the steps made, and where the player would be. The state is lent to be read alone.
-#[unsafe(no_mangle)]
-pub extern "C" fn mcs_manual_goto(
+pub fn mcs_manual_goto(
     groups: &[u32],
     tracks: &[u32],
     segments: &[u32],

@@ -15,7 +15,6 @@ use Rattle.mcs.proofs.mcs_card_load.Goals as goal
 
 pub returns-clause-value : goal.returns-clause-value
 returns-clause-value c =
-
     let a = c.args in
     let load = c.load-l.ensures in
     let told = c.told_of_load-t.ensures ∙ ap told_of load.0 in
@@ -25,7 +24,6 @@ returns-clause-value c =
 
 pub returns-clause-groups_after : goal.returns-clause-groups_after
 returns-clause-groups_after c =
-
     let a = c.args in
     let load = c.load-l.ensures in
     let told = c.told_of_load-t.ensures ∙ ap told_of load.0 in
@@ -35,7 +33,6 @@ returns-clause-groups_after c =
 
 pub returns-clause-tracks_after : goal.returns-clause-tracks_after
 returns-clause-tracks_after c =
-
     let a = c.args in
     let load = c.load-l.ensures in
     let told = c.told_of_load-t.ensures ∙ ap told_of load.0 in
@@ -45,7 +42,6 @@ returns-clause-tracks_after c =
 
 pub returns-clause-segments_after : goal.returns-clause-segments_after
 returns-clause-segments_after c =
-
     let a = c.args in
     let load = c.load-l.ensures in
     let told = c.told_of_load-t.ensures ∙ ap told_of load.0 in
@@ -55,7 +51,6 @@ returns-clause-segments_after c =
 
 pub returns-clause-text_after : goal.returns-clause-text_after
 returns-clause-text_after c =
-
     let a = c.args in
     let load = c.load-l.ensures in
     let told = c.told_of_load-t.ensures ∙ ap told_of load.0 in
@@ -65,7 +60,6 @@ returns-clause-text_after c =
 
 pub returns-clause-counts_after : goal.returns-clause-counts_after
 returns-clause-counts_after c =
-
     let a = c.args in
     let load = c.load-l.ensures in
     let told = c.told_of_load-t.ensures ∙ ap told_of load.0 in
@@ -75,7 +69,6 @@ returns-clause-counts_after c =
 
 pub returns-clause-block_after : goal.returns-clause-block_after
 returns-clause-block_after c =
-
     let a = c.args in
     let load = c.load-l.ensures in
     let told = c.told_of_load-t.ensures ∙ ap told_of load.0 in

@@ -14,7 +14,6 @@ use Rattle.mcs.proofs.mcs_group_object_write.Goals as goal
 
 pub returns-clause-value : goal.returns-clause-value
 returns-clause-value c =
-
     let a = c.args in
     let write = c.write_group-a.ensures in
     let told = c.told_of_object-t.ensures ∙ ap told_of write.0 in
@@ -34,7 +33,6 @@ returns-clause-value c =
 
 pub returns-clause-out_after : goal.returns-clause-out_after
 returns-clause-out_after c =
-
     let a = c.args in
     let write = c.write_group-a.ensures in
     let told = c.told_of_object-t.ensures ∙ ap told_of write.0 in
@@ -54,7 +52,6 @@ returns-clause-out_after c =
 
 pub returns-clause-written_after : goal.returns-clause-written_after
 returns-clause-written_after c =
-
     let a = c.args in
     let write = c.write_group-a.ensures in
     let told = c.told_of_object-t.ensures ∙ ap told_of write.0 in
@@ -74,7 +71,6 @@ returns-clause-written_after c =
 
 pub returns-clause-track_after : goal.returns-clause-track_after
 returns-clause-track_after c =
-
     let a = c.args in
     let write = c.write_group-a.ensures in
     let told = c.told_of_object-t.ensures ∙ ap told_of write.0 in
@@ -94,7 +90,6 @@ returns-clause-track_after c =
 
 pub returns-clause-octet_after : goal.returns-clause-octet_after
 returns-clause-octet_after c =
-
     let a = c.args in
     let write = c.write_group-a.ensures in
     let told = c.told_of_object-t.ensures ∙ ap told_of write.0 in

@@ -26,7 +26,6 @@ returns-clause-value c =
     told_after c.told_of-t.result.granted (values c.manual_goto-s.result.arrival) old ≡ told_after l.said.is_granted (values l.state) old = λ values old. let l = call (desk_of c.args.state.now) in
     ap (λ (x : Told). told_after x.granted (values c.manual_goto-s.result.arrival) old) (told_is)
     ∙ ap (λ (x : Left Arrival). told_after l.said.is_granted (values x.state) old) (said_is) in
-
     let a = c.args in
     let d = desk_of a.state.now in ((
       ap (λ (x : Told). x.number) (told_is),
@@ -50,7 +49,6 @@ returns-clause-made_after c =
     told_after c.told_of-t.result.granted (values c.manual_goto-s.result.arrival) old ≡ told_after l.said.is_granted (values l.state) old = λ values old. let l = call (desk_of c.args.state.now) in
     ap (λ (x : Told). told_after x.granted (values c.manual_goto-s.result.arrival) old) (told_is)
     ∙ ap (λ (x : Left Arrival). told_after l.said.is_granted (values x.state) old) (said_is) in
-
     let a = c.args in
     let d = desk_of a.state.now in ((
       ap (λ (x : Told). x.number) (told_is),
@@ -74,7 +72,6 @@ returns-clause-place_after c =
     told_after c.told_of-t.result.granted (values c.manual_goto-s.result.arrival) old ≡ told_after l.said.is_granted (values l.state) old = λ values old. let l = call (desk_of c.args.state.now) in
     ap (λ (x : Told). told_after x.granted (values c.manual_goto-s.result.arrival) old) (told_is)
     ∙ ap (λ (x : Left Arrival). told_after l.said.is_granted (values x.state) old) (said_is) in
-
     let a = c.args in
     let d = desk_of a.state.now in ((
       ap (λ (x : Told). x.number) (told_is),
@@ -98,7 +95,6 @@ returns-clause-track_after c =
     told_after c.told_of-t.result.granted (values c.manual_goto-s.result.arrival) old ≡ told_after l.said.is_granted (values l.state) old = λ values old. let l = call (desk_of c.args.state.now) in
     ap (λ (x : Told). told_after x.granted (values c.manual_goto-s.result.arrival) old) (told_is)
     ∙ ap (λ (x : Left Arrival). told_after l.said.is_granted (values x.state) old) (said_is) in
-
     let a = c.args in
     let d = desk_of a.state.now in ((
       ap (λ (x : Told). x.number) (told_is),
@@ -122,7 +118,6 @@ returns-clause-octet_after c =
     told_after c.told_of-t.result.granted (values c.manual_goto-s.result.arrival) old ≡ told_after l.said.is_granted (values l.state) old = λ values old. let l = call (desk_of c.args.state.now) in
     ap (λ (x : Told). told_after x.granted (values c.manual_goto-s.result.arrival) old) (told_is)
     ∙ ap (λ (x : Left Arrival). told_after l.said.is_granted (values x.state) old) (said_is) in
-
     let a = c.args in
     let d = desk_of a.state.now in ((
       ap (λ (x : Told). x.number) (told_is),
