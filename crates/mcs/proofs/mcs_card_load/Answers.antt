@@ -15,6 +15,7 @@ use Rattle.mcs.proofs.mcs_card_load.Goals as goal
 
 pub returns-clause-value : goal.returns-clause-value
 returns-clause-value c =
+
     let a = c.args in
     let load = c.load-l.ensures in
     let told = c.told_of_load-t.ensures ∙ ap told_of load.0 in
@@ -24,6 +25,7 @@ returns-clause-value c =
 
 pub returns-clause-groups_after : goal.returns-clause-groups_after
 returns-clause-groups_after c =
+
     let a = c.args in
     let load = c.load-l.ensures in
     let told = c.told_of_load-t.ensures ∙ ap told_of load.0 in
@@ -33,6 +35,7 @@ returns-clause-groups_after c =
 
 pub returns-clause-tracks_after : goal.returns-clause-tracks_after
 returns-clause-tracks_after c =
+
     let a = c.args in
     let load = c.load-l.ensures in
     let told = c.told_of_load-t.ensures ∙ ap told_of load.0 in
@@ -42,6 +45,7 @@ returns-clause-tracks_after c =
 
 pub returns-clause-segments_after : goal.returns-clause-segments_after
 returns-clause-segments_after c =
+
     let a = c.args in
     let load = c.load-l.ensures in
     let told = c.told_of_load-t.ensures ∙ ap told_of load.0 in
@@ -51,6 +55,7 @@ returns-clause-segments_after c =
 
 pub returns-clause-text_after : goal.returns-clause-text_after
 returns-clause-text_after c =
+
     let a = c.args in
     let load = c.load-l.ensures in
     let told = c.told_of_load-t.ensures ∙ ap told_of load.0 in
@@ -60,6 +65,7 @@ returns-clause-text_after c =
 
 pub returns-clause-counts_after : goal.returns-clause-counts_after
 returns-clause-counts_after c =
+
     let a = c.args in
     let load = c.load-l.ensures in
     let told = c.told_of_load-t.ensures ∙ ap told_of load.0 in
@@ -69,6 +75,7 @@ returns-clause-counts_after c =
 
 pub returns-clause-block_after : goal.returns-clause-block_after
 returns-clause-block_after c =
+
     let a = c.args in
     let load = c.load-l.ensures in
     let told = c.told_of_load-t.ensures ∙ ap told_of load.0 in

@@ -15,6 +15,7 @@ use Rattle.mcs.proofs.mcs_card_write.Goals as goal
 
 pub returns-clause-value : goal.returns-clause-value
 returns-clause-value c =
+
     let a = c.args in
     let write = c.write-w.ensures in
     let told = c.told_of_write-t.ensures ∙ ap told_of write.0 in
@@ -33,6 +34,7 @@ returns-clause-value c =
 
 pub returns-clause-card_after : goal.returns-clause-card_after
 returns-clause-card_after c =
+
     let a = c.args in
     let write = c.write-w.ensures in
     let told = c.told_of_write-t.ensures ∙ ap told_of write.0 in
@@ -51,6 +53,7 @@ returns-clause-card_after c =
 
 pub returns-clause-blocks_after : goal.returns-clause-blocks_after
 returns-clause-blocks_after c =
+
     let a = c.args in
     let write = c.write-w.ensures in
     let told = c.told_of_write-t.ensures ∙ ap told_of write.0 in
@@ -69,6 +72,7 @@ returns-clause-blocks_after c =
 
 pub returns-clause-track_after : goal.returns-clause-track_after
 returns-clause-track_after c =
+
     let a = c.args in
     let write = c.write-w.ensures in
     let told = c.told_of_write-t.ensures ∙ ap told_of write.0 in
@@ -87,6 +91,7 @@ returns-clause-track_after c =
 
 pub returns-clause-octet_after : goal.returns-clause-octet_after
 returns-clause-octet_after c =
+
     let a = c.args in
     let write = c.write-w.ensures in
     let told = c.told_of_write-t.ensures ∙ ap told_of write.0 in

@@ -13,6 +13,7 @@ use Rattle.mcs.proofs.mcs_cue_sheet.Goals as goal
 
 pub returns-clause-value : goal.returns-clause-value
 returns-clause-value c =
+
     let r = c.read-a.ensures in
     let said = cue_said c.args.sheet.now (length c.args.starts.now) in
     let told = c.told_of_cue-t.ensures ∙ ap told_of r.0 in
@@ -20,6 +21,7 @@ returns-clause-value c =
 
 pub returns-clause-starts_after : goal.returns-clause-starts_after
 returns-clause-starts_after c =
+
     let r = c.read-a.ensures in
     let said = cue_said c.args.sheet.now (length c.args.starts.now) in
     let told = c.told_of_cue-t.ensures ∙ ap told_of r.0 in
@@ -27,6 +29,7 @@ returns-clause-starts_after c =
 
 pub returns-clause-count_after : goal.returns-clause-count_after
 returns-clause-count_after c =
+
     let r = c.read-a.ensures in
     let said = cue_said c.args.sheet.now (length c.args.starts.now) in
     let told = c.told_of_cue-t.ensures ∙ ap told_of r.0 in
@@ -34,6 +37,7 @@ returns-clause-count_after c =
 
 pub returns-clause-line_after : goal.returns-clause-line_after
 returns-clause-line_after c =
+
     let r = c.read-a.ensures in
     let said = cue_said c.args.sheet.now (length c.args.starts.now) in
     let told = c.told_of_cue-t.ensures ∙ ap told_of r.0 in

@@ -14,6 +14,7 @@ use Rattle.mcs.proofs.mcs_group_object_write.Goals as goal
 
 pub returns-clause-value : goal.returns-clause-value
 returns-clause-value c =
+
     let a = c.args in
     let write = c.write_group-a.ensures in
     let told = c.told_of_object-t.ensures ∙ ap told_of write.0 in
@@ -33,6 +34,7 @@ returns-clause-value c =
 
 pub returns-clause-out_after : goal.returns-clause-out_after
 returns-clause-out_after c =
+
     let a = c.args in
     let write = c.write_group-a.ensures in
     let told = c.told_of_object-t.ensures ∙ ap told_of write.0 in
@@ -52,6 +54,7 @@ returns-clause-out_after c =
 
 pub returns-clause-written_after : goal.returns-clause-written_after
 returns-clause-written_after c =
+
     let a = c.args in
     let write = c.write_group-a.ensures in
     let told = c.told_of_object-t.ensures ∙ ap told_of write.0 in
@@ -71,6 +74,7 @@ returns-clause-written_after c =
 
 pub returns-clause-track_after : goal.returns-clause-track_after
 returns-clause-track_after c =
+
     let a = c.args in
     let write = c.write_group-a.ensures in
     let told = c.told_of_object-t.ensures ∙ ap told_of write.0 in
@@ -90,6 +94,7 @@ returns-clause-track_after c =
 
 pub returns-clause-octet_after : goal.returns-clause-octet_after
 returns-clause-octet_after c =
+
     let a = c.args in
     let write = c.write_group-a.ensures in
     let told = c.told_of_object-t.ensures ∙ ap told_of write.0 in

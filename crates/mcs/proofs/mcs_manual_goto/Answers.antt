@@ -26,6 +26,7 @@ returns-clause-value c =
     told_after c.told_of-t.result.granted (values c.manual_goto-s.result.arrival) old ≡ told_after l.said.is_granted (values l.state) old = λ values old. let l = call (desk_of c.args.state.now) in
     ap (λ (x : Told). told_after x.granted (values c.manual_goto-s.result.arrival) old) (told_is)
     ∙ ap (λ (x : Left Arrival). told_after l.said.is_granted (values x.state) old) (said_is) in
+
     let a = c.args in
     let d = desk_of a.state.now in ((
       ap (λ (x : Told). x.number) (told_is),
@@ -49,6 +50,7 @@ returns-clause-made_after c =
     told_after c.told_of-t.result.granted (values c.manual_goto-s.result.arrival) old ≡ told_after l.said.is_granted (values l.state) old = λ values old. let l = call (desk_of c.args.state.now) in
     ap (λ (x : Told). told_after x.granted (values c.manual_goto-s.result.arrival) old) (told_is)
     ∙ ap (λ (x : Left Arrival). told_after l.said.is_granted (values x.state) old) (said_is) in
+
     let a = c.args in
     let d = desk_of a.state.now in ((
       ap (λ (x : Told). x.number) (told_is),
@@ -72,6 +74,7 @@ returns-clause-place_after c =
     told_after c.told_of-t.result.granted (values c.manual_goto-s.result.arrival) old ≡ told_after l.said.is_granted (values l.state) old = λ values old. let l = call (desk_of c.args.state.now) in
     ap (λ (x : Told). told_after x.granted (values c.manual_goto-s.result.arrival) old) (told_is)
     ∙ ap (λ (x : Left Arrival). told_after l.said.is_granted (values x.state) old) (said_is) in
+
     let a = c.args in
     let d = desk_of a.state.now in ((
       ap (λ (x : Told). x.number) (told_is),
@@ -95,6 +98,7 @@ returns-clause-track_after c =
     told_after c.told_of-t.result.granted (values c.manual_goto-s.result.arrival) old ≡ told_after l.said.is_granted (values l.state) old = λ values old. let l = call (desk_of c.args.state.now) in
     ap (λ (x : Told). told_after x.granted (values c.manual_goto-s.result.arrival) old) (told_is)
     ∙ ap (λ (x : Left Arrival). told_after l.said.is_granted (values x.state) old) (said_is) in
+
     let a = c.args in
     let d = desk_of a.state.now in ((
       ap (λ (x : Told). x.number) (told_is),
@@ -118,6 +122,7 @@ returns-clause-octet_after c =
     told_after c.told_of-t.result.granted (values c.manual_goto-s.result.arrival) old ≡ told_after l.said.is_granted (values l.state) old = λ values old. let l = call (desk_of c.args.state.now) in
     ap (λ (x : Told). told_after x.granted (values c.manual_goto-s.result.arrival) old) (told_is)
     ∙ ap (λ (x : Left Arrival). told_after l.said.is_granted (values x.state) old) (said_is) in
+
     let a = c.args in
     let d = desk_of a.state.now in ((
       ap (λ (x : Told). x.number) (told_is),

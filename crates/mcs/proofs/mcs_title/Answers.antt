@@ -17,6 +17,7 @@ pub returns-clause-value : goal.returns-clause-value
 returns-clause-value c =
     let lent : Lent = lending c.args.groups.now c.args.tracks.now c.args.segments.now c.args.text.now c.args.renames.now c.args.office.now in
     let said_is : titled_by c.which-w.result ≡ title_call (lent) (desk_of c.args.state.now) c.args.service = c.which-w.ensures in
+
     let a = c.args in
     let l = title_call (lent) (desk_of a.state.now) a.service in
     let told = c.told_of-t.ensures ∙ ap (λ (x : Left Part). told_of x.said) (said_is) in ((
@@ -33,6 +34,7 @@ pub returns-clause-part_after : goal.returns-clause-part_after
 returns-clause-part_after c =
     let lent : Lent = lending c.args.groups.now c.args.tracks.now c.args.segments.now c.args.text.now c.args.renames.now c.args.office.now in
     let said_is : titled_by c.which-w.result ≡ title_call (lent) (desk_of c.args.state.now) c.args.service = c.which-w.ensures in
+
     let a = c.args in
     let l = title_call (lent) (desk_of a.state.now) a.service in
     let told = c.told_of-t.ensures ∙ ap (λ (x : Left Part). told_of x.said) (said_is) in ((
@@ -49,6 +51,7 @@ pub returns-clause-track_after : goal.returns-clause-track_after
 returns-clause-track_after c =
     let lent : Lent = lending c.args.groups.now c.args.tracks.now c.args.segments.now c.args.text.now c.args.renames.now c.args.office.now in
     let said_is : titled_by c.which-w.result ≡ title_call (lent) (desk_of c.args.state.now) c.args.service = c.which-w.ensures in
+
     let a = c.args in
     let l = title_call (lent) (desk_of a.state.now) a.service in
     let told = c.told_of-t.ensures ∙ ap (λ (x : Left Part). told_of x.said) (said_is) in ((
@@ -65,6 +68,7 @@ pub returns-clause-octet_after : goal.returns-clause-octet_after
 returns-clause-octet_after c =
     let lent : Lent = lending c.args.groups.now c.args.tracks.now c.args.segments.now c.args.text.now c.args.renames.now c.args.office.now in
     let said_is : titled_by c.which-w.result ≡ title_call (lent) (desk_of c.args.state.now) c.args.service = c.which-w.ensures in
+
     let a = c.args in
     let l = title_call (lent) (desk_of a.state.now) a.service in
     let told = c.told_of-t.ensures ∙ ap (λ (x : Left Part). told_of x.said) (said_is) in ((
