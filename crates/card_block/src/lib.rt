@@ -1,5 +1,6 @@
 // A block of a card: its head, its check octets and its rules (SCOPE 3.2 to 3.9, 3.12).
 #![tactic(auto)]
+
 ghost use Rattle.std.specs.Prelude.{◌≡◌, ◌∷◌, [], ◌+◌, ◌*◌, ◌<◌, ◌≤◌, length};
 ghost use Rattle.ground.specs.Refusals.{refused_with, said_by};
 ghost use Rattle.card_block.specs.Sums.{sum_of, running_sums, sums_of};

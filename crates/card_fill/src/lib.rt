@@ -1,5 +1,6 @@
 // A block of a card as it is written: 512 zeros, filled and then given its check octets (SCOPE 3.16).
 #![tactic(auto)]
+
 ghost use Rattle.std.specs.Prelude.{◌≡◌, ◌++◌, ◌+◌, ◌*◌, ◌<◌, ◌≤◌, length, take};
 ghost use Rattle.ground.specs.Lists.{part, laid};
 ghost use Rattle.ground.specs.Words.{octets_of};

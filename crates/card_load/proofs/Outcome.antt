@@ -2,7 +2,7 @@
 use mathlib.Core.List.{List}
 use Prim.Native.Nat.{ℕ}
 use contract.Lifetimes.{Lfts}
-use denote.Ref.{MutBor, at_last}
+use denote.Ref.{Bor, MutBor, at_last}
 use Rattle.card_load.specs.declared.Loaded.{Loaded}
 use Rattle.card_load.proofs.load.Reads as load
 
@@ -14,7 +14,7 @@ pub record Outcome : Type 0 where
   pub text : List ℕ
 
 -- the outcome meets the contract
-abbrev pub Meets : Lfts 5 → (card groups tracks segments text : MutBor (List ℕ)) → Outcome → Type 0
+abbrev pub Meets : Lfts 5 → (card : Bor (List ℕ)) (groups tracks segments text : MutBor (List ℕ)) → Outcome → Type 0
 Meets κs card groups tracks segments text o =
     load.Post κs
     (card, (groups, (tracks, (segments, (text, tt)))))

@@ -7,7 +7,7 @@ use Prim.Native.Nat.{ℕ, zero, suc, ◌+◌, ◌<◌}
 use native.Mathlib.Nat.{zero-add}
 use native.Mathlib.Omega.{arith}
 use contract.Lifetimes.{Lfts}
-use denote.Ref.{Bor}
+use denote.Ref.{Bor, MutBor}
 use Rattle.ground.specs.Refusals.{Said, Row, row, accepted, said_by, table, in_order}
 use Rattle.ground.specs.Words.{words}
 use Rattle.ground.proofs.Cases.{clash}
@@ -62,7 +62,7 @@ lowest_bad card groups tracks segments text k l h bad =
     let told = sym (says_block card groups tracks segments text l (ap (λ (said : Said). said.is_granted) found ∙ bad)) ∙ found in
     (told, ap (λ (said : Said). said.values) told ∙ (rw (zero-add k) at (placed 0 1 (blocks_of card) k bad)))
 
-pub load_keeps : (κs : Lfts 5) (card groups tracks segments text : Bor (List ℕ)) (o : Outcome)
+pub load_keeps : (κs : Lfts 5) (card : Bor (List ℕ)) (groups tracks segments text : MutBor (List ℕ)) (o : Outcome)
     → Meets κs card groups tracks segments text o → (said_of o.answer).is_granted ≡ false
     → (o.groups ≡ groups.now) × (o.tracks ≡ tracks.now) × (o.segments ≡ segments.now) × (o.text ≡ text.now)
 load_keeps κs card groups tracks segments text o p h =

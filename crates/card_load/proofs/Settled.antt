@@ -3,7 +3,7 @@ use mathlib.Core.Path.{◌≡◌, refl, sym, ap, ◌∙◌}
 use mathlib.Core.List.{List}
 use Prim.Native.Nat.{ℕ}
 use contract.Lifetimes.{Lfts}
-use denote.Ref.{Bor}
+use denote.Ref.{Bor, MutBor}
 use lib.ListN.{get_or}
 use Rattle.ground.specs.Cases.{pick}
 use Rattle.ground.specs.Refusals.{Said}
@@ -32,7 +32,7 @@ loaded_said (Refused r) = ap Refused (refusal_back r)
 pub said_settles : (r₁ r₂ : Loaded) → said_of r₁ ≡ said_of r₂ → r₁ ≡ r₂
 said_settles = settled_by said_of loaded_of loaded_said
 
-pub load_settled : (κs : Lfts 5) (card groups tracks segments text : Bor (List ℕ)) (o₁ o₂ : Outcome)
+pub load_settled : (κs : Lfts 5) (card : Bor (List ℕ)) (groups tracks segments text : MutBor (List ℕ)) (o₁ o₂ : Outcome)
     → Meets κs card groups tracks segments text o₁ → Meets κs card groups tracks segments text o₂ → o₁ ≡ o₂
 load_settled κs card groups tracks segments text o₁ o₂ p q =
     let e : said_of o₁.answer ≡ said_of o₂.answer = p.0 ∙ sym q.0 in

@@ -1,5 +1,6 @@
 // The card reader: a card into four lent tables (SCOPE 3.10 to 3.14).
 #![tactic(auto)]
+
 ghost use Rattle.std.specs.Prelude.{◌≡◌, ◌∷◌, [], ◌+◌, ◌*◌, ◌<◌, ◌≤◌, length, drop};
 ghost use Rattle.std.proofs.Math.Seq.{paste};
 ghost use Rattle.ground.specs.Refusals.{refused_with, said_through, said_by};

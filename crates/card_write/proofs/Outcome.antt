@@ -2,7 +2,7 @@
 use mathlib.Core.List.{List}
 use Prim.Native.Nat.{ℕ}
 use contract.Lifetimes.{Lfts}
-use denote.Ref.{MutBor, at_last}
+use denote.Ref.{Bor, MutBor, at_last}
 use Rattle.card_write.specs.declared.Written.{Written}
 use Rattle.card_write.proofs.write.Reads as write
 
@@ -11,7 +11,7 @@ pub record Outcome : Type 0 where
   pub card : List ℕ
 
 -- the outcome meets the contract
-abbrev pub Meets : Lfts 5 → (groups tracks segments text card : MutBor (List ℕ)) → Outcome → Type 0
+abbrev pub Meets : Lfts 5 → (groups tracks segments text : Bor (List ℕ)) (card : MutBor (List ℕ)) → Outcome → Type 0
 Meets κs groups tracks segments text card o =
     write.Post κs
     (groups, (tracks, (segments, (text, (card, tt)))))

@@ -8,7 +8,7 @@ use Prim.Native.Nat.{ℕ, ◌*◌, ◌/◌, ◌≤◌, ◌<◌}
 use native.Mathlib.Omega.{arith}
 use borrow.Author.Tests.{not-false, le-ltb}
 use contract.Lifetimes.{Lfts}
-use denote.Ref.{Bor}
+use denote.Ref.{Bor, MutBor}
 use lib.Dec.{ltb}
 use lib.ListN.{length, get_or, take, drop}
 use lib.Seq.{take_at}
@@ -54,7 +54,7 @@ times_one : (n : ℕ) → n ≡ n * 1
 times_one n = omega arith
 
 -- a write that was granted
-module _ (κs : Lfts 5) (groups tracks segments text card : Bor (List ℕ)) (o : write.Outcome) (m : write.Meets κs groups tracks segments text card o)
+module _ (κs : Lfts 5) (groups tracks segments text : Bor (List ℕ)) (card : MutBor (List ℕ)) (o : write.Outcome) (m : write.Meets κs groups tracks segments text card o)
     (blocks : ℕ) (done : o.answer ≡ Done blocks) where
   abbrev k : Tables
   k = tables groups.now tracks.now segments.now text.now
@@ -81,7 +81,7 @@ module _ (κs : Lfts 5) (groups tracks segments text card : Bor (List ℕ)) (o :
 
   -- THE first half (SCOPE 3.18): what was written loads into tables with room, with the counts as they were, and the front of each table is the table that was
   -- written
-  pub load_of_write : (ls : Lfts 5) (lent gs ts ss xs : Bor (List ℕ)) (p : load.Outcome) → load.Meets ls lent gs ts ss xs p
+  pub load_of_write : (ls : Lfts 5) (lent : Bor (List ℕ)) (gs ts ss xs : MutBor (List ℕ)) (p : load.Outcome) → load.Meets ls lent gs ts ss xs p
       → lent.now ≡ take (blocks * 512) o.card
       → length groups.now ≤ length gs.now → length tracks.now ≤ length ts.now
       → length segments.now ≤ length ss.now → length text.now ≤ length xs.now
@@ -103,7 +103,7 @@ module _ (κs : Lfts 5) (groups tracks segments text card : Bor (List ℕ)) (o :
       )
 
 -- a load that was granted, of a card of octets
-module _ (ls : Lfts 5) (lent gs ts ss xs : Bor (List ℕ)) (p : load.Outcome) (m : load.Meets ls lent gs ts ss xs p)
+module _ (ls : Lfts 5) (lent : Bor (List ℕ)) (gs ts ss xs : MutBor (List ℕ)) (p : load.Outcome) (m : load.Meets ls lent gs ts ss xs p)
     (c : Counts) (done : p.answer ≡ LoadDone c)
     (octet : (i : ℕ) → get_or lent.now i 0 < 256) where
   abbrev bs : List (List ℕ)
@@ -173,7 +173,7 @@ module _ (ls : Lfts 5) (lent gs ts ss xs : Bor (List ℕ)) (p : load.Outcome) (m
       (ap (λ (v : List ℕ). get_or v 3 0) loaded.1) m.1.1.1.1
 
   -- THE second half (SCOPE 3.18): where the loaded tables pass 200, writing them into as much room says how many blocks the card has, and gives the card back
-  pub write_of_load : (κs : Lfts 5) (groups tracks segments text card : Bor (List ℕ)) (o : write.Outcome) → write.Meets κs groups tracks segments text card o
+  pub write_of_load : (κs : Lfts 5) (groups tracks segments text : Bor (List ℕ)) (card : MutBor (List ℕ)) (o : write.Outcome) → write.Meets κs groups tracks segments text card o
       → groups.now ≡ take (c.groups * 3) p.groups → tracks.now ≡ take (c.tracks * 6) p.tracks
       → segments.now ≡ take c.segments p.segments → text.now ≡ take c.text p.text
       → Right (tables groups.now tracks.now segments.now text.now)

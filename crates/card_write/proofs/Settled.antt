@@ -3,7 +3,7 @@ use mathlib.Core.Path.{◌≡◌, refl, sym, ap, ◌∙◌}
 use mathlib.Core.List.{List}
 use Prim.Native.Nat.{ℕ}
 use contract.Lifetimes.{Lfts}
-use denote.Ref.{Bor}
+use denote.Ref.{Bor, MutBor}
 use lib.ListN.{get_or}
 use Rattle.ground.specs.Cases.{pick}
 use Rattle.ground.specs.Refusals.{Said}
@@ -28,7 +28,7 @@ written_back (Refused r) = ap Refused (refusal_back r)
 pub said_settles : (w₁ w₂ : Written) → said_of w₁ ≡ said_of w₂ → w₁ ≡ w₂
 said_settles = settled_by said_of written_as written_back
 
-pub write_settled : (κs : Lfts 5) (groups tracks segments text card : Bor (List ℕ)) (o₁ o₂ : Outcome)
+pub write_settled : (κs : Lfts 5) (groups tracks segments text : Bor (List ℕ)) (card : MutBor (List ℕ)) (o₁ o₂ : Outcome)
     → Meets κs groups tracks segments text card o₁ → Meets κs groups tracks segments text card o₂ → o₁ ≡ o₂
 write_settled κs groups tracks segments text card o₁ o₂ p q =
     let e : said_of o₁.answer ≡ said_of o₂.answer = p.0 ∙ sym q.0 in

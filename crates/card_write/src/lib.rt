@@ -1,5 +1,6 @@
 // The card writer: a catalogue into a lent card, block by block (SCOPE 3.15 to 3.17).
 #![tactic(auto)]
+
 ghost use Rattle.std.specs.Prelude.{◌≡◌, [], ◌∷◌, min, ◌+◌, ◌*◌, ◌<◌, ◌≤◌, length};
 ghost use Rattle.ground.specs.Refusals.{granted, said_through};
 ghost use Rattle.ground.specs.Lists.{laid, table_after};

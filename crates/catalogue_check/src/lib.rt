@@ -1,5 +1,6 @@
 // The catalogue check (SCOPE 4.14).
 #![tactic(auto)]
+
 ghost use Rattle.std.specs.Prelude.{◌≡◌};
 ghost use Rattle.catalogue_tables.specs.Tables.{tables};
 ghost use Rattle.catalogue_check.specs.Catalogue.{plain_rule, said_of, check_said};

@@ -4,7 +4,7 @@ use mathlib.Core.Bool.{false}
 use mathlib.Core.List.{List}
 use Prim.Native.Nat.{ℕ}
 use contract.Lifetimes.{Lfts}
-use denote.Ref.{MutBor, at_last}
+use denote.Ref.{Bor, MutBor, at_last}
 use lib.ListN.{get_or}
 use Rattle.ground.specs.Cases.{pick}
 use Rattle.ground.specs.Refusals.{Said}
@@ -27,7 +27,7 @@ cued_said (Refused r) = ap Refused (refusal_back r)
 pub said_settles : (r₁ r₂ : Cued) → said_of r₁ ≡ said_of r₂ → r₁ ≡ r₂
 said_settles = settled_by said_of cued_of cued_said
 
-module _ (κs : Lfts 2) (sheet starts : MutBor (List ℕ)) where
+module _ (κs : Lfts 2) (sheet : Bor (List ℕ)) (starts : MutBor (List ℕ)) where
   -- an answer and a table at exit that meet the contract
   abbrev Meets : Cued → List ℕ → Type 0
   Meets r t = read.Post κs (sheet, (starts, tt)) r (sheet, (at_last starts t, tt))

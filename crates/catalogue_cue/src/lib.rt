@@ -1,5 +1,6 @@
 // Cue sheets: the segment starts of one track, out of a sheet's octets (SCOPE 6). A sheet is gone through twice, so that a refusal has written nothing.
 #![tactic(auto)]
+
 ghost use Rattle.std.specs.Prelude.{◌≡◌, true, not, [], ◌∷◌, map, ◌+◌, ◌-◌, ◌<◌, ◌≤◌, length, get_or};
 ghost use Rattle.std.proofs.Math.Seq.{paste};
 ghost use Rattle.ground.specs.Lists.{filled, table_after, all_below};

@@ -7,7 +7,7 @@ use mathlib.Core.List.{List, [], ◌∷◌}
 use Prim.Native.Nat.{ℕ, ◌*◌, ◌≤◌}
 use borrow.Author.Tests.{not-false, ltb-true}
 use contract.Lifetimes.{Lfts}
-use denote.Ref.{Bor}
+use denote.Ref.{Bor, MutBor}
 use lib.Dec.{ltb}
 use lib.ListN.{length, get_or, take, drop}
 use lib.Seq.{take_at}
@@ -63,7 +63,7 @@ reads_whole kind s old count words is room a new said left =
     let same : said_of a ≡ granted (count ∷ []) = said ∙ sym all.0 in
     (said_settles a (Filled count) same, left ∙ (λ i. table_after (same i) (is i).words old))
 
-module _ (κs : Lfts 5) (groups tracks segments text out : Bor (List ℕ)) (n : ℕ) (new : List ℕ) (κs' : Lfts 2) (octets words : Bor (List ℕ)) (lent : octets.now ≡ take n new)
+module _ (κs : Lfts 5) (groups tracks segments text : Bor (List ℕ)) (out : MutBor (List ℕ)) (n : ℕ) (new : List ℕ) (κs' : Lfts 2) (octets : Bor (List ℕ)) (words : MutBor (List ℕ)) (lent : octets.now ≡ take n new)
     (a : Answer) (after : List ℕ) where
   abbrev k : Tables
   k = tables groups.now tracks.now segments.now text.now

@@ -5,7 +5,7 @@ use mathlib.Core.Bool.{false}
 use mathlib.Core.List.{List}
 use Prim.Native.Nat.{ℕ}
 use contract.Lifetimes.{Lfts}
-use denote.Ref.{MutBor, at_last}
+use denote.Ref.{Bor, MutBor, at_last}
 use lib.ListN.{get_or}
 use Rattle.ground.specs.Cases.{pick}
 use Rattle.ground.specs.Lists.{table_after}
@@ -48,7 +48,7 @@ module _ (said : Said) (front old : List ℕ) where
   keeps : (a : Answer) (t : List ℕ) → Leaves a t → (said_of a).is_granted ≡ false → t ≡ old
   keeps a t p h = table_kept (said_of a) front old t h p.1
 
-module _ (κs : Lfts 5) (groups tracks segments text out : MutBor (List ℕ)) where
+module _ (κs : Lfts 5) (groups tracks segments text : Bor (List ℕ)) (out : MutBor (List ℕ)) where
   module _ (g : GroupNo) where
     -- an answer and lent octets at exit that meet the contract
     abbrev pub MeetsGroup : Answer → List ℕ → Type 0
@@ -74,7 +74,7 @@ module _ (κs : Lfts 5) (groups tracks segments text out : MutBor (List ℕ)) wh
     pub write_segments_keeps : (a : Answer) (t : List ℕ) → MeetsSegments a t → (said_of a).is_granted ≡ false → t ≡ out.now
     write_segments_keeps = keeps _ (segments_octets tracks.now segments.now track.0) out.now
 
-module _ (κs : Lfts 2) (octets out : MutBor (List ℕ)) (kind : Kind) where
+module _ (κs : Lfts 2) (octets : Bor (List ℕ)) (out : MutBor (List ℕ)) (kind : Kind) where
   abbrev pub MeetsRead : Answer → List ℕ → Type 0
   MeetsRead a t = read.Post κs (octets, (kind, (out, tt))) a (octets, (kind, (at_last out t, tt)))
 

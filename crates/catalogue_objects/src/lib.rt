@@ -1,5 +1,6 @@
 // The Group object and the Track Segments object (SCOPE 7): written out of a catalogue into lent octets, and read back from octets into lent words.
 #![tactic(auto)]
+
 ghost use Rattle.std.specs.Prelude.{◌≡◌, true, ◌∷◌, [], map, ◌+◌, ◌*◌, ◌<◌, ◌≤◌, ltb, length, drop};
 ghost use Rattle.ground.specs.Limits.{most_groups, most_tracks, most_segments};
 ghost use Rattle.ground.specs.Refusals.{granted, refused, row, said_through};

@@ -1,5 +1,6 @@
 // The rules of a catalogue, a function for each (SCOPE 4.2 to 4.12). The loops are never left early: they become vector code, or at least have no branches.
 #![tactic(auto)]
+
 ghost use Rattle.std.specs.Prelude.{◌≡◌, ◌&&◌, ◌∷◌, ℕ, ◌+◌, ◌*◌, ◌<◌, ◌≤◌, length};
 ghost use Rattle.ground.specs.Cases.{pick};
 ghost use Rattle.text.specs.Utf8.{said_of as textSaidOf};

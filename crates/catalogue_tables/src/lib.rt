@@ -1,6 +1,7 @@
 // Views of a catalogue's tables (SCOPE 4.1, 4.3, 4.9), and object numbers (SCOPE 7.1). They take any words and any number: a word behind the end of a table
 // counts as 0.
 #![tactic(auto)]
+
 ghost use Rattle.std.specs.Prelude.{◌≡◌, min, ◌+◌, ◌-◌, ◌≤◌, ◌<◌};
 ghost use Rattle.catalogue_tables.specs.Objects.{track_object, group_object, segments_object};
 ghost use Rattle.catalogue_tables.specs.Tables.{word_in, group_count, track_count, parent_of, first_track_of, tracks_in, duration_of, is_running, end_by, end_of, first_segment_of, segments_in, title_offset_of, title_length_of, starts_of};

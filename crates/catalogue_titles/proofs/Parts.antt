@@ -4,8 +4,7 @@ use mathlib.Core.Bool.{Bool, true, false}
 use mathlib.Core.List.{List}
 use Prim.Native.Nat.{ℕ, min, ◌+◌, ◌-◌, ◌≤◌}
 use native.Mathlib.Omega.{arith}
-use base.Fml.{GName}
-use denote.Ref.{Bor, MutBor}
+use denote.Ref.{Bor}
 use lib.ListN.{length, take, drop, length-take, length-drop}
 use Rattle.ground.specs.Cases.{pick}
 use Rattle.catalogue_tables.proofs.Clip.{clipped}
@@ -25,16 +24,16 @@ module _ (part : Part) (text office whole : Bor (List ℕ)) (of : whole ≡ text
       clipped whole.now part.offset part.len a e from to
       ∙ ap (λ (t : List ℕ). take part.len (drop part.offset t)) (ap (λ (t : Bor (List ℕ)). t.now) of ∙ chosen (λ (t : Bor (List ℕ)). t.now) part.renamed office text)
 
-  -- what is cut out is the part itself, whatever name the checker gives the slice
-  pub cut_part : Inside part (length text.now) (length office.now) → (name : GName)
-      → IsPart part text office (record { ref_ptr = (whole.ref_ptr.0, a + whole.ref_ptr.1); ghost_name = name; now = take (e - a) (drop a whole.now) })
-  cut_part inside name =
-      let size = ap (λ (t : MutBor (List ℕ)). length t.now) of ∙ chosen (λ (t : MutBor (List ℕ)). length t.now) part.renamed office text in
+  -- what is cut out is the part itself
+  pub cut_part : Inside part (length text.now) (length office.now)
+      → IsPart part text office (record { ref_ptr = (whole.ref_ptr.0, a + whole.ref_ptr.1); now = take (e - a) (drop a whole.now) })
+  cut_part inside =
+      let size = ap (λ (t : Bor (List ℕ)). length t.now) of ∙ chosen (λ (t : Bor (List ℕ)). length t.now) part.renamed office text in
       let at : a ≡ part.offset = omega arith in
-      let place : whole.ptr.1 ≡ (text_for part text office).ptr.1 = ap (λ (t : MutBor (List ℕ)). t.ref_ptr.1) of in
+      let place : whole.ref_ptr.1 ≡ (text_for part text office).ref_ptr.1 = ap (λ (t : Bor (List ℕ)). t.ref_ptr.1) of in
       let long : e - a ≡ part.len = omega arith in
       record {
-        block = ap (λ (t : MutBor (List ℕ)). t.ref_ptr.0) of;
+        block = ap (λ (t : Bor (List ℕ)). t.ref_ptr.0) of;
         start = omega arith;
         many = rw (length-take, length-drop) (omega arith);
         octets = cut_octets;

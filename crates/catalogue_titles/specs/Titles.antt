@@ -63,8 +63,7 @@ abbrev pub Inside : Part → ℕ → ℕ → Type 0
 Inside part text office = part.offset + part.len ≤ text_for part text office
 
 -- SCOPE 5.6: the title is "a part of the office's text or of the card's text itself, and never a copy". So r begins where the octet of the lent text at the
--- offset stands, and has the octets from there on. (The checker sees a lent slice as `ptr`, a block of memory and a place in it; `name`, which no program
--- sees; and `now`, the octets.)
+-- offset stands, and has the octets from there on. (The checker sees a lent slice as `ref_ptr`, a block of memory and a place in it; and `now`, the octets.)
 pub record IsPart (part : Part) (text office r : Bor (List ℕ)) : Type 0 where
   pub block : r.ref_ptr.0 ≡ (text_for part text office).ref_ptr.0
   pub start : r.ref_ptr.1 ≡ (text_for part text office).ref_ptr.1 + part.offset

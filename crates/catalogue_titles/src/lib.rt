@@ -1,5 +1,6 @@
 // The office's titles (SCOPE 5): the entries that rename tracks, and a title as a part of the card's text or of the office's, never a copy.
 #![tactic(auto)]
+
 ghost use Rattle.std.specs.Prelude.{◌≡◌, ℕ, ◌*◌, eqb, length, get_or};
 ghost use Rattle.ground.specs.Cases.{pick};
 ghost use Rattle.ground.specs.Limits.{rename_words};

@@ -1,5 +1,6 @@
 // UTF-8 (SCOPE 2.5, 2.6): whether octets are text, and if not, where.
 #![tactic(auto)]
+
 ghost use Rattle.std.specs.Prelude.{◌≡◌, true, ◌&&◌, ℕ, ◌+◌, ◌<◌, ◌≤◌, length, get_or, drop};
 ghost use Rattle.ground.specs.Cases.{pick, within};
 ghost use Rattle.text.specs.Utf8.{is_tail, char_of, char_length, text_of, is_fine, said_of, text_said};

@@ -25,12 +25,12 @@ loop-i-preserved c =
     let w = drop a.from a.src.now in
     let i = c.loop-i.i in
     let d : i < length w = rw length-drop (omega arith) in
-    let e : p.new.0 ≡ laid c.loop-i.b (a.at + i * 4) (octets_of_word (get_or w i 0)) =
+    let e : p.new.b ≡ laid c.loop-i.b (a.at + i * 4) (octets_of_word (get_or w i 0)) =
     p.ensures ∙ ap (λ (x : ℕ). laid c.loop-i.b (a.at + i * 4) (octets_of_word x)) (sym (get_or-drop a.from a.src.now i 0)) in
     let n : length (octets_of (take i w)) ≡ i * 4 = omega (arith, octets_length (take i w), length-take-le i w (omega arith)) in (
       search rules,
       ap length e ∙ laid_length c.loop-i.b (a.at + i * 4) (octets_of_word (get_or w i 0)) (omega arith) ∙ c.loop-i.invariant.1,
-      turn a.b.now a.at (octets_of (take i w)) (octets_of_word (get_or w i 0)) c.loop-i.b p.new.0 (a.at + i * 4) c.loop-i.invariant.2 e (omega arith)
+      turn a.b.now a.at (octets_of (take i w)) (octets_of_word (get_or w i 0)) c.loop-i.b p.new.b (a.at + i * 4) c.loop-i.invariant.2 e (omega arith)
           (omega arith)
           ∙ ap (laid a.b.now a.at) (sym (octets_more w i d)),
     )

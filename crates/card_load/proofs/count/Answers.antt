@@ -9,7 +9,6 @@ use Rattle.ground.proofs.Cases.{past, here}
 use Rattle.card_load.specs.Card.{blocks, record_count}
 use Rattle.card_load.specs.Load.{fits, room_rule}
 use borrow.Author.Rules.{rules}
-
 -- where the counts are taken
 use Rattle.card_load.proofs.count.Goals as goal
 

@@ -2,7 +2,6 @@
 use Prim.Native.Nat.{ℕ, ◌≤◌, ◌-◌, ◌+◌, ◌/◌}
 use mathlib.Core.Path.{◌≡◌}
 use mathlib.Core.List.{List}
-use mathlib.Core.Logic.{⊎_elim}
 use native.Mathlib.Omega.{arith}
 use borrow.Author.Rules.{rules}
 use lib.ListN.{length, drop}
@@ -12,6 +11,7 @@ use Rattle.card_load.specs.Card.{block_at}
 use Rattle.card_load.proofs.Blocks.{block_length}
 use Rattle.card_load.proofs.Filling.{Filling, start, skip, room, put, end}
 use Rattle.card_load.proofs.fill_words.Goals as goal
+use Rattle.card_load.proofs.fill_words.Goals.{then-b-kind, else-b-kind}
 
 pub loop-i-init : goal.loop-i-init
 loop-i-init c =
@@ -65,13 +65,18 @@ loop-i-preserved c =
     let l = c.loop-i in
     let a = c.args in (
       search rules,
-      ⊎_elim
-          (λ w.
-          let e : tie.After-records-end invariant-loop decreases-loop = record { before = record { before = c; if1 = w.0 }; records-end = w.1 } in
-          rw (w.7, w.6) (put words a.kind a.n a.card.now a.dst.now l.dst l.i l.at c.loop-i-test.true l.invariant.1
-          w.0.taken (words (drop 5 (block))) (many e) (cut_here e) _ (room_here e) w.3.ensures))
-          (λ w. rw (w.1, w.2) (skip words a.kind a.n a.card.now a.dst.now l.dst l.i l.at c.loop-i-test.true l.invariant.1 w.0.left))
-          c.if-b-kind.branch,
+      elim c.if-b-kind.branch [
+        | then-b-kind w ↦
+            let long : length (block) ≡ 512 = block_length c.args.n c.args.card.now c.loop-i.i c.loop-i-test.true c.requires.block_size_in_bounds in
+            let many : ℕ = (w.records_end.result - 5) / 4 in
+            let cut_here : let b = block in Cut words b (words (drop 5 b)) (many) = cut_words (block) w.records_end.result (long) w.records_end.ensures.2 w.records_end.ensures.0 in
+            let room_here : l.at + many ≤ length l.dst =
+            room words a.kind a.n a.card.now a.dst.now l.dst l.i l.at c.loop-i-test.true l.invariant.1
+            w.if-b-kind.true (words (drop 5 (block))) (many) (cut_here) c.requires.card_in_bounds in
+            rw (w.at-is, w.dst-is) (put words a.kind a.n a.card.now a.dst.now l.dst l.i l.at c.loop-i-test.true l.invariant.1
+            w.if-b-kind.true (words (drop 5 (block))) (many) (cut_here) _ (room_here) w.copy_words.ensures)
+        | else-b-kind w ↦ rw (w.dst-is, w.at-is) (skip words a.kind a.n a.card.now a.dst.now l.dst l.i l.at c.loop-i-test.true l.invariant.1 w.if-b-kind.false)
+      ],
     )
 
 pub shape_of-dst : goal.shape_of-dst

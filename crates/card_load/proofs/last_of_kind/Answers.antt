@@ -9,7 +9,6 @@ use lib.ListN.{get_or, drop}
 use Rattle.card_load.specs.Card.{blocks, block_at, last_of_kind}
 use Rattle.card_load.proofs.Blocks.{blocks_cons, blocks_end, kind_at}
 use borrow.Author.Rules.{rules}
-
 -- the block behind
 use Rattle.card_load.proofs.last_of_kind.Goals as goal
 

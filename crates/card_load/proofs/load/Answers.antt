@@ -7,7 +7,6 @@ use Rattle.card_load.specs.declared.Loaded.TheVariants.{Done}
 use Rattle.card_load.specs.Load.{said_of, load_said}
 use Rattle.card_load.proofs.Sound.{Sound, sound}
 use borrow.Author.Rules.{rules}
-
 -- an answer of the survey says what the survey says
 use Rattle.card_load.proofs.load.Goals as goal
 
@@ -48,7 +47,6 @@ fill_words-requires-in-Done-clause-block_size_in_bounds c =
     ≡ load_said a.card.now (length a.groups.now) (length a.tracks.now) (length a.segments.now) (length a.text.now) = answered c.survey-v.ensures c.in-Done.is in
     let good : let a = c.args in
     Sound a.card.now (length a.groups.now) (length a.tracks.now) (length a.segments.now) (length a.text.now) = sound _ _ _ _ _ _ (done_said) in
-
     let z = good in z.long
 
 pub fill_words-requires-in-Done-clause-counts_fit : goal.fill_words-requires-in-Done-clause-counts_fit
@@ -58,7 +56,6 @@ fill_words-requires-in-Done-clause-counts_fit c =
     ≡ load_said a.card.now (length a.groups.now) (length a.tracks.now) (length a.segments.now) (length a.text.now) = answered c.survey-v.ensures c.in-Done.is in
     let good : let a = c.args in
     Sound a.card.now (length a.groups.now) (length a.tracks.now) (length a.segments.now) (length a.text.now) = sound _ _ _ _ _ _ (done_said) in
-
     let z = good in z.fit
 
 pub fill_words-requires-in-Done-clause-card_in_bounds : goal.fill_words-requires-in-Done-clause-card_in_bounds
@@ -68,7 +65,6 @@ fill_words-requires-in-Done-clause-card_in_bounds c =
     ≡ load_said a.card.now (length a.groups.now) (length a.tracks.now) (length a.segments.now) (length a.text.now) = answered c.survey-v.ensures c.in-Done.is in
     let good : let a = c.args in
     Sound a.card.now (length a.groups.now) (length a.tracks.now) (length a.segments.now) (length a.text.now) = sound _ _ _ _ _ _ (done_said) in
-
     let z = good in z.tracks_room
 
 pub fill_words-requires-in-Done-2-clause-block_size_in_bounds : goal.fill_words-requires-in-Done-2-clause-block_size_in_bounds
@@ -78,7 +74,6 @@ fill_words-requires-in-Done-2-clause-block_size_in_bounds c =
     ≡ load_said a.card.now (length a.groups.now) (length a.tracks.now) (length a.segments.now) (length a.text.now) = answered c.survey-v.ensures c.in-Done.is in
     let good : let a = c.args in
     Sound a.card.now (length a.groups.now) (length a.tracks.now) (length a.segments.now) (length a.text.now) = sound _ _ _ _ _ _ (done_said) in
-
     let z = good in z.long
 
 pub fill_words-requires-in-Done-2-clause-counts_fit : goal.fill_words-requires-in-Done-2-clause-counts_fit
@@ -88,7 +83,6 @@ fill_words-requires-in-Done-2-clause-counts_fit c =
     ≡ load_said a.card.now (length a.groups.now) (length a.tracks.now) (length a.segments.now) (length a.text.now) = answered c.survey-v.ensures c.in-Done.is in
     let good : let a = c.args in
     Sound a.card.now (length a.groups.now) (length a.tracks.now) (length a.segments.now) (length a.text.now) = sound _ _ _ _ _ _ (done_said) in
-
     let z = good in z.fit
 
 pub fill_words-requires-in-Done-2-clause-card_in_bounds : goal.fill_words-requires-in-Done-2-clause-card_in_bounds
@@ -98,7 +92,6 @@ fill_words-requires-in-Done-2-clause-card_in_bounds c =
     ≡ load_said a.card.now (length a.groups.now) (length a.tracks.now) (length a.segments.now) (length a.text.now) = answered c.survey-v.ensures c.in-Done.is in
     let good : let a = c.args in
     Sound a.card.now (length a.groups.now) (length a.tracks.now) (length a.segments.now) (length a.text.now) = sound _ _ _ _ _ _ (done_said) in
-
     let z = good in z.segments_room
 
 pub fill_octets-requires-clause-block_size_in_bounds : goal.fill_octets-requires-clause-block_size_in_bounds
@@ -108,7 +101,6 @@ fill_octets-requires-clause-block_size_in_bounds c =
     ≡ load_said a.card.now (length a.groups.now) (length a.tracks.now) (length a.segments.now) (length a.text.now) = answered c.survey-v.ensures c.in-Done.is in
     let good : let a = c.args in
     Sound a.card.now (length a.groups.now) (length a.tracks.now) (length a.segments.now) (length a.text.now) = sound _ _ _ _ _ _ (done_said) in
-
     let z = good in z.long
 
 pub fill_octets-requires-clause-counts_fit : goal.fill_octets-requires-clause-counts_fit
@@ -118,7 +110,6 @@ fill_octets-requires-clause-counts_fit c =
     ≡ load_said a.card.now (length a.groups.now) (length a.tracks.now) (length a.segments.now) (length a.text.now) = answered c.survey-v.ensures c.in-Done.is in
     let good : let a = c.args in
     Sound a.card.now (length a.groups.now) (length a.tracks.now) (length a.segments.now) (length a.text.now) = sound _ _ _ _ _ _ (done_said) in
-
     let z = good in z.fit
 
 pub fill_octets-requires-clause-card_in_bounds : goal.fill_octets-requires-clause-card_in_bounds
@@ -128,7 +119,6 @@ fill_octets-requires-clause-card_in_bounds c =
     ≡ load_said a.card.now (length a.groups.now) (length a.tracks.now) (length a.segments.now) (length a.text.now) = answered c.survey-v.ensures c.in-Done.is in
     let good : let a = c.args in
     Sound a.card.now (length a.groups.now) (length a.tracks.now) (length a.segments.now) (length a.text.now) = sound _ _ _ _ _ _ (done_said) in
-
     let z = good in z.text_room
 
 pub returns-in-Refused-clause-result_value : goal.returns-in-Refused-clause-result_value

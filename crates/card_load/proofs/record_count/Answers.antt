@@ -2,7 +2,6 @@
 use Prim.Native.Nat.{ℕ, ◌≤◌, ◌<◌, ◌-◌, ◌+◌, ◌*◌}
 use mathlib.Core.Path.{◌≡◌}
 use mathlib.Core.List.{List}
-use mathlib.Core.Logic.{⊎_elim}
 use native.Mathlib.Omega.{arith}
 use borrow.Author.Rules.{rules}
 use borrow.Author.Tests.{eq-eqb, ne_eqb}
@@ -13,6 +12,7 @@ use Rattle.card_block.specs.Block.{kind_of, count_of}
 use Rattle.card_load.specs.Card.{blocks, block_at, record_count}
 use Rattle.card_load.proofs.Blocks.{blocks_cons, blocks_end, block_length}
 use Rattle.card_load.proofs.record_count.Goals as goal
+use Rattle.card_load.proofs.record_count.Goals.{then-b-kind, else-b-kind}
 
 -- one more block
 step : (n : ℕ) (card : List ℕ) (kind i : ℕ) → i < n → let b = block_at card i in
@@ -33,10 +33,10 @@ loop-i-preserved c =
     let l = c.loop-i in
     let a = c.args in
     let st = step a.n a.card.now a.kind l.i c.loop-i-test.true in
-    ⊎_elim
-    (λ w. let s1 = rw (eq-eqb _ _ w.0.taken) at st in (omega arith, omega arith, omega (arith, s1, l.invariant.2)))
-    (λ w. let s1 = rw (ne_eqb _ _ w.0.left) at st in (omega arith, omega arith, omega (arith, s1, l.invariant.2)))
-    c.if-b-kind.branch
+    elim c.if-b-kind.branch [
+      | then-b-kind w ↦ let s1 = rw (eq-eqb _ _ w.if-b-kind.true) at st in (omega arith, omega arith, omega (arith, s1, l.invariant.2))
+      | else-b-kind w ↦ let s1 = rw (ne_eqb _ _ w.if-b-kind.false) at st in (omega arith, omega arith, omega (arith, s1, l.invariant.2))
+    ]
 
 pub returns : goal.returns
 unfolding record_count

@@ -19,15 +19,13 @@ returns-then-card-n-clause-card_after c =
 
 pub returns-clause-result_value : goal.returns-clause-result_value
 returns-clause-result_value c =
-
     let a = c.args in
     let k = tables a.groups.now a.tracks.now a.segments.now a.text.now in past _ (le-ltb _ _ c.if-card-n.false) refl
 
 pub returns-clause-card_after : goal.returns-clause-card_after
 returns-clause-card_after c =
-
     let a = c.args in
     let k = tables a.groups.now a.tracks.now a.segments.now a.text.now in card_laid k a.card.now
-          c.write_words.new.card c.write_words-2.new.card c.write_words-3.new.card c.write_text.new.card c.if-card-n.false
-          c.write_words.ensures c.write_words-2.ensures c.write_words-3.ensures c.write_text.ensures
-          ∙ laid_front a.card.now (card_of k)
+    c.write_words.new.card c.write_words-2.new.card c.write_words-3.new.card c.write_text.new.card c.if-card-n.false
+    c.write_words.ensures c.write_words-2.ensures c.write_words-3.ensures c.write_text.ensures
+    ∙ laid_front a.card.now (card_of k)

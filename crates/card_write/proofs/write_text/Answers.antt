@@ -20,7 +20,7 @@ loop-i-preserved c =
     let n = text_many a.first a.src.now in (
       search rules,
       laying_next (text_blocks a.first a.src.now) a.first a.card.now (text_long a.first a.src.now) (omega arith) c.loop-i.card c.loop-i.i c.loop-i.invariant.1
-          b.result p.new.0 (omega arith)
+          b.result p.new.card (omega arith)
           (b.ensures ∙ text_next a.first a.src.now c.loop-i.i _ (omega arith) c.lesser-m.ensures) p.ensures,
     )
 

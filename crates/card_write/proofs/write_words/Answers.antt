@@ -15,7 +15,6 @@ loop-i-init c =
 
 pub words_block-b-requires-clause-count_bound : goal.words_block-b-requires-clause-count_bound
 words_block-b-requires-clause-count_bound c =
-
     let m = c.lesser-m.result in
     let u = c.args.unit in omega (arith, div-le_self m u)
 
@@ -27,7 +26,7 @@ loop-i-preserved c =
     let n = words_many a.kind a.unit a.first a.src.now in (
       search rules,
       laying_next (word_blocks a.kind a.unit a.first a.src.now) a.first a.card.now (words_long a.kind a.unit a.first a.src.now) (omega arith) c.loop-i.card c.loop-i.i c.loop-i.invariant.1
-          b.result p.new.0 (omega arith)
+          b.result p.new.card (omega arith)
           (b.ensures ∙ words_next a.kind a.unit a.first a.src.now c.loop-i.i _ (omega arith) c.lesser-m.ensures) p.ensures,
     )
 

@@ -13,7 +13,6 @@ use Rattle.catalogue_rules.proofs.BadTitles.{text_is, text_not}
 use Rattle.catalogue_check.specs.Catalogue.{plain_rule, catalogue_rule, catalogue_carries, check_said}
 use Rattle.catalogue_check.proofs.Laws.{plain_kept}
 use borrow.Author.Rules.{rules}
-
 -- what the check says, by the first that fails
 use Rattle.catalogue_check.proofs.check.Goals as goal
 

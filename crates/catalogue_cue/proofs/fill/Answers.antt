@@ -85,7 +85,7 @@ loop-n-preserved c =
     let a = c.args in
     let done = c.put-n.ensures in (
       c.skim_line-read.ensures.bound,
-      rw done.0 (filling_goes (starts_of (sheet_lines a.sheet.now)) a.starts.now _ c.loop-n.starts c.loop-n.n c.loop-n.invariant.1 (own) (behind) (next) _ refl _ (own) (take-length (own)) (fits) done.1),
+      rw done.value (filling_goes (starts_of (sheet_lines a.sheet.now)) a.starts.now _ c.loop-n.starts c.loop-n.n c.loop-n.invariant.1 (own) (behind) (next) _ refl _ (own) (take-length (own)) (fits) done.starts_after),
       (rw c.skim_line-read.ensures.gives at c.loop-n.invariant.2).1,
     )
 

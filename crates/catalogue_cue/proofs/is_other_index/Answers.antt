@@ -8,7 +8,6 @@ use native.Mathlib.Omega.{arith}
 use Rattle.catalogue_cue.specs.Sheet.{octets, begins, digits_at, number_at, is_other_index}
 use Rattle.catalogue_cue.proofs.Form.{short_index}
 use borrow.Author.Rules.{rules}
-
 -- both tests, as the code asks them
 use Rattle.catalogue_cue.proofs.is_other_index.Goals as goal
 
@@ -21,14 +20,14 @@ unfolding is_other_index
 returns-then-not-index-digits c =
     let both : let line = c.args.line.now in
     (c.begins_with-index.result && c.digits_at-digits.result) ≡ (begins (octets "INDEX ") line && digits_at line 6) = λ i. c.begins_with-index.ensures i && c.digits_at-digits.ensures i in
-    sym (ap (λ (t : Bool). t && not (eqb (number_at c.args.line.now 6) 1)) (sym (both) ∙ not-true _ c.if-not-index-digits.true))
+    sym (ap (λ (t : Bool). t && not (eqb (number_at c.args.line.now 6) 1)) (sym (both) ∙ c.if-not-index-digits.true))
 
 pub number_at-number-requires-clause-at_in_bounds : goal.number_at-number-requires-clause-at_in_bounds
 number_at-number-requires-clause-at_in_bounds c =
     let both : let line = c.args.line.now in
     (c.begins_with-index.result && c.digits_at-digits.result) ≡ (begins (octets "INDEX ") line && digits_at line 6) = λ i. c.begins_with-index.ensures i && c.digits_at-digits.ensures i in
     let right : let line = c.args.line.now in
-    (begins (octets "INDEX ") line && digits_at line 6) ≡ true = sym (both) ∙ not-false _ c.if-not-index-digits.false in
+    (begins (octets "INDEX ") line && digits_at line 6) ≡ true = sym (both) ∙ c.if-not-index-digits.false in
     omega arith
 
 pub number_at-number-requires-clause-at_value : goal.number_at-number-requires-clause-at_value
@@ -36,7 +35,7 @@ number_at-number-requires-clause-at_value c =
     let both : let line = c.args.line.now in
     (c.begins_with-index.result && c.digits_at-digits.result) ≡ (begins (octets "INDEX ") line && digits_at line 6) = λ i. c.begins_with-index.ensures i && c.digits_at-digits.ensures i in
     let right : let line = c.args.line.now in
-    (begins (octets "INDEX ") line && digits_at line 6) ≡ true = sym (both) ∙ not-false _ c.if-not-index-digits.false in
+    (begins (octets "INDEX ") line && digits_at line 6) ≡ true = sym (both) ∙ c.if-not-index-digits.false in
     and_right (begins (octets "INDEX ") c.args.line.now) _ (right)
 
 pub returns : goal.returns
@@ -45,5 +44,5 @@ returns c =
     let both : let line = c.args.line.now in
     (c.begins_with-index.result && c.digits_at-digits.result) ≡ (begins (octets "INDEX ") line && digits_at line 6) = λ i. c.begins_with-index.ensures i && c.digits_at-digits.ensures i in
     let right : let line = c.args.line.now in
-    (begins (octets "INDEX ") line && digits_at line 6) ≡ true = sym (both) ∙ not-false _ c.if-not-index-digits.false in
+    (begins (octets "INDEX ") line && digits_at line 6) ≡ true = sym (both) ∙ c.if-not-index-digits.false in
     sym (λ i. right i && not (eqb (sym c.number_at-number.ensures.0 i) 1))

@@ -9,7 +9,6 @@ use lib.Dec.{leb}
 use Rattle.catalogue_cue.specs.Sheet.{number_at, colon_at, is_start}
 use Rattle.catalogue_cue.proofs.Form.{time_form, start_by, digits_12, digits_15}
 use borrow.Author.Rules.{rules}
-
 -- length and word are right
 use Rattle.catalogue_cue.proofs.is_start.Goals as goal
 
@@ -29,14 +28,14 @@ returns-then-not-mm-line c =
     let by_form : is_start (line_of) ≡ (time_form (line_of) && leb (number_at (line_of) 12) 59 && leb (number_at (line_of) 15) 74) = start_by (line_of) c.if-line-ne-START_OCTETS.false (sym c.is_index_01.ensures ∙ c.if-not-is_index_01.false) in
     let form : (c.digits_at-mm.result && colon_at (line_of) 11 && c.digits_at-ss.result && colon_at (line_of) 14 && c.digits_at-ff.result)
     ≡ time_form (line_of) = λ i. c.digits_at-mm.ensures i && colon_at (line_of) 11 && c.digits_at-ss.ensures i && colon_at (line_of) 14 && c.digits_at-ff.ensures i in
-    sym (by_form ∙ ap (λ (t : Bool). t && leb (number_at (line_of) 12) 59 && leb (number_at (line_of) 15) 74) (sym (form) ∙ not-true _ c.if-not-mm-line.true))
+    sym (by_form ∙ ap (λ (t : Bool). t && leb (number_at (line_of) 12) 59 && leb (number_at (line_of) 15) 74) (sym (form) ∙ c.if-not-mm-line.true))
 
 pub number_at-seconds-requires-clause-at_in_bounds : goal.number_at-seconds-requires-clause-at_in_bounds
 number_at-seconds-requires-clause-at_in_bounds c =
     let line_of : List ℕ = c.args.line.now in
     let form : (c.digits_at-mm.result && colon_at (line_of) 11 && c.digits_at-ss.result && colon_at (line_of) 14 && c.digits_at-ff.result)
     ≡ time_form (line_of) = λ i. c.digits_at-mm.ensures i && colon_at (line_of) 11 && c.digits_at-ss.ensures i && colon_at (line_of) 14 && c.digits_at-ff.ensures i in
-    let right : time_form (line_of) ≡ true = sym (form) ∙ not-false _ c.if-not-mm-line.false in
+    let right : time_form (line_of) ≡ true = sym (form) ∙ c.if-not-mm-line.false in
     omega arith
 
 pub number_at-seconds-requires-clause-at_value : goal.number_at-seconds-requires-clause-at_value
@@ -44,7 +43,7 @@ number_at-seconds-requires-clause-at_value c =
     let line_of : List ℕ = c.args.line.now in
     let form : (c.digits_at-mm.result && colon_at (line_of) 11 && c.digits_at-ss.result && colon_at (line_of) 14 && c.digits_at-ff.result)
     ≡ time_form (line_of) = λ i. c.digits_at-mm.ensures i && colon_at (line_of) 11 && c.digits_at-ss.ensures i && colon_at (line_of) 14 && c.digits_at-ff.ensures i in
-    let right : time_form (line_of) ≡ true = sym (form) ∙ not-false _ c.if-not-mm-line.false in
+    let right : time_form (line_of) ≡ true = sym (form) ∙ c.if-not-mm-line.false in
     digits_12 _ (right)
 
 pub number_at-frames-requires-clause-at_in_bounds : goal.number_at-frames-requires-clause-at_in_bounds
@@ -52,7 +51,7 @@ number_at-frames-requires-clause-at_in_bounds c =
     let line_of : List ℕ = c.args.line.now in
     let form : (c.digits_at-mm.result && colon_at (line_of) 11 && c.digits_at-ss.result && colon_at (line_of) 14 && c.digits_at-ff.result)
     ≡ time_form (line_of) = λ i. c.digits_at-mm.ensures i && colon_at (line_of) 11 && c.digits_at-ss.ensures i && colon_at (line_of) 14 && c.digits_at-ff.ensures i in
-    let right : time_form (line_of) ≡ true = sym (form) ∙ not-false _ c.if-not-mm-line.false in
+    let right : time_form (line_of) ≡ true = sym (form) ∙ c.if-not-mm-line.false in
     omega arith
 
 pub number_at-frames-requires-clause-at_value : goal.number_at-frames-requires-clause-at_value
@@ -60,7 +59,7 @@ number_at-frames-requires-clause-at_value c =
     let line_of : List ℕ = c.args.line.now in
     let form : (c.digits_at-mm.result && colon_at (line_of) 11 && c.digits_at-ss.result && colon_at (line_of) 14 && c.digits_at-ff.result)
     ≡ time_form (line_of) = λ i. c.digits_at-mm.ensures i && colon_at (line_of) 11 && c.digits_at-ss.ensures i && colon_at (line_of) 14 && c.digits_at-ff.ensures i in
-    let right : time_form (line_of) ≡ true = sym (form) ∙ not-false _ c.if-not-mm-line.false in
+    let right : time_form (line_of) ≡ true = sym (form) ∙ c.if-not-mm-line.false in
     digits_15 _ (right)
 
 pub returns : goal.returns
@@ -69,5 +68,5 @@ returns c =
     let by_form : is_start (line_of) ≡ (time_form (line_of) && leb (number_at (line_of) 12) 59 && leb (number_at (line_of) 15) 74) = start_by (line_of) c.if-line-ne-START_OCTETS.false (sym c.is_index_01.ensures ∙ c.if-not-is_index_01.false) in
     let form : (c.digits_at-mm.result && colon_at (line_of) 11 && c.digits_at-ss.result && colon_at (line_of) 14 && c.digits_at-ff.result)
     ≡ time_form (line_of) = λ i. c.digits_at-mm.ensures i && colon_at (line_of) 11 && c.digits_at-ss.ensures i && colon_at (line_of) 14 && c.digits_at-ff.ensures i in
-    let right : time_form (line_of) ≡ true = sym (form) ∙ not-false _ c.if-not-mm-line.false in
+    let right : time_form (line_of) ≡ true = sym (form) ∙ c.if-not-mm-line.false in
     sym (by_form ∙ (λ i. right i && leb (sym c.number_at-seconds.ensures.0 i) 59 && leb (sym c.number_at-frames.ensures.0 i) 74))

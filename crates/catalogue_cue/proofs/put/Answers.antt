@@ -9,7 +9,6 @@ use lib.Seq.{paste, paste-zero, set_split}
 use Rattle.catalogue_cue.specs.declared.Line.{Line}
 use Rattle.catalogue_cue.specs.Sheet.{starts_of}
 use borrow.Author.Rules.{rules}
-
 -- one word over a place
 use Rattle.catalogue_cue.proofs.put.Goals as goal
 
@@ -29,33 +28,31 @@ bounds-starts-n c =
 pub returns-in-Start-clause-value : goal.returns-in-Start-clause-value
 unfolding starts_of
 returns-in-Start-clause-value c =
-
     let a = c.args in
     let small : a.n < length a.starts.now = omega (arith, c.requires, ap (λ (l : Line). length (starts_of (l ∷ []))) c.in-Start.is) in (of a.starts.now _ a.n _ c.in-Start.is (refl, one_word a.starts.now a.n _ small)).0
 
 pub returns-in-Start-clause-starts_after : goal.returns-in-Start-clause-starts_after
 unfolding starts_of
 returns-in-Start-clause-starts_after c =
-
     let a = c.args in
     let small : a.n < length a.starts.now = omega (arith, c.requires, ap (λ (l : Line). length (starts_of (l ∷ []))) c.in-Start.is) in (of a.starts.now _ a.n _ c.in-Start.is (refl, one_word a.starts.now a.n _ small)).1
 
 pub returns-in-Passed-clause-value : goal.returns-in-Passed-clause-value
 unfolding starts_of
 returns-in-Passed-clause-value c =
-    let a = c.args in (of a.starts.now _ a.n _ c.in-Passed.is (omega arith, paste-zero a.starts.now a.n [])).0
+    let a = c.args in (of a.starts.now a.starts.now a.n a.n c.in-Passed.is (omega arith, paste-zero a.starts.now a.n [])).0
 
 pub returns-in-Passed-clause-starts_after : goal.returns-in-Passed-clause-starts_after
 unfolding starts_of
 returns-in-Passed-clause-starts_after c =
-    let a = c.args in (of a.starts.now _ a.n _ c.in-Passed.is (omega arith, paste-zero a.starts.now a.n [])).1
+    let a = c.args in (of a.starts.now a.starts.now a.n a.n c.in-Passed.is (omega arith, paste-zero a.starts.now a.n [])).1
 
 pub returns-in-NotUnderstood-clause-value : goal.returns-in-NotUnderstood-clause-value
 unfolding starts_of
 returns-in-NotUnderstood-clause-value c =
-    let a = c.args in (of a.starts.now _ a.n _ c.in-NotUnderstood.is (omega arith, paste-zero a.starts.now a.n [])).0
+    let a = c.args in (of a.starts.now a.starts.now a.n a.n c.in-NotUnderstood.is (omega arith, paste-zero a.starts.now a.n [])).0
 
 pub returns-in-NotUnderstood-clause-starts_after : goal.returns-in-NotUnderstood-clause-starts_after
 unfolding starts_of
 returns-in-NotUnderstood-clause-starts_after c =
-    let a = c.args in (of a.starts.now _ a.n _ c.in-NotUnderstood.is (omega arith, paste-zero a.starts.now a.n [])).1
+    let a = c.args in (of a.starts.now a.starts.now a.n a.n c.in-NotUnderstood.is (omega arith, paste-zero a.starts.now a.n [])).1

@@ -7,7 +7,6 @@ use Rattle.catalogue_cue.specs.declared.Cued.{Cued}
 use Rattle.catalogue_cue.specs.Sheet.{said_of}
 use Rattle.catalogue_cue.proofs.Accepted.{accepted}
 use borrow.Author.Rules.{rules}
-
 -- an answer of the survey says what the survey says
 use Rattle.catalogue_cue.proofs.read.Goals as goal
 
@@ -16,7 +15,6 @@ answered e q = sym (ap said_of q) ∙ e
 
 pub fill-requires-clause-count_value : goal.fill-requires-clause-count_value
 fill-requires-clause-count_value c =
-
     let a = c.args in
     let said = answered c.survey-answer.ensures c.in-Done.is in
     let granted = accepted a.sheet.now (length a.starts.now) (sym (ap (λ (s : Said). s.is_granted) said)) in
@@ -24,7 +22,6 @@ fill-requires-clause-count_value c =
 
 pub fill-requires-clause-count_in_bounds : goal.fill-requires-clause-count_in_bounds
 fill-requires-clause-count_in_bounds c =
-
     let a = c.args in
     let said = answered c.survey-answer.ensures c.in-Done.is in
     let granted = accepted a.sheet.now (length a.starts.now) (sym (ap (λ (s : Said). s.is_granted) said)) in
@@ -32,7 +29,6 @@ fill-requires-clause-count_in_bounds c =
 
 pub fill-requires-clause-all_understood : goal.fill-requires-clause-all_understood
 fill-requires-clause-all_understood c =
-
     let a = c.args in
     let said = answered c.survey-answer.ensures c.in-Done.is in
     let granted = accepted a.sheet.now (length a.starts.now) (sym (ap (λ (s : Said). s.is_granted) said)) in

@@ -11,8 +11,6 @@ use Rattle.catalogue_cue.proofs.Starting.{ends_last, ends_lf, ends_cr_lf, no_roo
 use borrow.Author.Rules.{rules}
 use Rattle.catalogue_cue.proofs.start_line.Goals as goal
 
-)
-
 pub returns-then-sheet-at-lt-START_OCTETS : goal.returns-then-sheet-at-lt-START_OCTETS
 returns-then-sheet-at-lt-START_OCTETS c =
     (λ h. absurd (omega arith), λ z. no_room _ _ c.if-sheet-at-lt-START_OCTETS.true)
@@ -36,11 +34,10 @@ returns-then-sheet-end-ne-CR c =
     (λ h. absurd (omega arith), λ z. no_end _ _ (omega arith) c.if-sheet-end-eq-LF.false (λ q r. c.if-sheet-end-ne-CR.true q))
 
 pub returns-then-sheet-end-lt2 : goal.returns-then-sheet-end-lt2
-returns-then-sheet-end-lt2 c =
-    (
-    λ h. absurd (omega arith),
-    λ z.
-      no_end _ _ (omega arith) c.if-sheet-end-eq-LF.false (λ q r. omega (arith, r, beyond c.args.sheet.now (c.args.at + 17 + 1) (omega arith))),
+returns-then-sheet-end-lt2 c = (
+  λ h. absurd (omega arith),
+  λ z. no_end _ _ (omega arith) c.if-sheet-end-eq-LF.false (λ q r. omega (arith, r, beyond c.args.sheet.now (c.args.at + 17 + 1) (omega arith))),
+)
 
 pub returns-then-sheet-end-eq-LF-2 : goal.returns-then-sheet-end-eq-LF-2
 returns-then-sheet-end-eq-LF-2 c =

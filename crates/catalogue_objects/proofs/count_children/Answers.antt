@@ -1,7 +1,6 @@
 -- `catalogue_objects::count_children`: what is counted and what is left to count make up all of them.
 use mathlib.Core.Path.{◌≡◌, refl, sym, ap, ◌∙◌}
 use mathlib.Core.List.{List}
-use mathlib.Core.Logic.{⊎_elim}
 use Prim.Native.Nat.{ℕ, ◌+◌, ◌-◌, ◌≤◌}
 use native.Mathlib.Omega.{arith}
 use lib.ListN.{length}
@@ -11,6 +10,7 @@ use Rattle.catalogue_objects.specs.Entries.{is_child, children_of}
 use Rattle.catalogue_objects.proofs.Spans.{span_shuts, those_taken, those_passed}
 use borrow.Author.Rules.{rules}
 use Rattle.catalogue_objects.proofs.count_children.Goals as goal
+use Rattle.catalogue_objects.proofs.count_children.Goals.{then-is_child, else-is_child}
 
 pub loop-h-init : goal.loop-h-init
 unfolding children_of
@@ -28,14 +28,14 @@ loop-h-preserved c =
     let h = c.loop-h.h in
     let n = group_count groups in
     let left : n - h ≡ n - (h + 1) + 1 = omega (arith, c.group_count.ensures) in
-    ⊎_elim
-    (λ w.
-    let e = those_taken test h (n - h) (h + 1) (n - (h + 1)) left refl (sym c.is_child.ensures ∙ w.0.taken) in
-    (omega arith, omega (arith, w.1), omega (arith, w.1, ap length e, c.loop-h.invariant.2)))
-    (λ w.
-    let e = those_passed test h (n - h) (h + 1) (n - (h + 1)) left refl (sym c.is_child.ensures ∙ w.0.left) in
-    (omega arith, omega (arith, w.1), omega (arith, w.1, ap length e, c.loop-h.invariant.2)))
-    c.if-is_child.branch
+    elim c.if-is_child.branch [
+      | then-is_child w ↦
+          let e = those_taken test h (n - h) (h + 1) (n - (h + 1)) left refl (sym c.is_child.ensures ∙ w.if-is_child.true) in
+          (omega arith, omega (arith, w.n-is), omega (arith, w.n-is, ap length e, c.loop-h.invariant.2))
+      | else-is_child w ↦
+          let e = those_passed test h (n - h) (h + 1) (n - (h + 1)) left refl (sym c.is_child.ensures ∙ w.if-is_child.false) in
+          (omega arith, omega (arith, w.n-is), omega (arith, w.n-is, ap length e, c.loop-h.invariant.2))
+    ]
 
 pub returns : goal.returns
 returns c =

@@ -13,7 +13,6 @@ use Rattle.catalogue_objects.proofs.Answers.{no_room, has_room}
 use Rattle.catalogue_objects.proofs.Octets.{all_append, members_long}
 use Rattle.catalogue_objects.proofs.Spans.{span_long}
 use borrow.Author.Rules.{rules}
-
 -- the octets of the children's records, and those of the tracks'
 use Rattle.catalogue_objects.proofs.fill_group.Goals as goal
 
@@ -53,7 +52,6 @@ returns-then-out-n-clause-result_value c =
       c.tracks_in-count.ensures,
       c.wide_word.ensures.0,
     ) in
-
     let octets = group_octets c.args.groups.now c.args.g.0 in
     let short : length c.args.out.now < length octets = omega (arith, as_long, c.if-out-n.true) in (no_room octets c.args.out.now short _ c.refuse.ensures).0
 
@@ -72,7 +70,6 @@ returns-then-out-n-clause-out_after c =
       c.tracks_in-count.ensures,
       c.wide_word.ensures.0,
     ) in
-
     let octets = group_octets c.args.groups.now c.args.g.0 in
     let short : length c.args.out.now < length octets = omega (arith, as_long, c.if-out-n.true) in (no_room octets c.args.out.now short _ c.refuse.ensures).1
 
@@ -88,7 +85,6 @@ pub put_tracks-requires-clause-count_bound : goal.put_tracks-requires-clause-cou
 put_tracks-requires-clause-count_bound c =
     let children_long : c.count_children-children.result * 7 ≡ 0 + length (of_children c.args.groups.now c.args.g.0) = omega (arith, members_long group_member (children_of c.args.groups.now c.args.g.0), c.count_children-children.ensures.0) in
     let children_fit : let a = c.args in 0 + length (of_children a.groups.now a.g.0) ≤ length a.out.now = omega (arith, children_long, c.if-out-n.false) in
-
     let a = c.args in
     let same : length c.put_children.new.out ≡ length a.out.now = ap length (c.put_children.ensures ∙ sym (laid_front a.out.now (of_children a.groups.now a.g.0))) ∙ laid_length a.out.now 0 _ (children_fit) in rw (c.first_track-first.ensures, c.tracks_in-count.ensures) c.requires.g_bound
 
@@ -96,7 +92,6 @@ pub put_tracks-requires-clause-count_in_bounds : goal.put_tracks-requires-clause
 put_tracks-requires-clause-count_in_bounds c =
     let children_long : c.count_children-children.result * 7 ≡ 0 + length (of_children c.args.groups.now c.args.g.0) = omega (arith, members_long group_member (children_of c.args.groups.now c.args.g.0), c.count_children-children.ensures.0) in
     let children_fit : let a = c.args in 0 + length (of_children a.groups.now a.g.0) ≤ length a.out.now = omega (arith, children_long, c.if-out-n.false) in
-
     let a = c.args in
     let same : length c.put_children.new.out ≡ length a.out.now = ap length (c.put_children.ensures ∙ sym (laid_front a.out.now (of_children a.groups.now a.g.0))) ∙ laid_length a.out.now 0 _ (children_fit) in omega (arith, same, c.wide_word.ensures.0, c.if-out-n.false)
 
@@ -115,7 +110,6 @@ returns-clause-result_value c =
       c.tracks_in-count.ensures,
       c.wide_word.ensures.0,
     ) in
-
     let a = c.args in
     let groups = a.groups.now in
     let g = a.g.0 in
@@ -144,7 +138,6 @@ returns-clause-out_after c =
       c.tracks_in-count.ensures,
       c.wide_word.ensures.0,
     ) in
-
     let a = c.args in
     let groups = a.groups.now in
     let g = a.g.0 in

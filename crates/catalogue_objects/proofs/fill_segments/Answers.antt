@@ -12,21 +12,18 @@ use Rattle.catalogue_objects.proofs.fill_segments.Goals as goal
 
 pub returns-then-out-size-clause-result_value : goal.returns-then-out-size-clause-result_value
 returns-then-out-size-clause-result_value c =
-
     let a = c.args in
     let octets = all_octets label_octets (map nameless a.starts.now) in
     let short : length a.out.now < length octets = omega (arith, labels_long a.starts.now, c.if-out-size.true) in (no_room octets a.out.now short _ c.refuse.ensures).0
 
 pub returns-then-out-size-clause-out_after : goal.returns-then-out-size-clause-out_after
 returns-then-out-size-clause-out_after c =
-
     let a = c.args in
     let octets = all_octets label_octets (map nameless a.starts.now) in
     let short : length a.out.now < length octets = omega (arith, labels_long a.starts.now, c.if-out-size.true) in (no_room octets a.out.now short _ c.refuse.ensures).1
 
 pub returns-clause-result_value : goal.returns-clause-result_value
 returns-clause-result_value c =
-
     let a = c.args in
     let octets = all_octets label_octets (map nameless a.starts.now) in
     let long = labels_long a.starts.now in
@@ -34,7 +31,6 @@ returns-clause-result_value c =
 
 pub returns-clause-out_after : goal.returns-clause-out_after
 returns-clause-out_after c =
-
     let a = c.args in
     let octets = all_octets label_octets (map nameless a.starts.now) in
     let long = labels_long a.starts.now in

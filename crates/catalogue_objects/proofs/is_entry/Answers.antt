@@ -9,7 +9,6 @@ use Rattle.catalogue_objects.specs.Reading.{size_of, is_sound}
 use Rattle.catalogue_objects.proofs.Steps.{too_short, long_enough}
 use Rattle.catalogue_objects.proofs.Stores.{first_of}
 use borrow.Author.Rules.{rules}
-
 -- behind the first test all octets of the entry are there
 use Rattle.catalogue_objects.proofs.is_entry.Goals as goal
 

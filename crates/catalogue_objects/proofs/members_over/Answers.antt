@@ -13,7 +13,6 @@ use Rattle.catalogue_objects.specs.declared.Kind.TheVariants.{Group}
 use Rattle.catalogue_objects.specs.Reading.{is_entry, Entries, no_entries, entries_of}
 use Rattle.catalogue_objects.proofs.Steps.{entries_end, entries_stop, left_behind}
 use borrow.Author.Rules.{rules}
-
 -- a record at a place, by its type; and what is too short for one
 use Rattle.catalogue_objects.proofs.members_over.Goals as goal
 

@@ -2,7 +2,6 @@
 use mathlib.Core.Path.{◌≡◌, refl, sym, ap, ◌∙◌}
 use mathlib.Core.Bool.{true, false}
 use mathlib.Core.List.{List, [], ◌++◌, map}
-use mathlib.Core.Logic.{⊎_elim}
 use Prim.Native.Nat.{ℕ, ◌+◌, ◌-◌, ◌*◌, ◌<◌, ◌≤◌}
 use native.Mathlib.Omega.{arith}
 use lib.ListN.{length}
@@ -15,6 +14,7 @@ use Rattle.catalogue_objects.proofs.Pieces.{Pieces, pieces_start, pieces_end, pi
 use Rattle.catalogue_objects.proofs.Spans.{span_shuts, those_taken, those_passed}
 use borrow.Author.Rules.{rules}
 use Rattle.catalogue_objects.proofs.put_children.Goals as goal
+use Rattle.catalogue_objects.proofs.put_children.Goals.{then-is_child, else-is_child}
 
 abbrev octets_of_all : List ℕ → List ℕ
 octets_of_all groups = all_octets member_octets (map group_member groups)
@@ -59,15 +59,22 @@ pub loop-h-preserved : goal.loop-h-preserved
 loop-h-preserved c =
     let a = c.args in
     let below : c.loop-h.h < group_count a.groups.now = omega (arith, c.group_count.ensures) in
-    ⊎_elim
-    (λ w.
-    let p : tie.After-put-member invariant-loop decreases-loop = record { before = record { before = record { before = record { before = c; if2 = w.0 }; group_object_lem = w.1 }; put-member-arg = w.2 }; put-member = w.3 } in
-    let n : c.if-is_child.n * 7 ≡ c.loop-h.n * 7 + 7 = omega (arith, w.7) in
-    (omega arith, omega (arith, w.7), rw (w.6, n) (laid_next p)))
-    (λ w.
-    let e = passed a.groups.now a.g.0 c.loop-h.h below (sym c.is_child.ensures ∙ w.0.left) in
-    (omega arith, omega (arith, w.2), rw (w.1, w.2) (rw e at c.loop-h.invariant.2)))
-    c.if-is_child.branch
+    elim c.if-is_child.branch [
+      | then-is_child w ↦
+          let room : 0 + length (octets_of_all (children_of a.groups.now a.g.0)) ≤ length a.out.now = omega (arith, members_long group_member (children_of a.groups.now a.g.0), c.requires.g_in_bounds) in
+          let next : left_from a.groups.now a.g.0 c.loop-h.h ≡ member_octets (group_member c.loop-h.h) ++ left_from a.groups.now a.g.0 (c.loop-h.h + 1) =
+          taken a.groups.now a.g.0 c.loop-h.h below (sym c.is_child.ensures ∙ w.if-is_child.true) in
+          let e : w.put_member.new.out ≡ laid c.loop-h.out (c.loop-h.n * 7) (member_octets (group_member c.loop-h.h)) =
+          w.put_member.ensures ∙ ap (λ (x : ℕ). laid c.loop-h.out (c.loop-h.n * 7) (member_octets (record { kind = 1; object = x }))) w.group_object-object.ensures.0 in
+          let laid_next : Pieces (octets_of_all (children_of a.groups.now a.g.0)) (left_from a.groups.now a.g.0 (c.loop-h.h + 1)) a.out.now w.put_member.new.out 0 (c.loop-h.n * 7 + 7) =
+          pieces_go c.loop-h.invariant.2 (room) (member_octets (group_member c.loop-h.h)) (left_from a.groups.now a.g.0 (c.loop-h.h + 1)) (next) w.put_member.new.out (c.loop-h.n * 7) (c.loop-h.n * 7 + 7)
+          (omega arith) (omega (arith, member_long (group_member c.loop-h.h))) e in
+          let n : c.if-is_child.n * 7 ≡ c.loop-h.n * 7 + 7 = omega (arith, w.n-is) in
+          (omega arith, omega (arith, w.n-is), rw (w.out-is, n) laid_next)
+      | else-is_child w ↦
+          let e = passed a.groups.now a.g.0 c.loop-h.h below (sym c.is_child.ensures ∙ w.if-is_child.false) in
+          (omega arith, omega (arith, w.n-is), rw (w.out-is, w.n-is) (rw e at c.loop-h.invariant.2))
+    ]
 
 pub shape_of-out : goal.shape_of-out
 shape_of-out c =

@@ -11,19 +11,16 @@ use Rattle.catalogue_objects.proofs.read.Goals as goal
 
 pub returns-then-not-s-clause-result_value : goal.returns-then-not-s-clause-result_value
 returns-then-not-s-clause-result_value c =
-
     let a = c.args in (bad_entries a.kind a.octets.now a.out.now (sym c.look_over-s.ensures.0 ∙ not-true _ c.if-not-s.true) _ c.refuse.ensures).0
 
 pub returns-then-not-s-clause-out_after : goal.returns-then-not-s-clause-out_after
 returns-then-not-s-clause-out_after c =
-
     let a = c.args in (bad_entries a.kind a.octets.now a.out.now (sym c.look_over-s.ensures.0 ∙ not-true _ c.if-not-s.true) _ c.refuse.ensures).1
 
 pub returns-then-out-width-clause-result_value : goal.returns-then-out-width-clause-result_value
 returns-then-out-width-clause-result_value c =
     let whole : let a = c.args in (entries_of a.kind a.octets.now).whole ≡ true = sym c.look_over-s.ensures.0 ∙ not-false _ c.if-not-s.false in
     let counted : let a = c.args in c.look_over-s.result.count ≡ (entries_of a.kind a.octets.now).count = c.look_over-s.ensures.1 (not-false _ c.if-not-s.false) in
-
     let a = c.args in
     let short = too_few_words a.kind (length a.out.now) c.look_over-s.result.count _ c.width_of-width.ensures.0 c.if-out-width.true in (no_words a.kind a.octets.now a.out.now (whole) (rw (counted) at short) _ c.refuse-then-out-width.ensures).0
 
@@ -31,7 +28,6 @@ pub returns-then-out-width-clause-out_after : goal.returns-then-out-width-clause
 returns-then-out-width-clause-out_after c =
     let whole : let a = c.args in (entries_of a.kind a.octets.now).whole ≡ true = sym c.look_over-s.ensures.0 ∙ not-false _ c.if-not-s.false in
     let counted : let a = c.args in c.look_over-s.result.count ≡ (entries_of a.kind a.octets.now).count = c.look_over-s.ensures.1 (not-false _ c.if-not-s.false) in
-
     let a = c.args in
     let short = too_few_words a.kind (length a.out.now) c.look_over-s.result.count _ c.width_of-width.ensures.0 c.if-out-width.true in (no_words a.kind a.octets.now a.out.now (whole) (rw (counted) at short) _ c.refuse-then-out-width.ensures).1
 
@@ -60,7 +56,6 @@ returns-clause-result_value c =
     let fits : let a = c.args in
     (entries_of a.kind a.octets.now).count * width_of a.kind ≤ length a.out.now = let a = c.args in
     rw (counted) at (enough_words a.kind (length a.out.now) c.look_over-s.result.count _ c.width_of-width.ensures.0 c.if-out-width.false) in
-
     let a = c.args in (all_read a.kind a.octets.now a.out.now (whole) (fits) _ (counted) _ c.put_entries.ensures).0
 
 pub returns-clause-out_after : goal.returns-clause-out_after
@@ -70,5 +65,4 @@ returns-clause-out_after c =
     let fits : let a = c.args in
     (entries_of a.kind a.octets.now).count * width_of a.kind ≤ length a.out.now = let a = c.args in
     rw (counted) at (enough_words a.kind (length a.out.now) c.look_over-s.result.count _ c.width_of-width.ensures.0 c.if-out-width.false) in
-
     let a = c.args in (all_read a.kind a.octets.now a.out.now (whole) (fits) _ (counted) _ c.put_entries.ensures).1

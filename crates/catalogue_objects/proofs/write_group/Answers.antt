@@ -9,7 +9,6 @@ use Rattle.catalogue_check.proofs.Laws.{few_groups, few_tracks, track_run_inside
 use Rattle.catalogue_objects.specs.Objects.{group_octets}
 use Rattle.catalogue_objects.proofs.Answers.{left_alone, says_catalogue, says_absent, says_room}
 use borrow.Author.Rules.{rules}
-
 -- the arm of `Fine`: the catalogue is right
 use Rattle.catalogue_objects.proofs.write_group.Goals as goal
 
@@ -17,14 +16,12 @@ pub returns-then-group_count-wide_word-clause-result_value : goal.returns-then-g
 returns-then-group_count-wide_word-clause-result_value c =
     let lent : Tables = tables c.args.groups.now c.args.tracks.now c.args.segments.now c.args.text.now in
     let right : Right (lent) = sym c.check-c.ensures ∙ ap said_of c.in-Fine.is in
-
     let absent : group_count c.args.groups.now ≤ c.args.g.0 = omega (arith, c.group_count.ensures, c.wide_word.ensures.0, c.if-group_count-wide_word.true) in says_absent (lent) _ _ _ (right) (le-ltb _ _ absent) _ c.refuse.ensures
 
 pub returns-then-group_count-wide_word-clause-out_after : goal.returns-then-group_count-wide_word-clause-out_after
 returns-then-group_count-wide_word-clause-out_after c =
     let lent : Tables = tables c.args.groups.now c.args.tracks.now c.args.segments.now c.args.text.now in
     let right : Right (lent) = sym c.check-c.ensures ∙ ap said_of c.in-Fine.is in
-
     let absent : group_count c.args.groups.now ≤ c.args.g.0 = omega (arith, c.group_count.ensures, c.wide_word.ensures.0, c.if-group_count-wide_word.true) in left_alone 0x13 (group_octets c.args.groups.now c.args.g.0) c.args.out.now _ c.refuse.ensures
 
 pub fill_group-requires-clause-groups_bound : goal.fill_group-requires-clause-groups_bound
@@ -32,7 +29,6 @@ fill_group-requires-clause-groups_bound c =
     let lent : Tables = tables c.args.groups.now c.args.tracks.now c.args.segments.now c.args.text.now in
     let right : Right (lent) = sym c.check-c.ensures ∙ ap said_of c.in-Fine.is in
     let there : c.args.g.0 < group_count c.args.groups.now = omega (arith, c.group_count.ensures, c.wide_word.ensures.0, c.if-group_count-wide_word.false) in
-
     let r = right in few_groups _ r
 
 pub fill_group-requires-clause-g_bound : goal.fill_group-requires-clause-g_bound
@@ -40,7 +36,6 @@ fill_group-requires-clause-g_bound c =
     let lent : Tables = tables c.args.groups.now c.args.tracks.now c.args.segments.now c.args.text.now in
     let right : Right (lent) = sym c.check-c.ensures ∙ ap said_of c.in-Fine.is in
     let there : c.args.g.0 < group_count c.args.groups.now = omega (arith, c.group_count.ensures, c.wide_word.ensures.0, c.if-group_count-wide_word.false) in
-
     let r = right in omega (arith, track_run_inside _ r c.args.g.0 (there), few_tracks _ r)
 
 pub returns-in-Refused-clause-result_value : goal.returns-in-Refused-clause-result_value

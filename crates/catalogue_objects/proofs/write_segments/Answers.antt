@@ -16,7 +16,6 @@ use Rattle.catalogue_objects.specs.Objects as objects
 use Rattle.catalogue_objects.specs.Objects.{segments_octets, has_segments}
 use Rattle.catalogue_objects.proofs.Answers.{left_alone, room_said, says_catalogue, says_absent, says_room}
 use borrow.Author.Rules.{rules}
-
 -- the arm of `Fine`: the catalogue is right
 use Rattle.catalogue_objects.proofs.write_segments.Goals as goal
 
@@ -29,7 +28,7 @@ returns-then-not-there-cut-clause-result_value c =
     let lent : Tables = tables c.args.groups.now c.args.tracks.now c.args.segments.now c.args.text.now in
     let right : Right (lent) = sym c.check-c.ensures ∙ ap said_of c.in-Fine.is in
     let asked : has_segments (lent) c.args.t.0 ≡ (ltb c.wide_word.result c.track_count.result && ltb 0 c.segments_in-cut.result) = λ i. ltb (sym c.wide_word.ensures.0 i) (sym c.track_count.ensures i) && ltb 0 (sym c.segments_in-cut.ensures i) in
-    says_absent (lent) _ _ _ (right) (asked ∙ not-true _ c.if-not-there-cut.true) _ c.refuse.ensures
+    says_absent (lent) _ _ _ (right) (asked ∙ c.if-not-there-cut.true) _ c.refuse.ensures
 
 pub returns-then-not-there-cut-clause-out_after : goal.returns-then-not-there-cut-clause-out_after
 returns-then-not-there-cut-clause-out_after c =
@@ -61,10 +60,9 @@ returns-else-not-there-cut-clause-result_value c =
     let lent : Tables = tables c.args.groups.now c.args.tracks.now c.args.segments.now c.args.text.now in
     let right : Right (lent) = sym c.check-c.ensures ∙ ap said_of c.in-Fine.is in
     let asked : has_segments (lent) c.args.t.0 ≡ (ltb c.wide_word.result c.track_count.result && ltb 0 c.segments_in-cut.result) = λ i. ltb (sym c.wide_word.ensures.0 i) (sym c.track_count.ensures i) && ltb 0 (sym c.segments_in-cut.ensures i) in
-
     let old = c.args.out.now in
     let octets : all_octets label_octets (map nameless c.starts-starts.result.now) ≡ segments_octets c.args.tracks.now c.args.segments.now c.args.t.0 = λ i. all_octets label_octets (map nameless (c.starts-starts.ensures i)) in
-    let said = c.fill_segments.ensures.result_value ∙ (λ i. room_said (octets i) (length old)) in says_room (lent) _ _ _ (right) (asked ∙ not-false _ c.if-not-there-cut.false) _ said
+    let said = c.fill_segments.ensures.result_value ∙ (λ i. room_said (octets i) (length old)) in says_room (lent) _ _ _ (right) (asked ∙ c.if-not-there-cut.false) _ said
 
 pub returns-else-not-there-cut-clause-out_after : goal.returns-else-not-there-cut-clause-out_after
 unfolding labels_of segments_octets
@@ -72,7 +70,6 @@ returns-else-not-there-cut-clause-out_after c =
     let lent : Tables = tables c.args.groups.now c.args.tracks.now c.args.segments.now c.args.text.now in
     let right : Right (lent) = sym c.check-c.ensures ∙ ap said_of c.in-Fine.is in
     let asked : has_segments (lent) c.args.t.0 ≡ (ltb c.wide_word.result c.track_count.result && ltb 0 c.segments_in-cut.result) = λ i. ltb (sym c.wide_word.ensures.0 i) (sym c.track_count.ensures i) && ltb 0 (sym c.segments_in-cut.ensures i) in
-
     let old = c.args.out.now in
     let octets : all_octets label_octets (map nameless c.starts-starts.result.now) ≡ segments_octets c.args.tracks.now c.args.segments.now c.args.t.0 = λ i. all_octets label_octets (map nameless (c.starts-starts.ensures i)) in
     let said = c.fill_segments.ensures.result_value ∙ (λ i. room_said (octets i) (length old)) in c.fill_segments.ensures.out_after ∙ (λ i. table_after (objects.said_of c.fill_segments.result) (octets i) old)

@@ -37,26 +37,22 @@ returns-then-a-gt244-clause-result_in_bounds c =
 pub returns-then-is_within-clause-value : goal.returns-then-is_within-clause-value
 returns-then-is_within-clause-value c =
     let tail : c.is_within.result ≡ is_tail (get_or c.args.s.now (c.args.at + 1) 0) = c.is_within.ensures ∙ ap is_tail c.octet_or_zero-b.ensures in
-
-    let b = c c in (char_there b.args.s.now b.args.at 2 b.pre (here 0 (sym (tail) ∙ c.if-is_within.true) refl ∙ sym (row_two _ _ _ _ (omega arith)))).0
+    (char_there c.args.s.now c.args.at 2 c.requires (here 0 (sym (tail) ∙ c.if-is_within.true) refl ∙ sym (row_two _ _ _ _ (omega arith)))).0
 
 pub returns-then-is_within-clause-result_in_bounds : goal.returns-then-is_within-clause-result_in_bounds
 returns-then-is_within-clause-result_in_bounds c =
     let tail : c.is_within.result ≡ is_tail (get_or c.args.s.now (c.args.at + 1) 0) = c.is_within.ensures ∙ ap is_tail c.octet_or_zero-b.ensures in
-
-    let b = c c in (char_there b.args.s.now b.args.at 2 b.pre (here 0 (sym (tail) ∙ c.if-is_within.true) refl ∙ sym (row_two _ _ _ _ (omega arith)))).1
+    (char_there c.args.s.now c.args.at 2 c.requires (here 0 (sym (tail) ∙ c.if-is_within.true) refl ∙ sym (row_two _ _ _ _ (omega arith)))).1
 
 pub returns-then-a-le223-clause-value : goal.returns-then-a-le223-clause-value
 returns-then-a-le223-clause-value c =
     let tail : c.is_within.result ≡ is_tail (get_or c.args.s.now (c.args.at + 1) 0) = c.is_within.ensures ∙ ap is_tail c.octet_or_zero-b.ensures in
-
-    let b = c c in (char_there b.args.s.now b.args.at 0 b.pre (past 2 (sym (tail) ∙ c.if-is_within.false) refl ∙ sym (row_two _ _ _ _ (omega arith)))).0
+    (char_there c.args.s.now c.args.at 0 c.requires (past 2 (sym (tail) ∙ c.if-is_within.false) refl ∙ sym (row_two _ _ _ _ (omega arith)))).0
 
 pub returns-then-a-le223-clause-result_in_bounds : goal.returns-then-a-le223-clause-result_in_bounds
 returns-then-a-le223-clause-result_in_bounds c =
     let tail : c.is_within.result ≡ is_tail (get_or c.args.s.now (c.args.at + 1) 0) = c.is_within.ensures ∙ ap is_tail c.octet_or_zero-b.ensures in
-
-    let b = c c in (char_there b.args.s.now b.args.at 0 b.pre (past 2 (sym (tail) ∙ c.if-is_within.false) refl ∙ sym (row_two _ _ _ _ (omega arith)))).1
+    (char_there c.args.s.now c.args.at 0 c.requires (past 2 (sym (tail) ∙ c.if-is_within.false) refl ∙ sym (row_two _ _ _ _ (omega arith)))).1
 
 pub char_of_three-requires : goal.char_of_three-requires
 char_of_three-requires c =
@@ -64,7 +60,6 @@ char_of_three-requires c =
 
 pub returns-then-a-le239-clause-value : goal.returns-then-a-le239-clause-value
 returns-then-a-le239-clause-value c =
-
     let s = c.args.s.now in
     let at = c.args.at in
     let eb = c.octet_or_zero-b.ensures in
@@ -72,7 +67,6 @@ returns-then-a-le239-clause-value c =
 
 pub returns-then-a-le239-clause-result_in_bounds : goal.returns-then-a-le239-clause-result_in_bounds
 returns-then-a-le239-clause-result_in_bounds c =
-
     let s = c.args.s.now in
     let at = c.args.at in
     let eb = c.octet_or_zero-b.ensures in
@@ -84,7 +78,6 @@ char_of_four-requires c =
 
 pub returns-clause-value : goal.returns-clause-value
 returns-clause-value c =
-
     let s = c.args.s.now in
     let at = c.args.at in
     let eb = c.octet_or_zero-b.ensures in
@@ -93,7 +86,6 @@ returns-clause-value c =
 
 pub returns-clause-result_in_bounds : goal.returns-clause-result_in_bounds
 returns-clause-result_in_bounds c =
-
     let s = c.args.s.now in
     let at = c.args.at in
     let eb = c.octet_or_zero-b.ensures in
