@@ -6,7 +6,7 @@ use Rattle.player_walk.specs.Steps.{at}
 use Rattle.player_groups.specs.Family.{is_sibling}
 use Rattle.player_groups.proofs.Scan.{all_left, found, nearer, skipped, search_ends}
 use borrow.Author.Rules.{rules}
-use Rattle.player_groups.proofs.nth_sibling.Goals.{then-found, else-found}
+use Rattle.player_groups.proofs.nth_sibling.Goals.{then-found+else-left-eq0, else-found}
 use Rattle.player_groups.proofs.nth_sibling.Goals as goal
 
 pub loop-i-init : goal.loop-i-init
@@ -25,7 +25,7 @@ loop-i-preserved c =
     let h = c.loop-i-test.true in (
       search rules,
       elim c.if-found.branch
-      [ then-found w ↦ nearer test _ l.i l.left _ l.invariant.1 h c.if-found.left (sym c.is_sibling-found.ensures ∙ w.if-found.true) w.if-left-eq0.false w.left-is
+      [ then-found+else-left-eq0 w ↦ nearer test _ l.i l.left _ l.invariant.1 h c.if-found.left (sym c.is_sibling-found.ensures ∙ w.if-found.true) w.if-left-eq0.false w.left-is
       | else-found w ↦ skipped test _ l.i l.left _ l.invariant.1 h c.if-found.left (sym c.is_sibling-found.ensures ∙ w.if-found.false) w.left-is
       ],
     )
