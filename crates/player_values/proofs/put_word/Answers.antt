@@ -6,9 +6,9 @@ use Rattle.player_values.proofs.put_word.Goals as goal
 pub returns-clause-value : goal.returns-clause-value
 unfolding word_octets
 returns-clause-value c =
-    (c.put.ensures).0
+    c.put.ensures.value
 
 pub returns-clause-out_after : goal.returns-clause-out_after
 unfolding word_octets
 returns-clause-out_after c =
-    (c.put.ensures).1
+    c.put.ensures.out_after
