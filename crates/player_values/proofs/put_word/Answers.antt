@@ -3,6 +3,11 @@ use Rattle.player_values.specs.Values.{word_octets}
 use borrow.Author.Rules.{rules}
 use Rattle.player_values.proofs.put_word.Goals as goal
 
+pub put-requires-clause-from_in_bounds : goal.put-requires-clause-from_in_bounds
+unfolding word_octets
+put-requires-clause-from_in_bounds c =
+    c.requires.from_in_bounds
+
 pub returns-clause-value : goal.returns-clause-value
 unfolding word_octets
 returns-clause-value c =
