@@ -24,9 +24,9 @@ loop-i-preserved c =
     let test = is_sibling c.args.groups.now c.args.g.0 in
     let h = c.loop-i-test.true in (
       search rules,
-      elim c.if-found.branch
-      [ then-found+else-left-eq0 w ↦ nearer test _ l.i l.left _ l.invariant.1 h c.if-found.left (sym c.is_sibling-found.ensures ∙ w.if-found.true) w.if-left-eq0.false w.left-is
-      | else-found w ↦ skipped test _ l.i l.left _ l.invariant.1 h c.if-found.left (sym c.is_sibling-found.ensures ∙ w.if-found.false) w.left-is
+      elim c.if-found.branch [
+        | then-found+else-left-eq0 w ↦ nearer test _ l.i l.left _ l.invariant.1 h c.if-found.left (sym c.is_sibling-found.ensures ∙ w.if-found.true) w.if-left-eq0.false w.left-is
+        | else-found w ↦ skipped test _ l.i l.left _ l.invariant.1 h c.if-found.left (sym c.is_sibling-found.ensures ∙ w.if-found.false) w.left-is
       ],
     )
 

@@ -20,9 +20,9 @@ loop-i-preserved c =
     let l = c.loop-i in
     let test = is_sibling c.args.groups.now c.args.g.0 in
     let h = c.loop-i-test.true in
-    elim c.if-found.branch
-    [ then-found w ↦ (omega arith, omega (arith, w.n-is), counted test _ l.i l.n _ l.invariant.2 h c.if-found.n (sym c.is_sibling-found.ensures ∙ w.if-found.true) w.n-is)
-    | else-found w ↦ (omega arith, omega (arith, w.n-is), passed test _ l.i l.n _ l.invariant.2 h c.if-found.n (sym c.is_sibling-found.ensures ∙ w.if-found.false) w.n-is)
+    elim c.if-found.branch [
+      | then-found w ↦ (omega arith, omega (arith, w.n-is), counted test _ l.i l.n _ l.invariant.2 h c.if-found.n (sym c.is_sibling-found.ensures ∙ w.if-found.true) w.n-is)
+      | else-found w ↦ (omega arith, omega (arith, w.n-is), passed test _ l.i l.n _ l.invariant.2 h c.if-found.n (sym c.is_sibling-found.ensures ∙ w.if-found.false) w.n-is)
     ]
 
 pub returns : goal.returns

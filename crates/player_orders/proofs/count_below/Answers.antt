@@ -16,9 +16,9 @@ loop-i-init c =
 
 pub loop-i-preserved : goal.loop-i-preserved
 loop-i-preserved c =
-    elim c.if-less.branch
-    [ then-less w ↦ (search rules, search rules, search rules, rw w.n-is (counts _ _ _ _ _ _ _ c.loop-i-test.true c.key-y.ensures.0 c.loop-i.invariant.3 (lt-ltb _ _ w.if-less.true)))
-    | else-less w ↦ (search rules, search rules, search rules, rw w.n-is (passes _ _ _ _ _ _ _ c.loop-i-test.true c.key-y.ensures.0 c.loop-i.invariant.3 (le-ltb _ _ w.if-less.false)))
+    elim c.if-less.branch [
+      | then-less w ↦ (search rules, search rules, search rules, rw w.n-is (counts _ _ _ _ _ _ _ c.loop-i-test.true c.key-y.ensures.0 c.loop-i.invariant.3 (lt-ltb _ _ w.if-less.true)))
+      | else-less w ↦ (search rules, search rules, search rules, rw w.n-is (passes _ _ _ _ _ _ _ c.loop-i-test.true c.key-y.ensures.0 c.loop-i.invariant.3 (le-ltb _ _ w.if-less.false)))
     ]
 
 pub returns : goal.returns
