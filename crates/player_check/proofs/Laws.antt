@@ -222,12 +222,12 @@ module _ (groups tracks : List ℕ) (p : Player) where
 
     -- an inactive one has none
     module _ (none : media ≡ inactive) where
-      no_place : no_place p.place ≡ true
+      no_place_lem : no_place p.place ≡ true
       unfolding place_rule
-      no_place = left_over (some_place groups tracks p.place) (no_place p.place) (le-ltb inactive media (omega arith)) place_kept
+      no_place_lem = left_over (some_place groups tracks p.place) (no_place p.place) (le-ltb inactive media (omega arith)) place_kept
 
       no_group_and_track : (eqb group 0 && eqb track 0) ≡ true
-      no_group_and_track = and_left (eqb group 0 && eqb track 0) (eqb position 0) no_place
+      no_group_and_track = and_left (eqb group 0 && eqb track 0) (eqb position 0) no_place_lem
 
       pub no_group : group ≡ 0
       no_group = eqb-true _ _ (and_left (eqb group 0) (eqb track 0) no_group_and_track)
@@ -236,7 +236,7 @@ module _ (groups tracks : List ℕ) (p : Player) where
       no_track = eqb-true _ _ (and_right (eqb group 0) (eqb track 0) no_group_and_track)
 
       pub no_position : position ≡ 0
-      no_position = eqb-true _ _ (and_right (eqb group 0 && eqb track 0) (eqb position 0) no_place)
+      no_position = eqb-true _ _ (and_right (eqb group 0 && eqb track 0) (eqb position 0) no_place_lem)
 
       pub no_speed : p.mode.seeking ≡ 0
       no_speed = speed_none (λ e. omega arith)

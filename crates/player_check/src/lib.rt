@@ -1,5 +1,6 @@
 // Whether a state of the player stands in a catalogue (SCOPE 20.5). Any state and any tables are taken.
 #![tactic(auto)]
+
 ghost use Rattle.std.specs.Prelude.{◌≡◌, ◌∷◌, []};
 ghost use Rattle.ground.specs.Refusals.{said_by};
 ghost use Rattle.text.specs.Utf8.{said_of};

@@ -1,5 +1,6 @@
 // The clock: how far a step of wall time goes at a playback speed (SCOPE 13.2, 13.3).
 #![tactic(auto)]
+
 ghost use Rattle.std.specs.Prelude.{◌≡◌, true, min, ◌<◌, length};
 ghost use Rattle.ground.specs.Limits.{most_duration};
 ghost use Rattle.player_clock.specs.Clock.{table_rule, factor_of, rest_rule, stepped_by, stepped};

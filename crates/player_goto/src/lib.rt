@@ -1,5 +1,6 @@
 // The manual's Goto of a player (SCOPE 15), over a catalogue that passes its check and a state that stands in it: what the three Gotos come to by single steps.
 #![tactic(auto)]
+
 ghost use Rattle.std.specs.Prelude.{◌≡◌, true, ◌&&◌, ℕ};
 ghost use Rattle.catalogue_tables.specs.Tables.{starts_of, end_of};
 ghost use Rattle.player_groups.specs.Family.{Current};

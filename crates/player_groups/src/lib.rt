@@ -1,5 +1,6 @@
 // Group moves: along the groups of one parent (SCOPE 12.1, 12.2).
 #![tactic(auto)]
+
 ghost use Rattle.std.specs.Prelude.{◌≡◌, false, ◌≤◌, length};
 ghost use Rattle.ground.specs.Limits.{most_groups};
 ghost use Rattle.ground.specs.Lists.{span, those};

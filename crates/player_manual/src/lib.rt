@@ -1,5 +1,6 @@
 // The manual's Goto on the places of a list (SCOPE 15): First or Last and then each step, as many as are allowed. A turn of the loop makes and counts one.
 #![tactic(auto)]
+
 ghost use Rattle.std.specs.Prelude.{◌≡◌, ◌-◌, ◌<◌};
 ghost use Rattle.player_walk.specs.Places.{place_after};
 ghost use Rattle.player_manual.specs.Made.{more, steps, from_end, by_steps};

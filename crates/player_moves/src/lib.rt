@@ -1,5 +1,6 @@
 // What the opcodes, the clock and the writes do to the player (SCOPE 8 to 14), over a catalogue that passes its check and a state that stands in it.
 #![tactic(auto)]
+
 ghost use Rattle.std.specs.Prelude.{◌≡◌, true, ℕ, ◌<◌};
 ghost use Rattle.player_state.specs.Player.{at_position};
 ghost use Rattle.player_state.specs.Positions.{held_sum};

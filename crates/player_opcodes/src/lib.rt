@@ -1,5 +1,6 @@
 // The opcodes of the control point (SCOPE 9.1 to 9.3).
 #![tactic(auto)]
+
 ghost use Rattle.std.specs.Prelude.{◌≡◌, ◌≤◌};
 ghost use Rattle.player_opcodes.specs.Opcodes.{mask_bit, offered, parameter_length, step_of, action_of};
 

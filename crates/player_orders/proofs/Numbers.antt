@@ -24,6 +24,7 @@ stands tracks i (suc n) = ap (insert (comes_before Number tracks) i) (stands tra
     in_front (suc m) = rw (le-ltb (suc i) i (omega arith))
 
 span_at : (i n k : ℕ) → k < n → get_or (span i n) k 0 ≡ i + k
+span_at i zero k h = elim h [ ]
 span_at i (suc n) zero h = omega arith
 span_at i (suc n) (suc k) h = span_at (suc i) n k (omega arith) ∙ omega arith
 

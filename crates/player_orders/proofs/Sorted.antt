@@ -40,6 +40,7 @@ all_at P (x ∷ l) zero a h = a.0
 all_at P (x ∷ l) (suc k) a h = all_at P l k a.1 (le_of_suc-le-suc h)
 
 pub in_index : (t : ℕ) (l : List ℕ) → In t l → (k : ℕ) × (k < length l) × (get_or l k 0 ≡ t)
+in_index t [] h = elim h [ ]
 in_index t (u ∷ l) (inl e) = (zero, omega arith, sym e)
 in_index t (u ∷ l) (inr m) = let r = in_index t l m in (suc r.0, suc-le-suc r.1, r.2)
 
@@ -84,6 +85,7 @@ module _ (before : ℕ → ℕ → Bool) where
       go false h r = h
 
   pub sort_in : (x : ℕ) (l : List ℕ) → In x l → In x (sort before l)
+  sort_in x [] h = elim h [ ]
   sort_in x (t ∷ l) (inl e) = insert_in x t (sort before l) (inl e)
   sort_in x (t ∷ l) (inr m) = insert_in x t (sort before l) (inr (sort_in x l m))
 

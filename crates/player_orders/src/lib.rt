@@ -1,5 +1,6 @@
 // The playing orders: moves along the current group's tracks (SCOPE 11.1 to 11.6).
 #![tactic(auto)]
+
 ghost use Rattle.std.specs.Prelude.{◌≡◌, ◌+◌, ◌-◌, ◌*◌, ◌<◌, ◌≤◌, ltb, length};
 ghost use Rattle.ground.specs.Cases.{pick};
 ghost use Rattle.ground.specs.Limits.{track_words};

@@ -1,5 +1,6 @@
 // Moves along the segments of a track (SCOPE 10).
 #![tactic(auto)]
+
 ghost use Rattle.std.specs.Prelude.{◌≡◌};
 ghost use Rattle.player_walk.specs.declared.Step.TheVariants.{Goto};
 ghost use Rattle.player_segments.specs.Segments.{previous_start, next_start, segment_starts, segment_move, near_position, Rising, Past, Cut};

@@ -1,5 +1,6 @@
 // The player's state, and what alters it without a look at the catalogue (SCOPE 8 and 9).
 #![tactic(auto)]
+
 ghost use Rattle.std.specs.Prelude.{◌≡◌, min, ◌-◌, ◌≤◌, ◌<◌, length};
 ghost use Rattle.ground.specs.Limits.{most_title};
 ghost use Rattle.ground.specs.Lists.{filled};

@@ -1,6 +1,7 @@
 // The manual's Goto along tracks, groups and segments (SCOPE 15). Tracks and groups are walked on their places, and what stands at the last place is looked up
 // once. Segments are walked from position to position.
 #![tactic(auto)]
+
 ghost use Rattle.std.specs.Prelude.{◌≡◌, ◌-◌, ◌<◌, length};
 ghost use Rattle.player_walk.specs.Steps.{at, place};
 ghost use Rattle.player_manual.specs.Made.{more, steps, from_end, by_steps};

@@ -1,5 +1,6 @@
 // The values of the characteristics (SCOPE 16): a part of each, put over the front of lent octets; and how many octets each value has.
 #![tactic(auto)]
+
 ghost use Rattle.std.specs.Prelude.{◌≡◌, ◌≤◌, ◌<◌, min, ◌∷◌, [], length};
 ghost use Rattle.ground.specs.Limits.{most_title};
 ghost use Rattle.ground.specs.Lists.{filled, part_from};

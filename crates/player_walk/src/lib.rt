@@ -1,5 +1,6 @@
 // The five moves along a list of any kind, on the places of its elements (SCOPE 10.6, 11.5, 11.6).
 #![tactic(auto)]
+
 ghost use Rattle.std.specs.Prelude.{◌≡◌, ◌<◌};
 ghost use Rattle.player_walk.specs.Signed.{signed_word, is_negative};
 ghost use Rattle.player_walk.specs.Places.{way_of, wrap, mirror, goto_place, place_after};

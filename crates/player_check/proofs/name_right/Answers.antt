@@ -29,6 +29,6 @@ pub returns : goal.returns
 unfolding name_rule
 returns c =
     let n = c.args.name in
-    let short : leb n.len most_title ≡ true = le-leb _ _ c.if1.false in
+    let short : leb n.len most_title ≡ true = le-leb _ _ c.if-n-gt-MOST_TITLE.false in
     simp short
     (c.is_text.ensures ∙ ap (λ (len : ℕ). is_fine (text_of (take len n.octets))) (sub-zero n.len))

@@ -12,12 +12,12 @@ use Rattle.player_goto.proofs.goto_by_steps.Goals as goal
 pub returns-then-not-is_offered_goto : goal.returns-then-not-is_offered_goto
 unfolding gone
 returns-then-not-is_offered_goto c =
-    here _ (ap not (sym c.is_offered_goto.ensures) ∙ c.if-not-is_offered_goto.true) refl
+    here _ (ap not (sym c.is_offered_goto.ensures ∙ c.if-not-is_offered_goto.true)) refl
 
 pub returns-then-p-eq-INACTIVE : goal.returns-then-p-eq-INACTIVE
 unfolding gone
 returns-then-p-eq-INACTIVE c =
-    past _ (ap not (sym c.is_offered_goto.ensures) ∙ c.if-not-is_offered_goto.false) (here _ (ap (λ (t : Bool). not (not t)) (eq-eqb _ _ c.if-p-eq-INACTIVE.true)) refl)
+    past _ (ap not (sym c.is_offered_goto.ensures ∙ c.if-not-is_offered_goto.false)) (here _ (ap (λ (t : Bool). not (not t)) (eq-eqb _ _ c.if-p-eq-INACTIVE.true)) refl)
 
 pub goto_segment-requires-clause-rising : goal.goto_segment-requires-clause-rising
 goto_segment-requires-clause-rising c =
@@ -30,7 +30,7 @@ goto_segment-requires-clause-below c =
 pub returns-then-opcode-eq-GOTO_SEGMENT : goal.returns-then-opcode-eq-GOTO_SEGMENT
 unfolding gone
 returns-then-opcode-eq-GOTO_SEGMENT c =
-    past _ (ap not (sym c.is_offered_goto.ensures) ∙ c.if-not-is_offered_goto.false)
+    past _ (ap not (sym c.is_offered_goto.ensures ∙ c.if-not-is_offered_goto.false))
     (past _ (ap (λ (t : Bool). not (not t)) (ne_eqb _ _ c.if-p-eq-INACTIVE.false))
     (here _ (eq-eqb _ _ c.if-opcode-eq-GOTO_SEGMENT.true) c.goto_segment.ensures))
 
@@ -41,7 +41,7 @@ goto_track-requires c =
 pub returns-then-opcode-eq-GOTO_TRACK : goal.returns-then-opcode-eq-GOTO_TRACK
 unfolding gone
 returns-then-opcode-eq-GOTO_TRACK c =
-    past _ (ap not (sym c.is_offered_goto.ensures) ∙ c.if-not-is_offered_goto.false)
+    past _ (ap not (sym c.is_offered_goto.ensures ∙ c.if-not-is_offered_goto.false))
     (past _ (ap (λ (t : Bool). not (not t)) (ne_eqb _ _ c.if-p-eq-INACTIVE.false))
     (past _ (ne_eqb _ _ c.if-opcode-eq-GOTO_SEGMENT.false)
     (here _ (eq-eqb _ _ c.if-opcode-eq-GOTO_TRACK.true) c.goto_track.ensures)))
@@ -57,7 +57,7 @@ goto_group-requires-clause-by_index c =
 pub returns : goal.returns
 unfolding gone
 returns c =
-    past _ (ap not (sym c.is_offered_goto.ensures) ∙ c.if-not-is_offered_goto.false)
+    past _ (ap not (sym c.is_offered_goto.ensures ∙ c.if-not-is_offered_goto.false))
     (past _ (ap (λ (t : Bool). not (not t)) (ne_eqb _ _ c.if-p-eq-INACTIVE.false))
     (past _ (ne_eqb _ _ c.if-opcode-eq-GOTO_SEGMENT.false)
     (past _ (ne_eqb _ _ c.if-opcode-eq-GOTO_TRACK.false) c.goto_group.ensures)))

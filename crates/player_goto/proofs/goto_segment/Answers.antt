@@ -22,17 +22,13 @@ returns-then-n-eq0 c =
 
 pub goto_segment-made-requires-clause-rising : goal.goto_segment-made-requires-clause-rising
 goto_segment-made-requires-clause-rising c =
-
-    let tracks = c.args.tracks.now in
-    let t = c.args.p.place.track.0 in rw (c.starts-starts.ensures, c.past_last-past.ensures)
-    (c.requires.rising, past_starts tracks t (starts_of tracks c.args.segments.now t) c.requires.below)
+    rw c.starts-starts.ensures c.requires.rising
 
 pub goto_segment-made-requires-clause-past : goal.goto_segment-made-requires-clause-past
 goto_segment-made-requires-clause-past c =
-
     let tracks = c.args.tracks.now in
-    let t = c.args.p.place.track.0 in rw (c.starts-starts.ensures, c.past_last-past.ensures)
-    (c.requires.rising, past_starts tracks t (starts_of tracks c.args.segments.now t) c.requires.below)
+    let t = c.args.p.place.track.0 in
+    rw (c.starts-starts.ensures, c.past_last-past.ensures) (past_starts tracks t (starts_of tracks c.args.segments.now t) c.requires.below)
 
 pub returns-in-All : goal.returns-in-All
 unfolding segment_after segment_gone

@@ -1,12 +1,12 @@
 -- `player_groups::nth_sibling`: what is sought among the rest is what is sought among all.
 use mathlib.Core.Path.{◌≡◌, sym, ◌∙◌}
-use mathlib.Core.Logic.{⊎_elim}
 use Prim.Native.Nat.{◌-◌, ◌≤◌}
 use Rattle.ground.specs.Lists.{span, those}
 use Rattle.player_walk.specs.Steps.{at}
 use Rattle.player_groups.specs.Family.{is_sibling}
 use Rattle.player_groups.proofs.Scan.{all_left, found, nearer, skipped, search_ends}
 use borrow.Author.Rules.{rules}
+use Rattle.player_groups.proofs.nth_sibling.Goals.{then-found+else-left-eq0, else-found}
 use Rattle.player_groups.proofs.nth_sibling.Goals as goal
 
 pub loop-i-init : goal.loop-i-init
@@ -24,10 +24,10 @@ loop-i-preserved c =
     let test = is_sibling c.args.groups.now c.args.g.0 in
     let h = c.loop-i-test.true in (
       search rules,
-      ⊎_elim
-          (λ w. nearer test _ l.i l.left _ l.invariant.1 h c.if-found.false (sym c.is_sibling-found.ensures ∙ w.0.taken) w.1.left w.2)
-          (λ w. skipped test _ l.i l.left _ l.invariant.1 h c.if-found.false (sym c.is_sibling-found.ensures ∙ w.0.left) w.1)
-          c.if-found.branch,
+      elim c.if-found.branch [
+        | then-found+else-left-eq0 w ↦ nearer test _ l.i l.left _ l.invariant.1 h c.if-found.left (sym c.is_sibling-found.ensures ∙ w.if-found.true) w.if-left-eq0.false w.left-is
+        | else-found w ↦ skipped test _ l.i l.left _ l.invariant.1 h c.if-found.left (sym c.is_sibling-found.ensures ∙ w.if-found.false) w.left-is
+      ],
     )
 
 pub returns : goal.returns

@@ -1,6 +1,5 @@
 -- `player_groups::siblings_below`: what is counted and what is left to count make up all of them.
 use mathlib.Core.Path.{◌≡◌, sym, ◌∙◌}
-use mathlib.Core.Logic.{⊎_elim}
 use Prim.Native.Nat.{◌+◌, ◌-◌, ◌≤◌}
 use native.Mathlib.Nat.{zero-add}
 use native.Mathlib.Omega.{arith}
@@ -9,6 +8,7 @@ use Rattle.ground.specs.Lists.{span, those}
 use Rattle.player_groups.specs.Family.{is_sibling}
 use Rattle.player_groups.proofs.Scan.{all_left, counted, passed, count_ends}
 use borrow.Author.Rules.{rules}
+use Rattle.player_groups.proofs.siblings_below.Goals.{then-found, else-found}
 use Rattle.player_groups.proofs.siblings_below.Goals as goal
 
 pub loop-i-init : goal.loop-i-init
@@ -20,10 +20,10 @@ loop-i-preserved c =
     let l = c.loop-i in
     let test = is_sibling c.args.groups.now c.args.g.0 in
     let h = c.loop-i-test.true in
-    ⊎_elim
-    (λ w. (omega arith, omega (arith, w.1), counted test _ l.i l.n _ l.invariant.2 h c.if-found.n (sym c.is_sibling-found.ensures ∙ w.0.taken) w.1))
-    (λ w. (omega arith, omega (arith, w.1), passed test _ l.i l.n _ l.invariant.2 h c.if-found.n (sym c.is_sibling-found.ensures ∙ w.0.left) w.1))
-    c.if-found.branch
+    elim c.if-found.branch [
+      | then-found w ↦ (omega arith, omega (arith, w.n-is), counted test _ l.i l.n _ l.invariant.2 h c.if-found.n (sym c.is_sibling-found.ensures ∙ w.if-found.true) w.n-is)
+      | else-found w ↦ (omega arith, omega (arith, w.n-is), passed test _ l.i l.n _ l.invariant.2 h c.if-found.n (sym c.is_sibling-found.ensures ∙ w.if-found.false) w.n-is)
+    ]
 
 pub returns : goal.returns
 returns c =

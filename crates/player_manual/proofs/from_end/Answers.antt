@@ -12,12 +12,10 @@ returns-then-allowed-eq0 c =
 
 pub steps_on-requires-clause-k_lt_len : goal.steps_on-requires-clause-k_lt_len
 steps_on-requires-clause-k_lt_len c =
-
     let a = c.args in stays a.len a.end a.repeat a.k _ (omega arith) (sym c.place_after-p.ensures ∙ c.in-At.is)
 
 pub steps_on-requires-clause-allowed_nonzero : goal.steps_on-requires-clause-allowed_nonzero
 steps_on-requires-clause-allowed_nonzero c =
-
     let a = c.args in omega arith
 
 pub returns-in-At : goal.returns-in-At

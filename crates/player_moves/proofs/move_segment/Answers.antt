@@ -14,17 +14,13 @@ use Rattle.player_moves.proofs.move_segment.Goals as goal
 
 pub segment_after-near-requires-clause-rising : goal.segment_after-near-requires-clause-rising
 segment_after-near-requires-clause-rising c =
-
-    let tracks = c.args.tracks.now in
-    let t = c.args.p.place.track.0 in rw (c.starts-starts.ensures, c.past_last-past.ensures)
-    (c.requires.rising, past_starts tracks t (starts_of tracks c.args.segments.now t) c.requires.below)
+    rw c.starts-starts.ensures c.requires.rising
 
 pub segment_after-near-requires-clause-past : goal.segment_after-near-requires-clause-past
 segment_after-near-requires-clause-past c =
-
     let tracks = c.args.tracks.now in
-    let t = c.args.p.place.track.0 in rw (c.starts-starts.ensures, c.past_last-past.ensures)
-    (c.requires.rising, past_starts tracks t (starts_of tracks c.args.segments.now t) c.requires.below)
+    let t = c.args.p.place.track.0 in
+    rw (c.starts-starts.ensures, c.past_last-past.ensures) (past_starts tracks t (starts_of tracks c.args.segments.now t) c.requires.below)
 
 pub returns-then-nothing : goal.returns-then-nothing
 returns-then-nothing c =

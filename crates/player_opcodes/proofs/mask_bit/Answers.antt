@@ -37,7 +37,7 @@ returns-in_default c =
 pub returns-in_default-2 : goal.returns-in_default-2
 returns-in_default-2 c =
     let o = c.args.opcode in
-    (bit_none o (before_segment o (omega arith) (omega arith) c.in_default-1.rest.1), omega arith)
+    (bit_none o (before_segment o (omega arith) (omega arith) (λ e. omega arith)), omega arith)
 
 pub returns-in_default-3 : goal.returns-in_default-3
 returns-in_default-3 c =

@@ -37,22 +37,19 @@ returns-in_default c =
 pub returns-in_default-2 : goal.returns-in_default-2
 returns-in_default-2 c =
     let o = c.args.opcode in
-    length_none o (before_segment o (omega arith) (omega arith) (λ e. c.in_default-1.rest.1 (inl e)))
+    length_none o (before_segment o (omega arith) (omega arith) (λ e. grind arith))
 
 pub returns-in_default-3 : goal.returns-in_default-3
 returns-in_default-3 c =
     let o = c.args.opcode in
-    let other : o ≡ 0x24 → ⊥ = λ e. c.in_default-1.rest.1 (inr (inl e)) in
-    length_none o (before_track o (omega arith) (omega arith))
+    length_none o (before_track o (grind arith) (omega arith))
 
 pub returns-in_default-4 : goal.returns-in_default-4
 returns-in_default-4 c =
     let o = c.args.opcode in
-    let other : o ≡ 0x34 → ⊥ = λ e. c.in_default-1.rest.1 (inr (inr (inl e))) in
-    length_none o (before_group o (omega arith) (omega arith))
+    length_none o (before_group o (grind arith) (omega arith))
 
 pub returns-in_default-5 : goal.returns-in_default-5
 returns-in_default-5 c =
     let o = c.args.opcode in
-    let other : o ≡ 0x44 → ⊥ = λ e. c.in_default-1.rest.1 (inr (inr (inr e))) in
-    length_none o (back o (omega arith))
+    length_none o (back o (grind arith))

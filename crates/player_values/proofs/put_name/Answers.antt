@@ -17,8 +17,8 @@ put-requires-clause-from_in_bounds c =
 
 pub returns-clause-value : goal.returns-clause-value
 returns-clause-value c =
-    rw sub-zero at c.put.ensures
+    rw sub-zero at c.put.ensures.value
 
 pub returns-clause-out_after : goal.returns-clause-out_after
 returns-clause-out_after c =
-    rw sub-zero at c.put.ensures
+    rw sub-zero at c.put.ensures.out_after

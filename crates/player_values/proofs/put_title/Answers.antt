@@ -15,8 +15,8 @@ put-requires-clause-from_in_bounds c =
 
 pub returns-clause-value : goal.returns-clause-value
 returns-clause-value c =
-    rw (sym c.title_of-title.ensures) c.put.ensures
+    rw (sym c.title_of-title.ensures) c.put.ensures.value
 
 pub returns-clause-out_after : goal.returns-clause-out_after
 returns-clause-out_after c =
-    rw (sym c.title_of-title.ensures) c.put.ensures
+    rw (sym c.title_of-title.ensures) c.put.ensures.out_after

@@ -143,175 +143,173 @@ put_octet-requires-in-22-clause-from_in_bounds c =
 pub returns-in-1-clause-value : goal.returns-in-1-clause-value
 unfolding value_of
 returns-in-1-clause-value c =
-    rw c.in-1.is c.put_name.ensures
+    rw c.in-1.is c.put_name.ensures.value
 
 pub returns-in-1-clause-out_after : goal.returns-in-1-clause-out_after
 unfolding value_of
 returns-in-1-clause-out_after c =
-    rw c.in-1.is c.put_name.ensures
+    rw c.in-1.is c.put_name.ensures.out_after
 
 pub returns-in-5-clause-value : goal.returns-in-5-clause-value
 unfolding value_of
 returns-in-5-clause-value c =
-    rw c.in-5.is c.put_title.ensures
+    rw c.in-5.is c.put_title.ensures.value
 
 pub returns-in-5-clause-out_after : goal.returns-in-5-clause-out_after
 unfolding value_of
 returns-in-5-clause-out_after c =
-    rw c.in-5.is c.put_title.ensures
+    rw c.in-5.is c.put_title.ensures.out_after
 
 pub returns-in-6-clause-value : goal.returns-in-6-clause-value
 unfolding value_of
 returns-in-6-clause-value c =
-    rw (c.in-6.is, ← c.duration_word.ensures) c.put_word.ensures
+    rw (c.in-6.is, ← c.duration_word.ensures) c.put_word.ensures.value
 
 pub returns-in-6-clause-out_after : goal.returns-in-6-clause-out_after
 unfolding value_of
 returns-in-6-clause-out_after c =
-    rw (c.in-6.is, ← c.duration_word.ensures) c.put_word.ensures
+    rw (c.in-6.is, ← c.duration_word.ensures) c.put_word.ensures.out_after
 
 pub returns-in-7-clause-value : goal.returns-in-7-clause-value
 unfolding value_of
 returns-in-7-clause-value c =
-    rw (c.in-7.is, ← c.position_word.ensures) c.put_word-in-7.ensures
+    rw (c.in-7.is, ← c.position_word.ensures) c.put_word-in-7.ensures.value
 
 pub returns-in-7-clause-out_after : goal.returns-in-7-clause-out_after
 unfolding value_of
 returns-in-7-clause-out_after c =
-    rw (c.in-7.is, ← c.position_word.ensures) c.put_word-in-7.ensures
+    rw (c.in-7.is, ← c.position_word.ensures) c.put_word-in-7.ensures.out_after
 
 pub returns-in-8-clause-value : goal.returns-in-8-clause-value
 unfolding value_of
 returns-in-8-clause-value c =
-    rw c.in-8.is c.put_octet.ensures
+    rw c.in-8.is c.put_octet.ensures.value
 
 pub returns-in-8-clause-out_after : goal.returns-in-8-clause-out_after
 unfolding value_of
 returns-in-8-clause-out_after c =
-    rw c.in-8.is c.put_octet.ensures
+    rw c.in-8.is c.put_octet.ensures.out_after
 
 pub returns-in-9-clause-value : goal.returns-in-9-clause-value
 unfolding value_of
 returns-in-9-clause-value c =
-    rw c.in-9.is c.put_octet-in-9.ensures
+    rw c.in-9.is c.put_octet-in-9.ensures.value
 
 pub returns-in-9-clause-out_after : goal.returns-in-9-clause-out_after
 unfolding value_of
 returns-in-9-clause-out_after c =
-    rw c.in-9.is c.put_octet-in-9.ensures
+    rw c.in-9.is c.put_octet-in-9.ensures.out_after
 
 pub returns-in-10-clause-value : goal.returns-in-10-clause-value
 unfolding value_of
 returns-in-10-clause-value c =
-    rw (c.in-10.is, ← c.segments_now.ensures.0) c.put_object.ensures
+    rw (c.in-10.is, ← c.segments_now.ensures.0) c.put_object.ensures.value
 
 pub returns-in-10-clause-out_after : goal.returns-in-10-clause-out_after
 unfolding value_of
 returns-in-10-clause-out_after c =
-    rw (c.in-10.is, ← c.segments_now.ensures.0) c.put_object.ensures
+    rw (c.in-10.is, ← c.segments_now.ensures.0) c.put_object.ensures.out_after
 
 pub returns-in-11-clause-value : goal.returns-in-11-clause-value
 unfolding value_of
 returns-in-11-clause-value c =
-    rw (c.in-11.is, ← c.track_now.ensures.0) c.put_object-in-11.ensures
+    rw (c.in-11.is, ← c.track_now.ensures.0) c.put_object-in-11.ensures.value
 
 pub returns-in-11-clause-out_after : goal.returns-in-11-clause-out_after
 unfolding value_of
 returns-in-11-clause-out_after c =
-    rw (c.in-11.is, ← c.track_now.ensures.0) c.put_object-in-11.ensures
+    rw (c.in-11.is, ← c.track_now.ensures.0) c.put_object-in-11.ensures.out_after
 
 pub returns-in-12-clause-value : goal.returns-in-12-clause-value
 unfolding value_of
 returns-in-12-clause-value c =
-    rw (c.in-12.is, ← c.next_now.ensures.0) c.put_object-in-12.ensures
+    rw (c.in-12.is, ← c.next_now.ensures.0) c.put_object-in-12.ensures.value
 
 pub returns-in-12-clause-out_after : goal.returns-in-12-clause-out_after
 unfolding value_of
 returns-in-12-clause-out_after c =
-    rw (c.in-12.is, ← c.next_now.ensures.0) c.put_object-in-12.ensures
+    rw (c.in-12.is, ← c.next_now.ensures.0) c.put_object-in-12.ensures.out_after
 
 pub returns-in-13-clause-value : goal.returns-in-13-clause-value
 unfolding value_of
 returns-in-13-clause-value c =
-    rw (c.in-13.is, ← c.parent_now.ensures.0) c.put_object-in-13.ensures
+    rw (c.in-13.is, ← c.parent_now.ensures.0) c.put_object-in-13.ensures.value
 
 pub returns-in-13-clause-out_after : goal.returns-in-13-clause-out_after
 unfolding value_of
 returns-in-13-clause-out_after c =
-    rw (c.in-13.is, ← c.parent_now.ensures.0) c.put_object-in-13.ensures
+    rw (c.in-13.is, ← c.parent_now.ensures.0) c.put_object-in-13.ensures.out_after
 
 pub returns-in-14-clause-value : goal.returns-in-14-clause-value
 unfolding value_of
 returns-in-14-clause-value c =
-    rw (c.in-14.is, ← c.group_now.ensures.0) c.put_object-in-14.ensures
+    rw (c.in-14.is, ← c.group_now.ensures.0) c.put_object-in-14.ensures.value
 
 pub returns-in-14-clause-out_after : goal.returns-in-14-clause-out_after
 unfolding value_of
 returns-in-14-clause-out_after c =
-    rw (c.in-14.is, ← c.group_now.ensures.0) c.put_object-in-14.ensures
+    rw (c.in-14.is, ← c.group_now.ensures.0) c.put_object-in-14.ensures.out_after
 
 pub returns-in-15-clause-value : goal.returns-in-15-clause-value
 unfolding value_of
 returns-in-15-clause-value c =
-    rw c.in-15.is c.put_octet-in-15.ensures
+    rw c.in-15.is c.put_octet-in-15.ensures.value
 
 pub returns-in-15-clause-out_after : goal.returns-in-15-clause-out_after
 unfolding value_of
 returns-in-15-clause-out_after c =
-    rw c.in-15.is c.put_octet-in-15.ensures
+    rw c.in-15.is c.put_octet-in-15.ensures.out_after
 
 pub returns-in-16-clause-value : goal.returns-in-16-clause-value
 unfolding value_of
 returns-in-16-clause-value c =
-    rw c.in-16.is c.put.ensures
+    rw c.in-16.is c.put.ensures.value
 
 pub returns-in-16-clause-out_after : goal.returns-in-16-clause-out_after
 unfolding value_of
 returns-in-16-clause-out_after c =
-    rw c.in-16.is c.put.ensures
+    rw c.in-16.is c.put.ensures.out_after
 
 pub returns-in-17-clause-value : goal.returns-in-17-clause-value
 unfolding value_of
 returns-in-17-clause-value c =
-    rw c.in-17.is c.put_octet-in-17.ensures
+    rw c.in-17.is c.put_octet-in-17.ensures.value
 
 pub returns-in-17-clause-out_after : goal.returns-in-17-clause-out_after
 unfolding value_of
 returns-in-17-clause-out_after c =
-    rw c.in-17.is c.put_octet-in-17.ensures
+    rw c.in-17.is c.put_octet-in-17.ensures.out_after
 
 pub returns-in-19-clause-value : goal.returns-in-19-clause-value
 unfolding opcodes_value value_of word_octets
 returns-in-19-clause-value c =
-    rw c.in-19.is c.put_word-in-19.ensures
+    rw c.in-19.is c.put_word-in-19.ensures.value
 
 pub returns-in-19-clause-out_after : goal.returns-in-19-clause-out_after
 unfolding opcodes_value value_of word_octets
 returns-in-19-clause-out_after c =
-    rw c.in-19.is c.put_word-in-19.ensures
+    rw c.in-19.is c.put_word-in-19.ensures.out_after
 
 pub returns-in-22-clause-value : goal.returns-in-22-clause-value
 unfolding value_of
 returns-in-22-clause-value c =
-    rw c.in-22.is c.put_octet-in-22.ensures
+    rw c.in-22.is c.put_octet-in-22.ensures.value
 
 pub returns-in-22-clause-out_after : goal.returns-in-22-clause-out_after
 unfolding value_of
 returns-in-22-clause-out_after c =
-    rw c.in-22.is c.put_octet-in-22.ensures
+    rw c.in-22.is c.put_octet-in-22.ensures.out_after
 
 pub returns-in_default-clause-value : goal.returns-in_default-clause-value
 returns-in_default-clause-value c =
-
     let no = c.in_default.in_default-own.rest in
     let a = c.args in rw
     (value_none a.groups.now a.tracks.now a.text.now a.renames.now a.office.now a.p a.c no.0.0.0.0.0.0.0.0.0.0.0.0.0.0.0.1 no.0.0.0.0.0.0.0.0.0.0.0.0.0.0.1 no.0.0.0.0.0.0.0.0.0.0.0.0.0.1 no.0.0.0.0.0.0.0.0.0.0.0.0.1 no.0.0.0.0.0.0.0.0.0.0.0.1 no.0.0.0.0.0.0.0.0.0.0.1 no.0.0.0.0.0.0.0.0.0.1 no.0.0.0.0.0.0.0.0.1 no.0.0.0.0.0.0.0.1 no.0.0.0.0.0.0.1 no.0.0.0.0.0.1 no.0.0.0.0.1 no.0.0.0.1 no.0.0.1 no.0.1 no.1)
-    (nothing_put a.from a.most a.out.now)
+    (nothing_put a.from a.most a.out.now).0
 
 pub returns-in_default-clause-out_after : goal.returns-in_default-clause-out_after
 returns-in_default-clause-out_after c =
-
     let no = c.in_default.in_default-own.rest in
     let a = c.args in rw
     (value_none a.groups.now a.tracks.now a.text.now a.renames.now a.office.now a.p a.c no.0.0.0.0.0.0.0.0.0.0.0.0.0.0.0.1 no.0.0.0.0.0.0.0.0.0.0.0.0.0.0.1 no.0.0.0.0.0.0.0.0.0.0.0.0.0.1 no.0.0.0.0.0.0.0.0.0.0.0.0.1 no.0.0.0.0.0.0.0.0.0.0.0.1 no.0.0.0.0.0.0.0.0.0.0.1 no.0.0.0.0.0.0.0.0.0.1 no.0.0.0.0.0.0.0.0.1 no.0.0.0.0.0.0.0.1 no.0.0.0.0.0.0.1 no.0.0.0.0.0.1 no.0.0.0.0.1 no.0.0.0.1 no.0.0.1 no.0.1 no.1)
-    (nothing_put a.from a.most a.out.now)
+    (nothing_put a.from a.most a.out.now).1
