@@ -1,5 +1,6 @@
 // A client record: what is known of one of the four devices, of its link and of its account with each service.
 #![tactic(auto)]
+
 ghost use Rattle.std.specs.Prelude.{◌≡◌, ◌≤◌, ◌<◌, get_or};
 ghost use Rattle.ground.specs.Lists.{all_below};
 ghost use Rattle.desk_slots.specs.Slots.{slot_count, service_count, place_count};

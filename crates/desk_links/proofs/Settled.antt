@@ -5,6 +5,7 @@ use mathlib.Core.Bool.{Bool}
 use mathlib.Core.List.{List}
 use Prim.Native.Nat.{ℕ}
 use contract.Lifetimes.{Lfts}
+use denote.Bor.{Bor}
 use denote.Ref.{MutBor, at_last}
 use Rattle.desk_replies.specs.declared.Answer.{Answer}
 use Rattle.desk_replies.proofs.Settled.{one_answer}
@@ -13,9 +14,9 @@ use Rattle.desk_links.proofs.disconnect.Reads as disconnect
 use Rattle.desk_links.proofs.subscribe.Reads as subscribe
 use Rattle.desk_links.proofs.unsubscribe.Reads as unsubscribe
 
-module _ (κs : Lfts 7) (groups tracks segments text renames office state : MutBor (List ℕ)) (who : ℕ) (a₁ a₂ : Answer) (new₁ new₂ : List ℕ) where
+module _ (κs : Lfts 7) (groups tracks segments text renames office : Bor (List ℕ)) (state : MutBor (List ℕ)) (who : ℕ) (a₁ a₂ : Answer) (new₁ new₂ : List ℕ) where
   -- the catalogue and the titles before the other arguments
-  abbrev lent : {A : Type 0} → A → MutBor (List ℕ) × (MutBor (List ℕ) × (MutBor (List ℕ) × (MutBor (List ℕ) × (MutBor (List ℕ) × (MutBor (List ℕ) × A)))))
+  abbrev lent : {A : Type 0} → A → Bor (List ℕ) × (Bor (List ℕ) × (Bor (List ℕ) × (Bor (List ℕ) × (Bor (List ℕ) × (Bor (List ℕ) × A)))))
   lent rest = (groups, (tracks, (segments, (text, (renames, (office, rest))))))
 
   -- no two answers, and no two states

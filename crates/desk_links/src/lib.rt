@@ -1,5 +1,6 @@
 // Devices come and go, and say which values they want to be told of. Each call checks catalogue and state itself, and refuses by the numbers of SCOPE 20.2.
 #![tactic(auto)]
+
 ghost use Rattle.std.specs.Prelude.{◌≡◌, ◌<◌};
 ghost use Rattle.ground.specs.Cases.{pick};
 ghost use Rattle.catalogue_titles.specs.Lent.{lending};

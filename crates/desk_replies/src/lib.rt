@@ -1,5 +1,6 @@
 // What the calls on the whole answer, and the rows of the refusal table that many of them share.
 #![tactic(auto)]
+
 ghost use Rattle.std.specs.Prelude.{◌≡◌, false, true, [], ◌∷◌, ◌++◌, ◌≤◌, length};
 ghost use Rattle.ground.specs.Refusals.{granted, refused, refusal_of};
 ghost use Rattle.catalogue_titles.specs.Lent.{lending};

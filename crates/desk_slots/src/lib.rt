@@ -1,5 +1,6 @@
 // The characteristics, the slots of a client, sets of them as words of bits, and the round.
 #![tactic(auto)]
+
 ghost use Rattle.std.specs.Prelude.{◌≡◌, ◌∷◌, [], ◌≤◌, ◌<◌, ◌^◌, ◌&&◌, ltb};
 ghost use Rattle.ground.specs.Cases.{pick, has};
 ghost use Rattle.desk_slots.specs.Characteristics.{every_one, readables, writables, writer_knows, is_in};

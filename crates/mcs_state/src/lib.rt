@@ -2,6 +2,7 @@
 // services at 45, 302 octets each; 649 in all. A state of another layout, and one with a yes-or-no octet that is neither 0 nor 1, is read as a state that
 // 201 refuses.
 #![tactic(auto)]
+
 ghost use Rattle.std.specs.Prelude.{◌≡◌, ◌++◌, ◌+◌, ◌*◌, ◌≤◌, ◌<◌, length, drop};
 ghost use Rattle.std.proofs.Math.Seq.{paste};
 ghost use Rattle.ground.specs.Lists.{part};

@@ -1,7 +1,7 @@
 -- `desk_client::account_right`: a test for each part of the rule.
 use mathlib.Core.Path.{◌≡◌, sym, ap, ◌∙◌}
 use mathlib.Core.Bool.{Bool, false, ◌&&◌}
-use borrow.Author.Tests.{leb-true, not-true, not-false}
+use Rattle.std.proofs.lemmas.Bool.{lt-leb}
 use lib.Bits.{bit_and}
 use lib.Dec.{eqb, ltb, leb}
 use Rattle.ground.specs.Cases.{has}
@@ -11,7 +11,6 @@ use Rattle.desk_slots.proofs.SetLaws.{readable_word}
 use Rattle.desk_client.specs.Client.{only_readable, alike, control_slot, codes_right, account_rule}
 use Rattle.desk_client.specs.declared.Account.{Account}
 use borrow.Author.Rules.{rules}
-
 -- too many results fail the rule, whatever else holds
 use Rattle.desk_client.proofs.account_right.Goals as goal
 
@@ -25,11 +24,7 @@ many a e =
 pub returns-then-not-few : goal.returns-then-not-few
 unfolding account_rule
 returns-then-not-few c =
-    many c.args.a (not-true _ c.if-not-few.true)
-
-pub codes_right-codes-requires : goal.codes_right-codes-requires
-codes_right-codes-requires c =
-    leb-true _ _ (not-false _ c.if-not-few.false)
+    many c.args.a (lt-leb _ _ c.if-not-few.true)
 
 pub returns : goal.returns
 unfolding account_rule inter

@@ -10,4 +10,4 @@ use Rattle.desk_client.proofs.shifted.Goals as goal
 pub returns : goal.returns
 returns c =
     let a = c.args in
-    ap (λ (l : List Entry). l ++ (blank_entry ∷ [])) (spelled blank_entry a.t1 1 7 (search rules))
+    ap (λ (l : List Entry). l ++ (blank_entry ∷ [])) (spelled blank_entry a.rs 1 7 (search rules))

@@ -40,7 +40,7 @@ returns-then-not-group_right c =
     let d = desk_of c.args.state.now in
     refused_so _ c.args.state.now _
     (through (keeping d) (front) (passed)
-    (here _ (sym (ap not c.group_right.ensures) ∙ c.if-not-group_right.true) (ap (keeping d) c.refuse.ensures)))
+    (here _ (sym (ap not c.group_right.ensures) ∙ ap not c.if-not-group_right.true) (ap (keeping d) c.refuse.ensures)))
     (ap (λ (x : Said). x.is_granted) c.refuse.ensures)
 
 pub player_at-p-requires-clause-service_lt_service_count : goal.player_at-p-requires-clause-service_lt_service_count
@@ -131,6 +131,6 @@ returns c =
     let d = desk_of c.args.state.now in
     sitting.told_so
     (through (keeping d) (front) (passed)
-    (past _ (sym (ap not c.group_right.ensures) ∙ c.if-not-group_right.false)
+    (past _ (sym (ap not c.group_right.ensures) ∙ ap not c.if-not-group_right.false)
     (ap (becoming (lent) d c.args.service false) (c.activate-q.ensures ∙ ap (activated c.args.groups.now c.args.tracks.now c.args.group.0) c.player_at-p.ensures))))
     c.becoming.ensures

@@ -60,7 +60,7 @@ returns-then-not-mtu_right c =
     let d = desk_of c.args.state.now in
     refused_so _ c.args.state.now _
     (through (keeping d) (front) (passed)
-    (past _ (linked ∙ c.if-old.false) (here _ (fits ∙ c.if-not-mtu_right.true) (ap (keeping d) c.refuse-then-not-mtu_right.ensures))))
+    (past _ (linked ∙ c.if-old.false) (here _ (fits ∙ ap not c.if-not-mtu_right.true) (ap (keeping d) c.refuse-then-not-mtu_right.ensures))))
     (ap (λ (x : Said). x.is_granted) c.refuse-then-not-mtu_right.ensures)
 
 pub put_client-requires-clause-plain : goal.put_client-requires-clause-plain
@@ -68,7 +68,6 @@ put_client-requires-clause-plain c =
     let lent : Lent = lending c.args.groups.now c.args.tracks.now c.args.segments.now c.args.text.now c.args.renames.now c.args.office.now in
     let front : List Row = fronted (lent) false (desk_of c.args.state.now) ++ (client_row c.args.who ∷ []) in
     let passed : NoneApplies (front) = none (front) c.client_gate-g.result c.client_gate-g.ensures (not-false _ c.if-not-g.false) in
-
     let n = passed in plain_so (lent) false c.args.state.now (client_row c.args.who ∷ []) n (search rules) c.are_octets.ensures
 
 pub put_client-requires-clause-who_lt_client_count : goal.put_client-requires-clause-who_lt_client_count
@@ -76,7 +75,6 @@ put_client-requires-clause-who_lt_client_count c =
     let lent : Lent = lending c.args.groups.now c.args.tracks.now c.args.segments.now c.args.text.now c.args.renames.now c.args.office.now in
     let front : List Row = fronted (lent) false (desk_of c.args.state.now) ++ (client_row c.args.who ∷ []) in
     let passed : NoneApplies (front) = none (front) c.client_gate-g.result c.client_gate-g.ensures (not-false _ c.if-not-g.false) in
-
     let n = passed in leb-false _ _ n.1.1.1.1.0
 
 pub returns : goal.returns
@@ -91,6 +89,6 @@ returns c =
     accepted_so _ c.args.state.now Done _ _
     (through (keeping d) (front) (passed)
     (past _ (linked ∙ c.if-old.false)
-    (past _ (fits ∙ c.if-not-mtu_right.false)
+    (past _ (fits ∙ ap not c.if-not-mtu_right.false)
     (ap (λ (r : Client). leaves (granted []) (with_client c.args.who r d)) (c.blank_client-fresh.ensures ∙ ap blank_client c.connected_link-link.ensures)))))
     refl c.put_client.ensures

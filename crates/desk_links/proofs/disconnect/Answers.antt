@@ -54,7 +54,6 @@ put_client-requires-clause-plain c =
     let lent : Lent = lending c.args.groups.now c.args.tracks.now c.args.segments.now c.args.text.now c.args.renames.now c.args.office.now in
     let front : List Row = fronted (lent) false (desk_of c.args.state.now) ++ (client_row c.args.who ∷ []) in
     let passed : NoneApplies (front) = none (front) c.client_gate-g.result c.client_gate-g.ensures (not-false _ c.if-not-g.false) in
-
     let n = passed in plain_so (lent) false c.args.state.now (client_row c.args.who ∷ []) n (search rules) c.are_octets.ensures
 
 pub put_client-requires-clause-who_lt_client_count : goal.put_client-requires-clause-who_lt_client_count
@@ -62,7 +61,6 @@ put_client-requires-clause-who_lt_client_count c =
     let lent : Lent = lending c.args.groups.now c.args.tracks.now c.args.segments.now c.args.text.now c.args.renames.now c.args.office.now in
     let front : List Row = fronted (lent) false (desk_of c.args.state.now) ++ (client_row c.args.who ∷ []) in
     let passed : NoneApplies (front) = none (front) c.client_gate-g.result c.client_gate-g.ensures (not-false _ c.if-not-g.false) in
-
     let n = passed in leb-false _ _ n.1.1.1.1.0
 
 pub returns : goal.returns

@@ -48,7 +48,6 @@ account_at-a-requires-clause-service_lt_service_count c =
     (λ (x : ℕ). Gated (fronted (lent) false (desk_of c.args.state.now) ++ (of_caller c.args.who c.args.service l.connected ++ of_characteristic l.encrypted c.args.characteristic 209 (ltb x slot_count))) c.characteristic_gate-g.result)
     c.slot_of-s.ensures.1 c.characteristic_gate-g.ensures in
     let passed : NoneApplies (rows) = none (rows) c.characteristic_gate-g.result (gated) (not-false _ c.if-not-g.false) in
-
     let n = passed in leb-false _ _ n.1.1.1.1.1.0
 
 pub account_at-a-requires-clause-who_lt_client_count : goal.account_at-a-requires-clause-who_lt_client_count
@@ -62,7 +61,6 @@ account_at-a-requires-clause-who_lt_client_count c =
     (λ (x : ℕ). Gated (fronted (lent) false (desk_of c.args.state.now) ++ (of_caller c.args.who c.args.service l.connected ++ of_characteristic l.encrypted c.args.characteristic 209 (ltb x slot_count))) c.characteristic_gate-g.result)
     c.slot_of-s.ensures.1 c.characteristic_gate-g.ensures in
     let passed : NoneApplies (rows) = none (rows) c.characteristic_gate-g.result (gated) (not-false _ c.if-not-g.false) in
-
     let n = passed in leb-false _ _ n.1.1.1.1.0
 
 pub with_slot-next-requires : goal.with_slot-next-requires
@@ -91,7 +89,6 @@ put_account-requires-clause-plain c =
     (λ (x : ℕ). Gated (fronted (lent) false (desk_of c.args.state.now) ++ (of_caller c.args.who c.args.service l.connected ++ of_characteristic l.encrypted c.args.characteristic 209 (ltb x slot_count))) c.characteristic_gate-g.result)
     c.slot_of-s.ensures.1 c.characteristic_gate-g.ensures in
     let passed : NoneApplies (rows) = none (rows) c.characteristic_gate-g.result (gated) (not-false _ c.if-not-g.false) in
-
     let n = passed in plain_so (lent) false c.args.state.now (own) n (search rules) c.are_octets.ensures
 
 pub put_account-requires-clause-service_lt_service_count : goal.put_account-requires-clause-service_lt_service_count
@@ -105,7 +102,6 @@ put_account-requires-clause-service_lt_service_count c =
     (λ (x : ℕ). Gated (fronted (lent) false (desk_of c.args.state.now) ++ (of_caller c.args.who c.args.service l.connected ++ of_characteristic l.encrypted c.args.characteristic 209 (ltb x slot_count))) c.characteristic_gate-g.result)
     c.slot_of-s.ensures.1 c.characteristic_gate-g.ensures in
     let passed : NoneApplies (rows) = none (rows) c.characteristic_gate-g.result (gated) (not-false _ c.if-not-g.false) in
-
     let n = passed in leb-false _ _ n.1.1.1.1.1.0
 
 pub put_account-requires-clause-who_lt_client_count : goal.put_account-requires-clause-who_lt_client_count
@@ -119,7 +115,6 @@ put_account-requires-clause-who_lt_client_count c =
     (λ (x : ℕ). Gated (fronted (lent) false (desk_of c.args.state.now) ++ (of_caller c.args.who c.args.service l.connected ++ of_characteristic l.encrypted c.args.characteristic 209 (ltb x slot_count))) c.characteristic_gate-g.result)
     c.slot_of-s.ensures.1 c.characteristic_gate-g.ensures in
     let passed : NoneApplies (rows) = none (rows) c.characteristic_gate-g.result (gated) (not-false _ c.if-not-g.false) in
-
     let n = passed in leb-false _ _ n.1.1.1.1.0
 
 pub returns : goal.returns

@@ -30,7 +30,7 @@ returns-then-not-is_characteristic c =
     let passed : NoneApplies (front) = none (front) c.caller_gate-g.result c.caller_gate-g.ensures (not-false _ c.if-not-g.false) in
     let known : not (is_in every_one c.args.characteristic) ≡ not c.is_characteristic.result = sym (ap not c.is_characteristic.ensures) in
     says (front ++ own) c.gate_shut.result (refused 0x01) c.gate_shut.ensures.0 c.gate_shut.ensures.1
-    (beyond (front) (own) (passed) (here _ (known ∙ c.if-not-is_characteristic.true) refl))
+    (beyond (front) (own) (passed) (here _ (known ∙ ap not c.if-not-is_characteristic.true) refl))
 
 pub returns-then-not-allowed : goal.returns-then-not-allowed
 returns-then-not-allowed c =
@@ -40,7 +40,7 @@ returns-then-not-allowed c =
     let passed : NoneApplies (front) = none (front) c.caller_gate-g.result c.caller_gate-g.ensures (not-false _ c.if-not-g.false) in
     let known : not (is_in every_one c.args.characteristic) ≡ not c.is_characteristic.result = sym (ap not c.is_characteristic.ensures) in
     says (front ++ own) c.gate_shut-then-not-allowed.result (refused c.args.number) c.gate_shut-then-not-allowed.ensures.0 c.gate_shut-then-not-allowed.ensures.1
-    (beyond (front) (own) (passed) (past _ (known ∙ c.if-not-is_characteristic.false) (here _ c.if-not-allowed.true refl)))
+    (beyond (front) (own) (passed) (past _ (known ∙ ap not c.if-not-is_characteristic.false) (here _ (ap not c.if-not-allowed.true) refl)))
 
 pub link_at-l-requires-clause-who_lt_client_count : goal.link_at-l-requires-clause-who_lt_client_count
 link_at-l-requires-clause-who_lt_client_count c =
@@ -58,7 +58,7 @@ returns-then-not-l c =
     let known : not (is_in every_one c.args.characteristic) ≡ not c.is_characteristic.result = sym (ap not c.is_characteristic.ensures) in
     let safe : not (link_of (desk_of c.args.state.now) c.args.who).encrypted ≡ not c.link_at-l.result.encrypted = sym (ap (λ (l : Link). not l.encrypted) c.link_at-l.ensures) in
     says (front ++ own) c.gate_shut-then-not-l.result (refused 0x0F) c.gate_shut-then-not-l.ensures.0 c.gate_shut-then-not-l.ensures.1
-    (beyond (front) (own) (passed) (past _ (known ∙ c.if-not-is_characteristic.false) (past _ c.if-not-allowed.false (here _ (safe ∙ c.if-not-l.true) refl))))
+    (beyond (front) (own) (passed) (past _ (known ∙ ap not c.if-not-is_characteristic.false) (past _ (ap not c.if-not-allowed.false) (here _ (safe ∙ c.if-not-l.true) refl))))
 
 pub returns : goal.returns
 returns c =
@@ -68,4 +68,4 @@ returns c =
     let known : not (is_in every_one c.args.characteristic) ≡ not c.is_characteristic.result = sym (ap not c.is_characteristic.ensures) in
     let safe : not (link_of (desk_of c.args.state.now) c.args.who).encrypted ≡ not c.link_at-l.result.encrypted = sym (ap (λ (l : Link). not l.encrypted) c.link_at-l.ensures) in
     stays_open (front) c.caller_gate-g.result c.caller_gate-g.ensures (not-false _ c.if-not-g.false) (own)
-    (known ∙ c.if-not-is_characteristic.false, (c.if-not-allowed.false, (safe ∙ c.if-not-l.false, tt)))
+    (known ∙ ap not c.if-not-is_characteristic.false, ((ap not c.if-not-allowed.false), (safe ∙ c.if-not-l.false, tt)))

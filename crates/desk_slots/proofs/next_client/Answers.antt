@@ -33,7 +33,7 @@ returns-then-owed-i-ne0 c =
     let v = c.args in
     let h = c.loop-d in
     let a = (v.after + h.d) % client_count in
-    (omega arith, sym (h.invariant.2 ∙ scan_hit client_count (owing v.t1) v.after h.d (omega arith) (owing_some v.t1 a c.if-owed-i-ne0.true)))
+    (omega arith, sym (h.invariant.2 ∙ scan_hit client_count (owing v.owed) v.after h.d (omega arith) (owing_some v.owed a c.if-owed-i-ne0.true)))
 
 pub overflow_add-d : goal.overflow_add-d
 overflow_add-d c =
@@ -48,10 +48,10 @@ loop-d-preserved c =
     let v = c.args in
     let h = c.loop-d in
     let a = (v.after + h.d) % client_count in
-    (omega arith, omega arith, h.invariant.2 ∙ scan_pass client_count (owing v.t1) v.after h.d (omega arith) (owing_none v.t1 a c.if-owed-i-ne0.false))
+    (omega arith, omega arith, h.invariant.2 ∙ scan_pass client_count (owing v.owed) v.after h.d (omega arith) (owing_none v.owed a c.if-owed-i-ne0.false))
 
 pub returns : goal.returns
 returns c =
     let v = c.args in
     let h = c.loop-d in
-    (omega arith, sym (h.invariant.2 ∙ scan_end client_count (owing v.t1) v.after h.d (omega arith)))
+    (omega arith, sym (h.invariant.2 ∙ scan_end client_count (owing v.owed) v.after h.d (omega arith)))

@@ -5,7 +5,6 @@ use Prim.Native.Nat.{ℕ}
 use borrow.Author.Tests.{ne_eqb}
 use Rattle.ground.specs.Cases.{pick}
 use Rattle.desk_slots.specs.Table.{size_of}
-
 -- a row without a length says as much as no row
 use Rattle.desk_slots.proofs.size_of.Goals as goal
 

@@ -17,7 +17,6 @@ use Rattle.mcs_state.proofs.encode.Goals as goal
 pub returns-clause-s_after : goal.returns-clause-s_after
 unfolding desk_octets
 returns-clause-s_after c =
-
     let d = c.args.d in
     let old = c.args.s.now in
     let fits : 0 ≤ length old = omega arith in
@@ -33,11 +32,11 @@ returns-clause-s_after c =
     let l3 = lay _ (link_octets (link_at d.links 1)) 10 fits l2 (link_kept (link_at d.links 1)).long c.lay_link-2.ensures in
     let l4 = lay _ (link_octets (link_at d.links 2)) 10 fits l3 (link_kept (link_at d.links 2)).long c.lay_link-3.ensures in
     let l5 = lay _ (link_octets (link_at d.links 3)) 10 fits l4 (link_kept (link_at d.links 3)).long c.lay_link-4.ensures in
-    let l6 = lay _ (service_octets (service_at d 0)) 302 fits l5 p0.1.long p0.0 in
-    let l7 = lay _ (service_octets (service_at d 1)) 302 fits l6 p1.1.long p1.0 in
+    let l6 = lay _ (service_octets (service_at d 0)) 302 fits l5 p0.kept.long p0.s_after in
+    let l7 = lay _ (service_octets (service_at d 1)) 302 fits l6 p1.kept.long p1.s_after in
     let all-links : links ≡ d.links = spelled no_link d.links 0 4 four in
     let all-services : services ≡ d.services = spelled no_service d.services 0 2 two in
-    let kept : AllKept service_from service_octets 302 d.services = subst (AllKept service_from service_octets 302) all-services (more p0.1 (more p1.1 none)) in
+    let kept : AllKept service_from service_octets 302 d.services = subst (AllKept service_from service_octets 302) all-services (more p0.kept (more p1.kept none)) in
     let front = behind link_octets t links in
     let octets : behind service_octets front services ≡ desk_octets d =
     behind_is service_octets front services
@@ -49,7 +48,6 @@ returns-clause-s_after c =
 pub returns-clause-s_after_2 : goal.returns-clause-s_after_2
 unfolding desk_octets
 returns-clause-s_after_2 c =
-
     let d = c.args.d in
     let old = c.args.s.now in
     let fits : 0 ≤ length old = omega arith in
@@ -65,11 +63,11 @@ returns-clause-s_after_2 c =
     let l3 = lay _ (link_octets (link_at d.links 1)) 10 fits l2 (link_kept (link_at d.links 1)).long c.lay_link-2.ensures in
     let l4 = lay _ (link_octets (link_at d.links 2)) 10 fits l3 (link_kept (link_at d.links 2)).long c.lay_link-3.ensures in
     let l5 = lay _ (link_octets (link_at d.links 3)) 10 fits l4 (link_kept (link_at d.links 3)).long c.lay_link-4.ensures in
-    let l6 = lay _ (service_octets (service_at d 0)) 302 fits l5 p0.1.long p0.0 in
-    let l7 = lay _ (service_octets (service_at d 1)) 302 fits l6 p1.1.long p1.0 in
+    let l6 = lay _ (service_octets (service_at d 0)) 302 fits l5 p0.kept.long p0.s_after in
+    let l7 = lay _ (service_octets (service_at d 1)) 302 fits l6 p1.kept.long p1.s_after in
     let all-links : links ≡ d.links = spelled no_link d.links 0 4 four in
     let all-services : services ≡ d.services = spelled no_service d.services 0 2 two in
-    let kept : AllKept service_from service_octets 302 d.services = subst (AllKept service_from service_octets 302) all-services (more p0.1 (more p1.1 none)) in
+    let kept : AllKept service_from service_octets 302 d.services = subst (AllKept service_from service_octets 302) all-services (more p0.kept (more p1.kept none)) in
     let front = behind link_octets t links in
     let octets : behind service_octets front services ≡ desk_octets d =
     behind_is service_octets front services

@@ -11,13 +11,11 @@ use Rattle.mcs_state.proofs.lay_account.Goals as goal
 pub returns-clause-s_after : goal.returns-clause-s_after
 unfolding account_octets
 returns-clause-s_after c =
-
     let a = c.args in
     let e = c.account_octets-octets.ensures in c.put.ensures ∙ (λ i. paste a.s.now (a.at + (158 + a.who * 36)) (e i) (length (e i)))
 
 pub returns-clause-kept : goal.returns-clause-kept
 unfolding account_octets
 returns-clause-kept c =
-
     let a = c.args in
     let e = c.account_octets-octets.ensures in account_kept a.a c.eight_results.ensures

@@ -8,5 +8,5 @@ use Rattle.mcs_state.proofs.lay_name.Goals as goal
 pub returns : goal.returns
 returns c =
     let a = c.args in
-    let e : length a.t3 ≡ 128 = search rules in
-    (c.put.ensures ∙ ap (paste a.s.now a.at a.t3) e, e)
+    let e : length a.name ≡ 128 = search rules in
+    (c.put.ensures ∙ ap (paste a.s.now a.at a.name) e, e)

@@ -7,4 +7,4 @@ pub returns : goal.returns
 returns c =
     let a = c.args in
     let p = c.lay_account.ensures in
-    account_stored a.s.now _ c.requires.in_bounds c.requires.plain a.service a.who a.a c.requires.service_lt_service_count c.requires.who_lt_client_count p.1 p.0
+    account_stored a.s.now _ c.requires.in_bounds c.requires.plain a.service a.who a.a c.requires.service_lt_service_count c.requires.who_lt_client_count p.kept p.s_after

@@ -10,12 +10,10 @@ use Rattle.mcs_state.proofs.put_client.Goals as goal
 
 pub put_account-requires-clause-plain : goal.put_account-requires-clause-plain
 put_account-requires-clause-plain c =
-
     let long : 649 ≤ length c.put_link.new.s = search rules in stored_plain c.put_link.ensures long
 
 pub put_account-requires-2-clause-plain : goal.put_account-requires-2-clause-plain
 put_account-requires-2-clause-plain c =
-
     let long : 649 ≤ length c.put_account.new.s = search rules in stored_plain c.put_account.ensures long
 
 pub returns : goal.returns

@@ -8,7 +8,6 @@ use Rattle.mcs_state.proofs.put_served.Goals as goal
 
 pub put_turn-requires-clause-plain : goal.put_turn-requires-clause-plain
 put_turn-requires-clause-plain c =
-
     let long : 649 ≤ length c.put_client.new.s = search rules in stored_plain c.put_client.ensures long
 
 pub returns : goal.returns

@@ -7,4 +7,4 @@ pub returns : goal.returns
 returns c =
     let a = c.args in
     let p = c.lay_service.ensures in
-    service_stored a.s.now _ c.requires.in_bounds c.requires.plain a.service a.v c.requires.service_lt_service_count p.1 p.0
+    service_stored a.s.now _ c.requires.in_bounds c.requires.plain a.service a.v c.requires.service_lt_service_count p.kept p.s_after
