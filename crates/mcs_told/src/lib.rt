@@ -1,5 +1,6 @@
 // What C is told of an answer, and how it is told: the words that a call has for it, and the octets of the state.
 #![tactic(auto)]
+
 ghost use Rattle.std.specs.Prelude.{◌≡◌, [], ◌∷◌, ◌≤◌, length as len, get_or};
 ghost use Rattle.ground.specs.Cases.{pick};
 ghost use Rattle.catalogue_titles.specs.Titles.{part_values};

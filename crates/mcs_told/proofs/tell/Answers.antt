@@ -32,15 +32,15 @@ loop-i-preserved c =
       search rules,
       simp length-set c.loop-i.invariant.1,
       c.loop-i.invariant.2,
-      ap (λ (d : List ℕ). set d c.loop-i.i (get_or a.t2 c.loop-i.i 0)) c.loop-i.invariant.3
-          ∙ step a.words.now a.t2 c.loop-i.i (omega (arith, c.loop-i-test.true, c.loop-i.invariant.1)) c.loop-i.invariant.2,
+      ap (λ (d : List ℕ). set d c.loop-i.i (get_or a.values c.loop-i.i 0)) c.loop-i.invariant.3
+          ∙ step a.words.now a.values c.loop-i.i (omega (arith, c.loop-i-test.true, c.loop-i.invariant.1)) c.loop-i.invariant.2,
     )
 
 pub returns-after-loop-i : goal.returns-after-loop-i
 returns-after-loop-i c =
     let a = c.args in
     let all = le_antisymm c.loop-i.invariant.0 (omega (arith, c.loop-i-test.false, c.loop-i.invariant.1)) in
-    here _ c.if-on.true (c.loop-i.invariant.3 ∙ ap (paste a.words.now 0 a.t2) all ∙ whole a.words.now a.t2)
+    here _ c.if-on.true (c.loop-i.invariant.3 ∙ ap (paste a.words.now 0 a.values) all ∙ whole a.words.now a.values)
 
 pub returns-else-on : goal.returns-else-on
 returns-else-on c =

@@ -6,7 +6,6 @@ use native.Mathlib.Omega.{arith}
 use lib.ListN.{length, take, get_or, set}
 use Rattle.ground.proofs.Cases.{past, here}
 use borrow.Author.Rules.{rules}
-
 -- one word written
 use Rattle.mcs_told.proofs.tell_place.Goals as goal
 

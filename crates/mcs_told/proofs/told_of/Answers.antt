@@ -6,7 +6,6 @@ use Rattle.desk_replies.specs.declared.Answer.{Answer}
 use Rattle.desk_replies.specs.Replies.{said_of}
 use Rattle.mcs_told.specs.Calls.{told_of}
 use borrow.Author.Rules.{rules}
-
 -- what is told of the answer's arm is told of the answer
 use Rattle.mcs_told.proofs.told_of.Goals as goal
 
@@ -23,17 +22,15 @@ returns-in-Octets c =
 
 pub returns-in-Served : goal.returns-in-Served
 returns-in-Served c =
-    let a = c.a-in-Served-1 in
     c.granted-in-Served.ensures
-    ∙ (λ k. told_of (granted (c.wide_word.ensures.0 k ∷ c.wide_word-in-Served.ensures.0 k ∷ c.wide_word-in-Served-2.ensures.0 k ∷ a.given.0.1.1.1.0 ∷ [])))
-    ∙ back a.given.1
+    ∙ (λ k. told_of (granted (c.wide_word.ensures.0 k ∷ c.wide_word-in-Served.ensures.0 k ∷ c.wide_word-in-Served-2.ensures.0 k ∷ c.in-Served.n ∷ [])))
+    ∙ back c.in-Served.is
 
 pub returns-in-Handed : goal.returns-in-Handed
 returns-in-Handed c =
-    let a = c.a-in-Handed-1 in
     c.granted-in-Handed.ensures
-    ∙ (λ k. told_of (granted (c.wide_word-in-Handed.ensures.0 k ∷ c.wide_word-in-Handed-2.ensures.0 k ∷ a.given.0.1.1.0 ∷ [])))
-    ∙ back a.given.1
+    ∙ (λ k. told_of (granted (c.wide_word-in-Handed.ensures.0 k ∷ c.wide_word-in-Handed-2.ensures.0 k ∷ c.in-Handed.n ∷ 0 ∷ [])))
+    ∙ back c.in-Handed.is
 
 pub returns-in-Refused : goal.returns-in-Refused
 returns-in-Refused c =
