@@ -4,6 +4,7 @@
 With --check it says whether the source has exactly this table.
 """
 import pathlib
+import re
 import sys
 
 
@@ -17,10 +18,16 @@ def factors():
         yield e
 
 
-table = 'const FACTORS: [u32; 256] = [\n' + ''.join('    %d,\n' % e for e in factors()) + '];\n'
+def in_source():
+    """The numbers of the table as src/lib.rt has them, however they are laid out."""
+    source = (pathlib.Path(__file__).parent / 'src' / 'lib.rt').read_text()
+    listed = re.search(r'^const FACTORS: \[u32; 256\] = \[([\d,\s]*)\];$', source, re.M)
+    return [int(e) for e in re.findall(r'\d+', listed[1])] if listed else []
+
+
 if sys.argv[1:] == ['--check']:
-    if table not in (pathlib.Path(__file__).parent / 'src' / 'lib.rt').read_text():
+    if in_source() != list(factors()):
         sys.exit('src/lib.rt has another table')
     print('256 factors')
 else:
-    print(table, end='')
+    print('const FACTORS: [u32; 256] = [\n' + ''.join('    %d,\n' % e for e in factors()) + '];')
