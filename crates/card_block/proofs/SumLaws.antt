@@ -1,5 +1,5 @@
 -- The sum of the running sums as a sum with weights, over a whole and over its two halves, and how great both sums become. Assumes nothing.
-use mathlib.Core.Path.{◌≡◌, refl, sym, ap, ◌∙◌}
+use mathlib.Core.Path.{◌≡◌, ap}
 use mathlib.Core.List.{List, [], ◌∷◌, ◌++◌}
 use Prim.Native.Nat.{ℕ, suc, ◌+◌, ◌*◌, ◌≤◌, ◌<◌, suc-le-suc}
 use native.Mathlib.Nat.{mul-add, suc-mul, mul-suc, mul_comm, mul-le-mul, mul-le-mul_left, zero-add}

@@ -7,7 +7,7 @@ use Prim.Native.Nat.{ℕ, suc}
 use lib.Dec.{ltb}
 use lib.ListN.{length}
 use Rattle.ground.specs.Cases.{pick}
-use Rattle.ground.specs.Refusals.{Said, granted, refused, row, row_with, said_through, table, in_order}
+use Rattle.ground.specs.Refusals.{Said, granted, refused, row_with, said_through, table, in_order}
 use Rattle.catalogue_cue.specs.declared.Line.{Line}
 use Rattle.catalogue_cue.specs.declared.Line.TheVariants.{Start, Passed, NotUnderstood}
 use Rattle.catalogue_cue.specs.Sheet.{most_sheet, sheet_lines, starts_of, may_follow, line_row, cue_rows, cue_said}

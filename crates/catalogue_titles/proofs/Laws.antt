@@ -1,17 +1,16 @@
 -- What a layer above knows of a catalogue and titles that neither 200 nor 224 refuses (SCOPE 4.14, 5.3): stated over the check's result, so that no rule has to
 -- be opened.
 -- Assumes nothing.
-use mathlib.Core.Path.{◌≡◌, refl, ap}
+use mathlib.Core.Path.{◌≡◌, ap}
 use mathlib.Core.Bool.{true, false, ◌&&◌}
 use mathlib.Core.List.{List, []}
 use mathlib.Core.Logic.{⊎_elim}
-use Prim.Native.Nat.{ℕ, ◌+◌, ◌*◌, ◌<◌, ◌≤◌}
+use Prim.Native.Nat.{ℕ, ◌+◌, ◌<◌, ◌≤◌}
 use native.Mathlib.Omega.{arith}
 use borrow.Author.Tests.{leb-true, not-false}
 use lib.Dec.{eqb, leb}
-use lib.ListN.{length, length-take, length-drop}
-use Rattle.ground.specs.Cases.{pick}
-use Rattle.ground.specs.Limits.{most_title, rename_words}
+use lib.ListN.{length, length-take}
+use Rattle.ground.specs.Limits.{most_title}
 use Rattle.ground.specs.Lists.{part_from}
 use Rattle.ground.specs.Refusals.{Said, granted}
 use Rattle.ground.proofs.Bounded.{all_at}
@@ -21,7 +20,7 @@ use Rattle.text.specs.Grammar.{Text}
 use Rattle.text.specs.Utf8.{text_of, is_fine}
 use Rattle.text.proofs.Law.{only_fine, fine_is_text}
 use Rattle.catalogue_tables.specs.Tables.{track_count, title_of}
-use Rattle.catalogue_check.specs.Catalogue.{catalogue_rule, catalogue_carries, Right}
+use Rattle.catalogue_check.specs.Catalogue.{catalogue_rule, Right}
 use Rattle.catalogue_check.proofs.Laws.{is_right, title_inside, title_short, title_valid}
 use Rattle.catalogue_titles.specs.Titles.{rename_offset_of, rename_length_of, entry_rule, count_rule, entries_rule, renames_rule, part_of, octets_at, Inside}
 use Rattle.catalogue_titles.specs.Lent.{Lent, catalogue_of, lent_rule, fit_rows, lent_said, Fit}

@@ -1,5 +1,6 @@
 // Numbers out of octets and into them (SCOPE 2.1, 2.2), the limits of a catalogue (SCOPE 4.2), and refusals (SCOPE 20).
 #![tactic(auto)]
+
 ghost use Rattle.std.specs.Prelude.{◌≡◌, ◌+◌, ◌<◌, ◌≤◌, length, get_or, ◌∷◌, []};
 ghost use Rattle.ground.specs.Cases.{has};
 ghost use Rattle.ground.specs.Lists.{laid};

@@ -2,7 +2,6 @@
 use mathlib.Core.Bool.{◌&&◌}
 use lib.Dec.{eqb}
 use Rattle.card_block.specs.Block.{check_rule}
-use borrow.Author.Rules.{rules}
 use Rattle.card_block.proofs.check_right.Goals as goal
 
 pub returns : goal.returns

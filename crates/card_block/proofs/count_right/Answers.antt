@@ -2,7 +2,6 @@
 use mathlib.Core.Bool.{◌&&◌}
 use lib.Dec.{leb}
 use Rattle.card_block.specs.Block.{count_rule}
-use borrow.Author.Rules.{rules}
 use Rattle.card_block.proofs.count_right.Goals as goal
 
 pub returns : goal.returns

@@ -1,11 +1,9 @@
 -- `card_block::half_sums`: what is summed so far, with what the rest sums to, is the whole; and the whole fits.
-use Prim.Native.Nat.{ℕ, ◌+◌, ◌≤◌, ◌<◌}
-use mathlib.Core.Path.{◌≡◌, sym, ◌∙◌}
-use native.Mathlib.Omega.{arith}
-use borrow.Author.Rules.{rules}
-use lib.ListN.{length, drop, drop_of_length-le}
+use Prim.Native.Nat.{◌+◌}
+use mathlib.Core.Path.{◌≡◌}
+use lib.ListN.{drop}
 use Rattle.card_block.specs.Sums.{sum_of}
-use Rattle.card_block.proofs.SumLaws.{Octets, weighted, running_is_weighted, sum_turn, weighted_turn, sums_most}
+use Rattle.card_block.proofs.SumLaws.{weighted}
 use Rattle.card_block.proofs.half_sums.Given as goal
 
 abbrev pub invariant-loop-i : goal.invariant-loop-i

@@ -5,7 +5,6 @@ use borrow.Author.Tests.{not-false}
 use Rattle.ground.proofs.Cases.{past, here}
 use Rattle.card_block.specs.Block.{check_rule, number_rule, kind_rule, count_rule, full_rule}
 use Rattle.card_block.proofs.Records.{count_room}
-use borrow.Author.Rules.{rules}
 -- the rows that do not apply where the next rule is asked
 use Rattle.card_block.proofs.judge.Goals as goal
 

@@ -1,7 +1,6 @@
 -- `card_block::kind_right`: the code compares as the rule does.
 use mathlib.Core.Path.{refl}
 use Rattle.card_block.specs.Block.{kind_rule}
-use borrow.Author.Rules.{rules}
 use Rattle.card_block.proofs.kind_right.Goals as goal
 
 pub returns : goal.returns

@@ -1,7 +1,6 @@
 -- `card_block::number_right`: what `half_at` ensures is compared with the place.
 use lib.Dec.{eqb}
 use Rattle.card_block.specs.Block.{number_rule}
-use borrow.Author.Rules.{rules}
 use Rattle.card_block.proofs.number_right.Goals as goal
 
 pub returns : goal.returns

@@ -3,7 +3,6 @@ use mathlib.Core.Path.{◌∙◌, ap}
 use Prim.Native.Nat.{ℕ}
 use Rattle.ground.specs.Lists.{part}
 use Rattle.card_block.specs.Block.{all_zero, padding_rule}
-use borrow.Author.Rules.{rules}
 use Rattle.card_block.proofs.padding_right.Goals as goal
 
 pub slice_bounds-all_zero-count : goal.slice_bounds-all_zero-count

@@ -2,7 +2,6 @@
 use Prim.Native.Nat.{◌*◌, ◌≤◌}
 use native.Mathlib.Omega.{arith}
 use Rattle.card_block.proofs.Records.{records_room}
-use borrow.Author.Rules.{rules}
 use Rattle.card_block.proofs.records_end.Goals as goal
 
 pub overflow_mul-result : goal.overflow_mul-result

@@ -1,7 +1,6 @@
 -- `card_block::sums`: the sums of the two halves are those of the whole, and they fit; so the remainders are those of SCOPE 3.4.
 use Prim.Native.Nat.{◌%◌}
 use native.Mathlib.Omega.{arith}
-use borrow.Author.Rules.{rules}
 use Rattle.card_block.specs.Sums.{sums_of}
 use Rattle.card_block.proofs.SumLaws.{Octets, FromHalves, from_halves}
 use Rattle.card_block.proofs.sums.Goals as goal

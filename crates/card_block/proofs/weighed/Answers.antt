@@ -2,7 +2,6 @@
 use Prim.Native.Nat.{ℕ, ◌*◌, ◌<◌, ◌≤◌}
 use native.Mathlib.Nat.{mul-le-mul}
 use native.Mathlib.Omega.{arith}
-use borrow.Author.Rules.{rules}
 use Rattle.card_block.proofs.weighed.Goals as goal
 
 most : (weight octet : ℕ) → weight ≤ 255 → octet < 256 → weight * octet ≤ 65025

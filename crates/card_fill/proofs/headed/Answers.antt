@@ -1,6 +1,5 @@
 -- `card_fill::headed`: the zeros with five stores are the head and the zeros behind it, by computation.
 use mathlib.Core.Path.{refl}
-use borrow.Author.Rules.{rules}
 use Rattle.card_fill.proofs.headed.Goals as goal
 
 pub returns : goal.returns

@@ -7,7 +7,6 @@ use lib.ListN.{take, drop}
 use Rattle.ground.specs.Lists.{laid}
 use Rattle.ground.proofs.Laying.{part_length}
 use Rattle.card_fill.proofs.Making.{made}
-use borrow.Author.Rules.{rules}
 use Rattle.card_fill.proofs.octets_block.Goals as goal
 
 pub returns : goal.returns

@@ -4,7 +4,6 @@ use Prim.Native.Nat.{◌*◌}
 use native.Mathlib.Omega.{arith}
 use lib.Seq.{take_all}
 use Rattle.ground.specs.Lists.{laid}
-use borrow.Author.Rules.{rules}
 use Rattle.card_fill.proofs.put_block.Goals as goal
 
 pub returns : goal.returns

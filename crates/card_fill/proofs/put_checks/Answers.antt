@@ -6,7 +6,6 @@ use Rattle.ground.specs.Lists.{laid}
 use native.Mathlib.Omega.{arith}
 use Rattle.card_block.specs.Sums.{sums_of}
 use Rattle.ground.proofs.Laying.{laid_two}
-use borrow.Author.Rules.{rules}
 use Rattle.card_fill.proofs.put_checks.Goals as goal
 
 pub overflow_cast-b : goal.overflow_cast-b

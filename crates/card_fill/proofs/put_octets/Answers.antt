@@ -1,9 +1,9 @@
 -- `card_fill::put_octets`: the first i octets are laid, and a turn lays the next behind them.
-use mathlib.Core.Path.{◌≡◌, sym, ap, ◌∙◌}
-use Prim.Native.Nat.{◌≤◌, ◌<◌, ◌-◌, ◌+◌}
+use mathlib.Core.Path.{sym, ap, ◌∙◌}
+use Prim.Native.Nat.{◌<◌, ◌-◌, ◌+◌}
 use native.Mathlib.Omega.{arith}
 use borrow.Author.Rules.{rules}
-use lib.ListN.{length, get_or, take, drop, length-set, length-drop}
+use lib.ListN.{length, get_or, drop, length-set, length-drop}
 use lib.Seq.{get_or-drop}
 use Rattle.ground.specs.Lists.{laid}
 use Rattle.ground.proofs.Laying.{laid_nothing, store_turn, part_end}

@@ -9,7 +9,6 @@ use Rattle.ground.specs.Words.{octets_of}
 use Rattle.ground.proofs.Laying.{part_length}
 use Rattle.card_fill.proofs.Making.{made}
 use Rattle.ground.proofs.Words.{octets_length}
-use borrow.Author.Rules.{rules}
 use Rattle.card_fill.proofs.words_block.Goals as goal
 
 pub returns : goal.returns

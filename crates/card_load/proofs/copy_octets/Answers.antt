@@ -1,10 +1,10 @@
 -- `card_load::copy_octets`: after i turns the first i octets are pasted in.
-use Prim.Native.Nat.{◌≤◌, ◌<◌, ◌-◌, ◌+◌}
-use mathlib.Core.Path.{◌≡◌, sym}
+use Prim.Native.Nat.{◌<◌, ◌+◌}
+use mathlib.Core.Path.{sym}
 use native.Mathlib.Omega.{arith}
 use borrow.Author.Rules.{rules}
 use lib.ListN.{length, get_or, drop, length-set, length-drop}
-use lib.Seq.{paste, paste-zero, get_or-drop}
+use lib.Seq.{paste-zero, get_or-drop}
 use Rattle.card_load.proofs.Copying.{copy_turn, copy_end}
 use Rattle.card_load.proofs.copy_octets.Goals as goal
 

@@ -1,14 +1,9 @@
 -- `card_load::copy_words`: after i turns the first i words are pasted in.
-use Prim.Native.Nat.{ℕ, ◌≤◌, ◌<◌, ◌-◌, ◌+◌, ◌*◌}
-use mathlib.Core.Path.{◌≡◌, sym, ◌∙◌}
-use mathlib.Core.List.{List}
-use native.Mathlib.Omega.{arith}
-use borrow.Author.Rules.{rules}
-use lib.ListN.{length, get_or, drop, length-set, length-drop}
-use lib.Seq.{paste, paste-zero}
-use Rattle.ground.specs.Words.{word_at, words}
-use Rattle.ground.proofs.Words.{words_length, words_at, word_drop}
-use Rattle.card_load.proofs.Copying.{copy_turn, copy_end}
+use Prim.Native.Nat.{◌≤◌, ◌-◌}
+use mathlib.Core.Path.{◌≡◌}
+use lib.ListN.{length, drop}
+use lib.Seq.{paste}
+use Rattle.ground.specs.Words.{words}
 use Rattle.card_load.proofs.copy_words.Given as goal
 
 abbrev pub invariant-loop-i : goal.invariant-loop-i

@@ -8,7 +8,6 @@ use Rattle.ground.specs.Limits.{most_groups, most_tracks, most_segments, most_te
 use Rattle.ground.proofs.Cases.{past, here}
 use Rattle.card_load.specs.Card.{blocks, record_count}
 use Rattle.card_load.specs.Load.{fits, room_rule}
-use borrow.Author.Rules.{rules}
 -- where the counts are taken
 use Rattle.card_load.proofs.count.Goals as goal
 

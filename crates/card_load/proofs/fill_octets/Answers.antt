@@ -8,7 +8,7 @@ use lib.ListN.{length, drop}
 use Rattle.card_block.proofs.Records.{Cut, cut_octets}
 use Rattle.card_load.specs.Card.{block_at, octets}
 use Rattle.card_load.proofs.Blocks.{block_length}
-use Rattle.card_load.proofs.Filling.{Filling, start, skip, room, put, end}
+use Rattle.card_load.proofs.Filling.{start, skip, room, put, end}
 use Rattle.card_load.proofs.fill_octets.Goals as goal
 use Rattle.card_load.proofs.fill_octets.Goals.{then-b-kind, else-b-kind}
 

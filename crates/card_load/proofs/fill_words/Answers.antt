@@ -9,7 +9,7 @@ use Rattle.ground.specs.Words.{words}
 use Rattle.card_block.proofs.Records.{Cut, cut_words}
 use Rattle.card_load.specs.Card.{block_at}
 use Rattle.card_load.proofs.Blocks.{block_length}
-use Rattle.card_load.proofs.Filling.{Filling, start, skip, room, put, end}
+use Rattle.card_load.proofs.Filling.{start, skip, room, put, end}
 use Rattle.card_load.proofs.fill_words.Goals as goal
 use Rattle.card_load.proofs.fill_words.Goals.{then-b-kind, else-b-kind}
 

@@ -1,16 +1,7 @@
 -- `card_load::fill_words`: the loop's state is `Filling`.
-use Prim.Native.Nat.{ℕ, ◌≤◌, ◌-◌, ◌+◌, ◌/◌}
-use mathlib.Core.Path.{◌≡◌}
-use mathlib.Core.List.{List}
-use mathlib.Core.Logic.{⊎_elim}
-use native.Mathlib.Omega.{arith}
-use borrow.Author.Rules.{rules}
-use lib.ListN.{length, drop}
+use Prim.Native.Nat.{◌≤◌, ◌-◌}
 use Rattle.ground.specs.Words.{words}
-use Rattle.card_block.proofs.Records.{Cut, cut_words}
-use Rattle.card_load.specs.Card.{block_at}
-use Rattle.card_load.proofs.Blocks.{block_length}
-use Rattle.card_load.proofs.Filling.{Filling, start, skip, room, put, end}
+use Rattle.card_load.proofs.Filling.{Filling}
 use Rattle.card_load.proofs.fill_words.Given as goal
 
 abbrev pub invariant-loop-i : goal.invariant-loop-i

@@ -1,17 +1,9 @@
 -- `card_load::judge_blocks`: what the rows of the blocks that are left say is what the rows of all say.
-use Prim.Native.Nat.{ℕ, ◌≤◌, ◌<◌, ◌-◌, ◌+◌}
-use mathlib.Core.Path.{◌≡◌, refl, sym, ap, ◌∙◌}
-use mathlib.Core.Bool.{Bool}
-use mathlib.Core.List.{List, [], ◌++◌}
-use native.Mathlib.Omega.{arith}
-use borrow.Author.Rules.{rules}
+use Prim.Native.Nat.{◌≤◌, ◌-◌}
+use mathlib.Core.Path.{◌≡◌}
 use lib.ListN.{drop}
-use Rattle.ground.specs.Refusals.{Said, granted, Row, said_by}
-use Rattle.ground.proofs.Rows.{kept, more, beyond}
-use Rattle.card_block.specs.declared.Judged.{Judged}
-use Rattle.card_block.specs.Block.{kind_of, block_rows, said_of}
-use Rattle.card_load.specs.Card.{blocks, block_at, last_of_kind, blocks_rows}
-use Rattle.card_load.proofs.Blocks.{blocks_cons, blocks_end, block_length}
+use Rattle.ground.specs.Refusals.{said_by}
+use Rattle.card_load.specs.Card.{blocks, blocks_rows}
 use Rattle.card_load.proofs.judge_blocks.Given as goal
 
 abbrev pub invariant-loop-i : goal.invariant-loop-i

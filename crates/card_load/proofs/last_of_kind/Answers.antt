@@ -1,6 +1,6 @@
 -- `card_load::last_of_kind`: the two kind octets are compared where they stand on the card.
-use mathlib.Core.Path.{◌≡◌, refl, sym, ap, ◌∙◌}
-use mathlib.Core.Bool.{Bool, true, not}
+use mathlib.Core.Path.{◌≡◌, refl}
+use mathlib.Core.Bool.{true, not}
 use mathlib.Core.List.{List}
 use Prim.Native.Nat.{ℕ, ◌+◌, ◌*◌, ◌≤◌, ◌<◌}
 use native.Mathlib.Omega.{arith}
@@ -8,7 +8,6 @@ use lib.Dec.{eqb}
 use lib.ListN.{get_or, drop}
 use Rattle.card_load.specs.Card.{blocks, block_at, last_of_kind}
 use Rattle.card_load.proofs.Blocks.{blocks_cons, blocks_end, kind_at}
-use borrow.Author.Rules.{rules}
 -- the block behind
 use Rattle.card_load.proofs.last_of_kind.Goals as goal
 

@@ -6,7 +6,6 @@ use Rattle.card_load.specs.declared.Loaded.{Loaded}
 use Rattle.card_load.specs.declared.Loaded.TheVariants.{Done}
 use Rattle.card_load.specs.Load.{said_of, load_said}
 use Rattle.card_load.proofs.Sound.{Sound, sound}
-use borrow.Author.Rules.{rules}
 -- an answer of the survey says what the survey says
 use Rattle.card_load.proofs.load.Goals as goal
 

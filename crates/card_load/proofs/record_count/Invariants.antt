@@ -1,17 +1,8 @@
 -- `card_load::record_count`: the sum so far and the records that are left are all records.
-use Prim.Native.Nat.{ℕ, ◌≤◌, ◌<◌, ◌-◌, ◌+◌, ◌*◌}
+use Prim.Native.Nat.{◌≤◌, ◌-◌, ◌+◌, ◌*◌}
 use mathlib.Core.Path.{◌≡◌}
-use mathlib.Core.List.{List}
-use mathlib.Core.Logic.{⊎_elim}
-use native.Mathlib.Omega.{arith}
-use borrow.Author.Rules.{rules}
-use borrow.Author.Tests.{eq-eqb, ne_eqb}
-use lib.Dec.{eqb}
 use lib.ListN.{drop}
-use Rattle.ground.specs.Cases.{pick}
-use Rattle.card_block.specs.Block.{kind_of, count_of}
-use Rattle.card_load.specs.Card.{blocks, block_at, record_count}
-use Rattle.card_load.proofs.Blocks.{blocks_cons, blocks_end, block_length}
+use Rattle.card_load.specs.Card.{blocks, record_count}
 use Rattle.card_load.proofs.record_count.Given as goal
 
 abbrev pub invariant-loop-i : goal.invariant-loop-i

@@ -14,7 +14,6 @@ use Rattle.card_block.specs.declared.Judged.TheVariants.{Fine}
 use Rattle.card_block.specs.Block.{said_of}
 use Rattle.card_load.specs.Card.{length_rule, blocks_of, blocks_rows, blocks_rule}
 use Rattle.card_load.proofs.Answers.{says_length, says_block, says_behind}
-use borrow.Author.Rules.{rules}
 -- a length that breaks its rule
 use Rattle.card_load.proofs.survey.Goals as goal
 

@@ -1,11 +1,9 @@
 -- `card_write::write`: 200 is the check's; behind it the tables are short, and the room decides.
-use mathlib.Core.Path.{◌≡◌, refl, sym, ap, ◌∙◌}
-use Rattle.ground.specs.Refusals.{granted}
+use mathlib.Core.Path.{refl, sym, ap, ◌∙◌}
 use Rattle.catalogue_tables.specs.Tables.{tables}
 use Rattle.catalogue_check.specs.Catalogue.{Right, said_of}
 use Rattle.catalogue_check.proofs.Laws.{few_segments, few_text}
 use Rattle.card_write.proofs.Answers.{says_catalogue, says_behind, short_groups, short_tracks}
-use borrow.Author.Rules.{rules}
 use Rattle.card_write.proofs.write.Goals as goal
 
 pub write_tables-requires-clause-groups_len_bound : goal.write_tables-requires-clause-groups_len_bound

@@ -6,7 +6,6 @@ use Rattle.ground.proofs.Laying.{laid_front}
 use Rattle.catalogue_tables.specs.Tables.{tables}
 use Rattle.card_write.specs.Card.{card_of}
 use Rattle.card_write.proofs.Joining.{card_laid}
-use borrow.Author.Rules.{rules}
 use Rattle.card_write.proofs.write_tables.Goals as goal
 
 pub returns-then-card-n-clause-result_value : goal.returns-then-card-n-clause-result_value

@@ -1,10 +1,10 @@
 -- `card_write::write_text`: the first i blocks are laid (`Laying`), and a turn lays the next.
 use mathlib.Core.Path.{◌∙◌}
-use Prim.Native.Nat.{◌≤◌, ◌-◌}
+use Prim.Native.Nat.{◌-◌}
 use native.Mathlib.Omega.{arith}
 use borrow.Author.Rules.{rules}
 use Rattle.card_write.specs.Card.{text_blocks}
-use Rattle.card_write.proofs.Joining.{Laying, laying_start, laying_next, laying_end, text_many, text_long, text_next}
+use Rattle.card_write.proofs.Joining.{laying_start, laying_next, laying_end, text_many, text_long, text_next}
 use Rattle.card_write.proofs.write_text.Goals as goal
 
 pub loop-i-init : goal.loop-i-init

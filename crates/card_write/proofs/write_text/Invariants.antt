@@ -1,10 +1,7 @@
 -- `card_write::write_text`: the first i blocks are laid (`Laying`), and a turn lays the next.
-use mathlib.Core.Path.{◌∙◌}
 use Prim.Native.Nat.{◌≤◌, ◌-◌}
-use native.Mathlib.Omega.{arith}
-use borrow.Author.Rules.{rules}
 use Rattle.card_write.specs.Card.{text_blocks}
-use Rattle.card_write.proofs.Joining.{Laying, laying_start, laying_next, laying_end, text_many, text_long, text_next}
+use Rattle.card_write.proofs.Joining.{Laying}
 use Rattle.card_write.proofs.write_text.Given as goal
 
 abbrev pub invariant-loop-i : goal.invariant-loop-i

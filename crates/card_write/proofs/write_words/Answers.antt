@@ -1,11 +1,11 @@
 -- `card_write::write_words`: the first i blocks are laid (`Laying`), and a turn lays the next.
 use mathlib.Core.Path.{◌∙◌}
-use Prim.Native.Nat.{◌≤◌, ◌-◌}
+use Prim.Native.Nat.{◌-◌}
 use native.Mathlib.Nat.{div-le_self}
 use native.Mathlib.Omega.{arith}
 use borrow.Author.Rules.{rules}
 use Rattle.card_write.specs.Card.{word_blocks}
-use Rattle.card_write.proofs.Joining.{Laying, laying_start, laying_next, laying_end, words_many, words_long, words_next}
+use Rattle.card_write.proofs.Joining.{laying_start, laying_next, laying_end, words_many, words_long, words_next}
 use Rattle.card_write.proofs.write_words.Goals as goal
 
 pub loop-i-init : goal.loop-i-init

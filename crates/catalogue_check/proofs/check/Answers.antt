@@ -3,7 +3,6 @@ use mathlib.Core.Path.{◌≡◌, sym, ap, ◌∙◌}
 use mathlib.Core.Bool.{true, false}
 use mathlib.Core.List.{[], ◌∷◌}
 use Prim.Native.Nat.{ℕ}
-use borrow.Author.Tests.{not-true, not-false}
 use Rattle.ground.specs.Refusals.{granted, refused, refused_with}
 use Rattle.catalogue_tables.specs.Tables.{Tables, tables}
 use Rattle.catalogue_rules.specs.declared.Titles.{Titles}
@@ -12,7 +11,6 @@ use Rattle.catalogue_rules.proofs.Checked.{titles_inside}
 use Rattle.catalogue_rules.proofs.BadTitles.{text_is, text_not}
 use Rattle.catalogue_check.specs.Catalogue.{plain_rule, catalogue_rule, catalogue_carries, check_said}
 use Rattle.catalogue_check.proofs.Laws.{plain_kept}
-use borrow.Author.Rules.{rules}
 -- what the check says, by the first that fails
 use Rattle.catalogue_check.proofs.check.Goals as goal
 

@@ -1,8 +1,6 @@
 -- `catalogue_cue::begins_with`: what is left of the line begins with what is left of the word exactly where the whole does.
-use mathlib.Core.Path.{◌≡◌, refl, sym, ◌∙◌}
-use Prim.Native.Nat.{◌≤◌, ◌-◌}
-use lib.ListN.{length, drop}
-use Rattle.catalogue_cue.specs.Sheet.{begins}
+use mathlib.Core.Path.{refl, sym, ◌∙◌}
+use Prim.Native.Nat.{◌-◌}
 use Rattle.catalogue_cue.proofs.Words.{begins_short, begins_goes, begins_stops, begins_ends}
 use borrow.Author.Rules.{rules}
 use Rattle.catalogue_cue.proofs.begins_with.Goals as goal

@@ -1,10 +1,8 @@
 -- `catalogue_cue::begins_with`: what is left of the line begins with what is left of the word exactly where the whole does.
-use mathlib.Core.Path.{◌≡◌, refl, sym, ◌∙◌}
+use mathlib.Core.Path.{◌≡◌}
 use Prim.Native.Nat.{◌≤◌, ◌-◌}
 use lib.ListN.{length, drop}
 use Rattle.catalogue_cue.specs.Sheet.{begins}
-use Rattle.catalogue_cue.proofs.Words.{begins_short, begins_goes, begins_stops, begins_ends}
-use borrow.Author.Rules.{rules}
 use Rattle.catalogue_cue.proofs.begins_with.Given as goal
 
 abbrev pub invariant-loop-i : goal.invariant-loop-i

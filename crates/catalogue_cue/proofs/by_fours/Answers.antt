@@ -2,10 +2,8 @@
 use mathlib.Core.Path.{sym, ◌∙◌}
 use Prim.Native.Nat.{◌+◌, ◌-◌}
 use native.Mathlib.Omega.{arith}
-use lib.ListN.{length}
 use Rattle.catalogue_cue.specs.Scan.{is_it, Passes}
 use Rattle.catalogue_cue.proofs.Ahead.{passes_none, passes_one}
-use borrow.Author.Rules.{rules}
 use Rattle.catalogue_cue.proofs.by_fours.Goals as goal
 
 pub loop-i-init : goal.loop-i-init

@@ -1,11 +1,7 @@
 -- `catalogue_cue::by_fours`: each octet is one step.
-use mathlib.Core.Path.{sym, ◌∙◌}
-use Prim.Native.Nat.{◌+◌, ◌-◌}
-use native.Mathlib.Omega.{arith}
+use Prim.Native.Nat.{◌-◌}
 use lib.ListN.{length}
 use Rattle.catalogue_cue.specs.Scan.{is_it, Passes}
-use Rattle.catalogue_cue.proofs.Ahead.{passes_none, passes_one}
-use borrow.Author.Rules.{rules}
 use Rattle.catalogue_cue.proofs.by_fours.Given as goal
 
 abbrev pub invariant-loop-i : goal.invariant-loop-i

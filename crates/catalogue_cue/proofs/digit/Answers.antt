@@ -4,7 +4,6 @@ use native.Mathlib.Omega.{arith}
 use borrow.Author.Tests.{leb-true}
 use lib.Dec.{leb}
 use Rattle.ground.proofs.Cases.{and_left, and_right}
-use borrow.Author.Rules.{rules}
 use Rattle.catalogue_cue.proofs.digit.Goals as goal
 
 pub overflow_sub-result : goal.overflow_sub-result

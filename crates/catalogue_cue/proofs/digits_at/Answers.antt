@@ -1,7 +1,6 @@
 -- `catalogue_cue::digits_at`: both octets.
 use mathlib.Core.Bool.{◌&&◌}
 use Rattle.catalogue_cue.specs.Sheet.{digits_at}
-use borrow.Author.Rules.{rules}
 use Rattle.catalogue_cue.proofs.digits_at.Goals as goal
 
 pub returns : goal.returns

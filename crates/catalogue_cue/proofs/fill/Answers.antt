@@ -9,7 +9,7 @@ use lib.Seq.{take-length, length-take-le}
 use Rattle.ground.proofs.Cases.{le_or}
 use Rattle.ground.proofs.Filling.{Filling, filling_starts, filling_ends, filling_room, filling_goes}
 use Rattle.catalogue_cue.specs.Sheet.{line_of, sheet_lines, starts_of}
-use Rattle.catalogue_cue.specs.Scan.{lines_from, AllUnderstood}
+use Rattle.catalogue_cue.specs.Scan.{lines_from}
 use Rattle.catalogue_cue.proofs.Lines.{from_zero, from_beyond}
 use Rattle.catalogue_cue.proofs.Meaning.{starts_split}
 use borrow.Author.Rules.{rules}

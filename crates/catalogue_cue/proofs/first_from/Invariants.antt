@@ -1,10 +1,7 @@
 -- `catalogue_cue::first_from`: each octet is one step.
-use mathlib.Core.Path.{sym, ◌∙◌}
 use Prim.Native.Nat.{◌-◌}
 use lib.ListN.{length}
 use Rattle.catalogue_cue.specs.Scan.{is_it, Passes}
-use Rattle.catalogue_cue.proofs.Ahead.{ahead_stops, ahead_ends, passes_one}
-use borrow.Author.Rules.{rules}
 use Rattle.catalogue_cue.proofs.first_from.Given as goal
 
 abbrev pub invariant-loop-i : goal.invariant-loop-i

@@ -1,7 +1,6 @@
 -- `catalogue_cue::hundredths_of`: the sum of SCOPE 6.6, as it stands.
 use mathlib.Core.Path.{refl}
 use Rattle.catalogue_cue.specs.Sheet.{hundredths}
-use borrow.Author.Rules.{rules}
 use Rattle.catalogue_cue.proofs.hundredths_of.Goals as goal
 
 pub returns : goal.returns

@@ -3,7 +3,6 @@ use native.Mathlib.Omega.{arith}
 use Rattle.ground.specs.Lists.{all_below}
 use Rattle.catalogue_cue.specs.Sheet.{octets}
 use Rattle.catalogue_cue.proofs.Form.{begins_by_places}
-use borrow.Author.Rules.{rules}
 use Rattle.catalogue_cue.proofs.is_index_01.Goals as goal
 
 pub returns : goal.returns

@@ -1,13 +1,11 @@
 -- `catalogue_cue::is_other_index`: the tests of the definition, in its order.
 use mathlib.Core.Path.{◌≡◌, sym, ap, ◌∙◌}
 use mathlib.Core.Bool.{Bool, true, not, ◌&&◌}
-use borrow.Author.Tests.{not-true, not-false}
 use lib.Dec.{eqb}
 use Rattle.ground.proofs.Cases.{and_right}
 use native.Mathlib.Omega.{arith}
 use Rattle.catalogue_cue.specs.Sheet.{octets, begins, digits_at, number_at, is_other_index}
 use Rattle.catalogue_cue.proofs.Form.{short_index}
-use borrow.Author.Rules.{rules}
 -- both tests, as the code asks them
 use Rattle.catalogue_cue.proofs.is_other_index.Goals as goal
 

@@ -4,7 +4,6 @@ use mathlib.Core.Bool.{◌||◌, or-false}
 use native.Mathlib.Omega.{arith}
 use borrow.Author.Tests.{ne_eqb}
 use Rattle.catalogue_cue.proofs.Words.{passed_by, filled_line}
-use borrow.Author.Rules.{rules}
 use Rattle.catalogue_cue.proofs.is_passed.Goals as goal
 
 pub returns-in-73 : goal.returns-in-73

@@ -1,5 +1,5 @@
 -- `catalogue_cue::is_start`: the tests of the definition.
-use borrow.Author.Tests.{ne_eqb, eq-eqb, not-true, not-false}
+use borrow.Author.Tests.{ne_eqb, eq-eqb}
 use mathlib.Core.Path.{◌≡◌, sym, ap, ◌∙◌}
 use mathlib.Core.Bool.{Bool, true, ◌&&◌}
 use mathlib.Core.List.{List}
@@ -8,7 +8,6 @@ use native.Mathlib.Omega.{arith}
 use lib.Dec.{leb}
 use Rattle.catalogue_cue.specs.Sheet.{number_at, colon_at, is_start}
 use Rattle.catalogue_cue.proofs.Form.{time_form, start_by, digits_12, digits_15}
-use borrow.Author.Rules.{rules}
 -- length and word are right
 use Rattle.catalogue_cue.proofs.is_start.Goals as goal
 

@@ -1,6 +1,5 @@
 -- `catalogue_cue::line_at`: the ways in which a line ends.
 use Rattle.catalogue_cue.proofs.Lines.{cut_last, cut_empty, cut_plain, cut_cr}
-use borrow.Author.Rules.{rules}
 use Rattle.catalogue_cue.proofs.line_at.Goals as goal
 use Rattle.catalogue_cue.proofs.line_at.Goals.{then-lf-sheet+then-at-lf+else-sheet-lf-eq-CR, then-lf-sheet+else-at-lf, else-lf-sheet}
 

@@ -1,7 +1,6 @@
 -- `catalogue_cue::looks_start`: the room, and three octets.
 use borrow.Author.Tests.{lt-leb, le-leb}
 use Rattle.catalogue_cue.specs.Scan.{looks_start}
-use borrow.Author.Rules.{rules}
 use Rattle.catalogue_cue.proofs.looks_start.Goals as goal
 
 pub returns-then-sheet-at-lt-START_OCTETS : goal.returns-then-sheet-at-lt-START_OCTETS

@@ -1,11 +1,8 @@
 -- `catalogue_cue::no_lf`: none of the octets so far is one.
-use mathlib.Core.Path.{◌≡◌, refl}
-use mathlib.Core.Bool.{not}
-use Prim.Native.Nat.{◌≤◌, ◌-◌}
-use lib.ListN.{length, get_or}
+use mathlib.Core.Path.{refl}
+use Prim.Native.Nat.{◌-◌}
 use Rattle.ground.specs.Lists.{all_below}
 use Rattle.ground.proofs.Bounded.{all_turn, all_end}
-use Rattle.catalogue_cue.specs.Scan.{is_lf}
 use borrow.Author.Rules.{rules}
 use Rattle.catalogue_cue.proofs.no_lf.Goals as goal
 

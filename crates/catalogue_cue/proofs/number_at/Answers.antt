@@ -3,7 +3,6 @@ use native.Mathlib.Omega.{arith}
 use lib.ListN.{get_or}
 use Rattle.ground.proofs.Cases.{and_left, and_right}
 use Rattle.catalogue_cue.specs.Sheet.{is_digit, digits_at, number_at}
-use borrow.Author.Rules.{rules}
 use Rattle.catalogue_cue.proofs.number_at.Goals as goal
 
 pub digit-requires : goal.digit-requires

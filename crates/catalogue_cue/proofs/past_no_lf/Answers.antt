@@ -3,14 +3,13 @@ use mathlib.Core.Path.{◌≡◌, sym, ap, ◌∙◌}
 use mathlib.Core.Bool.{false}
 use Prim.Native.Nat.{ℕ, ◌+◌, ◌-◌, ◌<◌}
 use native.Mathlib.Omega.{arith}
-use borrow.Author.Tests.{not-true, not-false}
+use borrow.Author.Tests.{not-true}
 use lib.ListN.{length, get_or}
 use Rattle.ground.specs.Lists.{part}
 use Rattle.ground.proofs.Bounded.{all_at}
-use Rattle.catalogue_cue.specs.Scan.{is_lf, Passes}
+use Rattle.catalogue_cue.specs.Scan.{is_lf}
 use Rattle.catalogue_cue.proofs.Ahead.{ahead_past, passes_none, passes_more}
 use Rattle.catalogue_cue.proofs.Lines.{part_length, part_at}
-use borrow.Author.Rules.{rules}
 use Rattle.catalogue_cue.proofs.past_no_lf.Goals as goal
 
 pub loop-i-init : goal.loop-i-init

@@ -8,7 +8,6 @@ use lib.ListN.{length, set}
 use lib.Seq.{paste, paste-zero, set_split}
 use Rattle.catalogue_cue.specs.declared.Line.{Line}
 use Rattle.catalogue_cue.specs.Sheet.{starts_of}
-use borrow.Author.Rules.{rules}
 -- one word over a place
 use Rattle.catalogue_cue.proofs.put.Goals as goal
 

@@ -6,7 +6,6 @@ use Rattle.ground.specs.Refusals.{Said}
 use Rattle.catalogue_cue.specs.declared.Cued.{Cued}
 use Rattle.catalogue_cue.specs.Sheet.{said_of}
 use Rattle.catalogue_cue.proofs.Accepted.{accepted}
-use borrow.Author.Rules.{rules}
 -- an answer of the survey says what the survey says
 use Rattle.catalogue_cue.proofs.read.Goals as goal
 

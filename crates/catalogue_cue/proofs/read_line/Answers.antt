@@ -2,7 +2,6 @@
 use mathlib.Core.Path.{sym, ◌∙◌}
 use native.Mathlib.Omega.{arith}
 use Rattle.catalogue_cue.proofs.Reading.{start_read, passed_read, fault_read}
-use borrow.Author.Rules.{rules}
 use Rattle.catalogue_cue.proofs.read_line.Goals as goal
 
 pub slice_bounds-start_of-end : goal.slice_bounds-start_of-end

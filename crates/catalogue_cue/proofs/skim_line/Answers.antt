@@ -5,7 +5,6 @@ use native.Mathlib.Omega.{arith}
 use Rattle.catalogue_cue.specs.Scan.{is_lf, ahead_end, StartLine}
 use Rattle.catalogue_cue.proofs.Reading.{start_read}
 use Rattle.catalogue_cue.proofs.Skimming.{skim_start, skim_passed}
-use borrow.Author.Rules.{rules}
 -- a line that looks like a start
 use Rattle.catalogue_cue.proofs.skim_line.Goals as goal
 

@@ -4,11 +4,9 @@ use mathlib.Core.Bool.{true}
 use Prim.Native.Nat.{◌+◌}
 use native.Mathlib.Omega.{arith}
 use Rattle.catalogue_cue.proofs.Form.{beyond}
-use borrow.Author.Tests.{not-true, not-false}
 use Rattle.ground.specs.Lists.{part}
 use Rattle.catalogue_cue.specs.Sheet.{is_start}
 use Rattle.catalogue_cue.proofs.Starting.{ends_last, ends_lf, ends_cr_lf, no_room, no_form, no_end}
-use borrow.Author.Rules.{rules}
 use Rattle.catalogue_cue.proofs.start_line.Goals as goal
 
 pub returns-then-sheet-at-lt-START_OCTETS : goal.returns-then-sheet-at-lt-START_OCTETS

@@ -3,7 +3,6 @@ use mathlib.Core.Path.{◌∙◌}
 use native.Mathlib.Omega.{arith}
 use Rattle.catalogue_cue.specs.Sheet.{hundredths, start_of}
 use Rattle.catalogue_cue.proofs.Form.{start_form, digits_9, digits_12, digits_15}
-use borrow.Author.Rules.{rules}
 use Rattle.catalogue_cue.proofs.start_of.Goals as goal
 
 pub number_at-mm-requires-clause-at_in_bounds : goal.number_at-mm-requires-clause-at_in_bounds

@@ -2,7 +2,7 @@
 use mathlib.Core.Path.{◌≡◌, sym, ap, ◌∙◌}
 use mathlib.Core.Bool.{false}
 use mathlib.Core.List.{[], ◌∷◌}
-use Prim.Native.Nat.{ℕ, ◌≤◌, ◌+◌, ◌-◌}
+use Prim.Native.Nat.{ℕ, ◌-◌}
 use native.Mathlib.Omega.{arith}
 use borrow.Author.Tests.{lt-ltb, le-ltb}
 use lib.Dec.{ltb}
@@ -12,7 +12,7 @@ use Rattle.ground.proofs.Cases.{past, here}
 use Rattle.catalogue_cue.specs.Scan.{judged}
 use Rattle.catalogue_cue.specs.Sheet.{sheet_lines, starts_of}
 use Rattle.catalogue_cue.proofs.Said.{behind_of, cue_said_lem}
-use Rattle.catalogue_cue.proofs.Judging.{Judging, Turned, judging_starts, judging_ends, all_counted, turned}
+use Rattle.catalogue_cue.proofs.Judging.{Turned, judging_starts, judging_ends, all_counted, turned}
 use borrow.Author.Rules.{rules}
 use Rattle.catalogue_cue.proofs.survey.Goals as goal
 

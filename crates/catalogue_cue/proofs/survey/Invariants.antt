@@ -1,19 +1,8 @@
 -- `catalogue_cue::survey`: the loop's state is `Judging`.
-use mathlib.Core.Path.{◌≡◌, sym, ap, ◌∙◌}
-use mathlib.Core.Bool.{false}
-use mathlib.Core.List.{[], ◌∷◌}
-use Prim.Native.Nat.{ℕ, ◌≤◌, ◌+◌, ◌-◌}
-use native.Mathlib.Omega.{arith}
-use borrow.Author.Tests.{lt-ltb, le-ltb}
-use lib.Dec.{ltb}
+use Prim.Native.Nat.{◌≤◌, ◌+◌, ◌-◌}
 use lib.ListN.{length}
-use Rattle.ground.specs.Refusals.{granted}
-use Rattle.ground.proofs.Cases.{past, here}
-use Rattle.catalogue_cue.specs.Scan.{judged}
-use Rattle.catalogue_cue.specs.Sheet.{sheet_lines, starts_of}
-use Rattle.catalogue_cue.proofs.Said.{behind_of, cue_said_lem}
-use Rattle.catalogue_cue.proofs.Judging.{Judging, Turned, judging_starts, judging_ends, all_counted, turned}
-use borrow.Author.Rules.{rules}
+use Rattle.catalogue_cue.proofs.Said.{behind_of}
+use Rattle.catalogue_cue.proofs.Judging.{Judging}
 use Rattle.catalogue_cue.proofs.survey.Given as goal
 
 abbrev pub invariant-loop-at : goal.invariant-loop-at

@@ -3,7 +3,6 @@ use Rattle.catalogue_cue.specs.declared.Line.{Line}
 use mathlib.Core.Path.{sym, ap, ◌∙◌}
 use Rattle.catalogue_cue.specs.Scan.{weighed_of}
 use Rattle.catalogue_cue.proofs.Judging.{weighed_risen, weighed_fallen}
-use borrow.Author.Rules.{rules}
 use Rattle.catalogue_cue.proofs.weigh.Goals as goal
 
 pub returns-then-may_follow : goal.returns-then-may_follow

@@ -1,15 +1,10 @@
 -- `catalogue_objects::count_children`: what is counted and what is left to count make up all of them.
-use mathlib.Core.Path.{◌≡◌, refl, sym, ap, ◌∙◌}
-use mathlib.Core.List.{List}
-use mathlib.Core.Logic.{⊎_elim}
-use Prim.Native.Nat.{ℕ, ◌+◌, ◌-◌, ◌≤◌}
-use native.Mathlib.Omega.{arith}
+use mathlib.Core.Path.{◌≡◌}
+use Prim.Native.Nat.{◌+◌, ◌-◌, ◌≤◌}
 use lib.ListN.{length}
 use Rattle.ground.specs.Lists.{span, those}
 use Rattle.catalogue_tables.specs.Tables.{group_count}
 use Rattle.catalogue_objects.specs.Entries.{is_child, children_of}
-use Rattle.catalogue_objects.proofs.Spans.{span_shuts, those_taken, those_passed}
-use borrow.Author.Rules.{rules}
 use Rattle.catalogue_objects.proofs.count_children.Given as goal
 
 abbrev pub invariant-loop-h : goal.invariant-loop-h

@@ -3,10 +3,9 @@ use mathlib.Core.Path.{◌≡◌, refl, sym, ap, ◌∙◌}
 use mathlib.Core.Bool.{true}
 use Prim.Native.Nat.{◌+◌, ◌-◌, ◌≤◌}
 use native.Mathlib.Omega.{arith}
-use borrow.Author.Tests.{not-true, not-false}
 use lib.ListN.{length, drop, drop_of_length-le}
 use Rattle.ground.proofs.Cases.{clash}
-use Rattle.catalogue_objects.specs.Reading.{is_entry, Entries, entries_of}
+use Rattle.catalogue_objects.specs.Reading.{is_entry, Entries}
 use Rattle.catalogue_objects.proofs.Steps.{entries_end, entries_stop, some_left, entry_inside, left_behind}
 use borrow.Author.Rules.{rules}
 use Rattle.catalogue_objects.proofs.entries_over.Goals as goal

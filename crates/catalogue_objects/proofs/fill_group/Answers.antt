@@ -12,7 +12,6 @@ use Rattle.catalogue_objects.specs.Objects.{group_octets}
 use Rattle.catalogue_objects.proofs.Answers.{no_room, has_room}
 use Rattle.catalogue_objects.proofs.Octets.{all_append, members_long}
 use Rattle.catalogue_objects.proofs.Spans.{span_long}
-use borrow.Author.Rules.{rules}
 -- the octets of the children's records, and those of the tracks'
 use Rattle.catalogue_objects.proofs.fill_group.Goals as goal
 

@@ -7,7 +7,6 @@ use lib.ListN.{length}
 use Rattle.catalogue_objects.specs.Entries.{nameless, label_octets, all_octets}
 use Rattle.catalogue_objects.proofs.Answers.{no_room, has_room}
 use Rattle.catalogue_objects.proofs.Octets.{labels_long}
-use borrow.Author.Rules.{rules}
 use Rattle.catalogue_objects.proofs.fill_segments.Goals as goal
 
 pub returns-then-out-size-clause-result_value : goal.returns-then-out-size-clause-result_value

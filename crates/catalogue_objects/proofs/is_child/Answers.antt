@@ -1,7 +1,6 @@
 -- `catalogue_objects::is_child`: the two tests on the words of the two groups.
 use mathlib.Core.Bool.{◌&&◌, not}
 use lib.Dec.{eqb}
-use borrow.Author.Rules.{rules}
 use Rattle.catalogue_objects.proofs.is_child.Goals as goal
 
 pub returns : goal.returns

@@ -1,7 +1,6 @@
 -- `catalogue_objects::label_head`: an octet is below 256.
 use native.Mathlib.Omega.{arith}
 use Rattle.catalogue_objects.proofs.Stores.{first_of}
-use borrow.Author.Rules.{rules}
 use Rattle.catalogue_objects.proofs.label_head.Goals as goal
 
 pub overflow_cast-result : goal.overflow_cast-result

@@ -10,7 +10,6 @@ use Rattle.ground.specs.Words.{word_at}
 use Rattle.ground.proofs.Words.{word_drop}
 use Rattle.text.specs.Utf8.{text_of, is_fine}
 use Rattle.catalogue_objects.specs.Reading.{label_head, label_sound}
-use borrow.Author.Rules.{rules}
 use Rattle.catalogue_objects.proofs.label_sound.Goals as goal
 
 pub returns : goal.returns

@@ -1,5 +1,4 @@
 -- `catalogue_objects::look_over`: by the kind.
-use borrow.Author.Rules.{rules}
 use Rattle.catalogue_objects.proofs.look_over.Goals as goal
 
 pub returns-in-Group : goal.returns-in-Group

@@ -1,19 +1,10 @@
 -- `catalogue_objects::put_children`: the records of the children below h are laid, and those from h on are left.
-use mathlib.Core.Path.{◌≡◌, refl, sym, ap, ◌∙◌}
-use mathlib.Core.Bool.{true, false}
-use mathlib.Core.List.{List, [], ◌++◌, map}
-use mathlib.Core.Logic.{⊎_elim}
-use Prim.Native.Nat.{ℕ, ◌+◌, ◌-◌, ◌*◌, ◌<◌, ◌≤◌}
-use native.Mathlib.Omega.{arith}
-use lib.ListN.{length}
-use Rattle.ground.specs.Lists.{span, those, laid}
-use Rattle.ground.proofs.Laying.{laid_front}
+use mathlib.Core.List.{List, map}
+use Prim.Native.Nat.{ℕ, ◌-◌, ◌*◌, ◌≤◌}
+use Rattle.ground.specs.Lists.{span, those}
 use Rattle.catalogue_tables.specs.Tables.{group_count}
 use Rattle.catalogue_objects.specs.Entries.{group_member, is_child, children_of, member_octets, all_octets}
-use Rattle.catalogue_objects.proofs.Octets.{member_long, members_long}
-use Rattle.catalogue_objects.proofs.Pieces.{Pieces, pieces_start, pieces_end, pieces_same, pieces_room, pieces_go}
-use Rattle.catalogue_objects.proofs.Spans.{span_shuts, those_taken, those_passed}
-use borrow.Author.Rules.{rules}
+use Rattle.catalogue_objects.proofs.Pieces.{Pieces}
 use Rattle.catalogue_objects.proofs.put_children.Given as goal
 
 abbrev octets_of_all : List ℕ → List ℕ

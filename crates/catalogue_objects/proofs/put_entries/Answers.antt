@@ -6,7 +6,7 @@ use native.Mathlib.Omega.{arith}
 use lib.ListN.{length, drop, drop_of_length-le}
 use Rattle.ground.proofs.Laying.{laid_front}
 use Rattle.catalogue_objects.specs.Reading.{size_of, is_entry, words_of, width_of, Entries, entries_of}
-use Rattle.catalogue_objects.proofs.Pieces.{Pieces, pieces_start, pieces_end, pieces_same, pieces_room, pieces_go}
+use Rattle.catalogue_objects.proofs.Pieces.{pieces_start, pieces_end, pieces_same, pieces_room, pieces_go}
 use Rattle.catalogue_objects.proofs.Steps.{words_wide, entries_end, whole_next, words_long, some_left, entry_inside, left_behind}
 use borrow.Author.Rules.{rules}
 use Rattle.catalogue_objects.proofs.put_entries.Goals as goal

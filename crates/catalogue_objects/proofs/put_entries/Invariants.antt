@@ -1,14 +1,10 @@
 -- `catalogue_objects::put_entries`: the words of the entries before the place are laid, and those of the others are left.
-use mathlib.Core.Path.{◌≡◌, refl, sym, ap, ◌∙◌}
+use mathlib.Core.Path.{◌≡◌}
 use mathlib.Core.Bool.{true}
-use Prim.Native.Nat.{ℕ, ◌+◌, ◌-◌, ◌≤◌}
-use native.Mathlib.Omega.{arith}
-use lib.ListN.{length, drop, drop_of_length-le}
-use Rattle.ground.proofs.Laying.{laid_front}
-use Rattle.catalogue_objects.specs.Reading.{size_of, is_entry, words_of, width_of, Entries, entries_of}
-use Rattle.catalogue_objects.proofs.Pieces.{Pieces, pieces_start, pieces_end, pieces_same, pieces_room, pieces_go}
-use Rattle.catalogue_objects.proofs.Steps.{words_wide, entries_end, whole_next, words_long, some_left, entry_inside, left_behind}
-use borrow.Author.Rules.{rules}
+use Prim.Native.Nat.{◌-◌, ◌≤◌}
+use lib.ListN.{length, drop}
+use Rattle.catalogue_objects.specs.Reading.{entries_of}
+use Rattle.catalogue_objects.proofs.Pieces.{Pieces}
 use Rattle.catalogue_objects.proofs.put_entries.Given as goal
 
 abbrev pub invariant-loop-at : goal.invariant-loop-at

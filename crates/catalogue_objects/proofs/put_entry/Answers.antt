@@ -12,7 +12,6 @@ use Rattle.catalogue_objects.specs.declared.Kind.{Kind}
 use Rattle.catalogue_objects.specs.declared.Kind.TheVariants.{Group, Segments}
 use Rattle.catalogue_objects.specs.Reading.{label_head, words_of}
 use Rattle.catalogue_objects.proofs.Stores.{first_of, half_of, laid_three}
-use borrow.Author.Rules.{rules}
 -- what is read and what is written lie inside: of a record, and of a label
 use Rattle.catalogue_objects.proofs.put_entry.Goals as goal
 

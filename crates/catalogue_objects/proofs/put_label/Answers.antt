@@ -7,7 +7,6 @@ use lib.ListN.{length, set, length-set}
 use Rattle.ground.specs.Words.{octets_of_word}
 use Rattle.ground.proofs.Laying.{laid_one, laid_length, turn}
 use Rattle.catalogue_objects.specs.Entries.{label_octets}
-use borrow.Author.Rules.{rules}
 use Rattle.catalogue_objects.proofs.put_label.Goals as goal
 
 pub put_word-requires : goal.put_word-requires

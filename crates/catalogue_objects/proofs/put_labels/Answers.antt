@@ -9,7 +9,7 @@ use lib.Seq.{drop-cons}
 use Rattle.ground.proofs.Laying.{laid_front}
 use Rattle.catalogue_objects.specs.Entries.{nameless, label_octets, all_octets}
 use Rattle.catalogue_objects.proofs.Octets.{label_long, labels_long}
-use Rattle.catalogue_objects.proofs.Pieces.{Pieces, pieces_start, pieces_end, pieces_same, pieces_room, pieces_go}
+use Rattle.catalogue_objects.proofs.Pieces.{pieces_start, pieces_end, pieces_same, pieces_room, pieces_go}
 use borrow.Author.Rules.{rules}
 use Rattle.catalogue_objects.proofs.put_labels.Goals as goal
 

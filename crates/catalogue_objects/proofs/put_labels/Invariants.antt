@@ -1,16 +1,9 @@
 -- `catalogue_objects::put_labels`: the labels of the first i starts are laid, and the others are left.
-use mathlib.Core.Path.{◌≡◌, refl, ap, ◌∙◌}
-use mathlib.Core.List.{List, [], ◌++◌, map}
-use Prim.Native.Nat.{ℕ, ◌+◌, ◌-◌, ◌*◌, ◌<◌, ◌≤◌}
-use native.Mathlib.Numerals.{add-one}
-use native.Mathlib.Omega.{arith}
-use lib.ListN.{length, get_or, drop, drop_of_length-le}
-use lib.Seq.{drop-cons}
-use Rattle.ground.proofs.Laying.{laid_front}
+use mathlib.Core.List.{List, map}
+use Prim.Native.Nat.{ℕ, ◌-◌, ◌*◌, ◌≤◌}
+use lib.ListN.{length, drop}
 use Rattle.catalogue_objects.specs.Entries.{nameless, label_octets, all_octets}
-use Rattle.catalogue_objects.proofs.Octets.{label_long, labels_long}
-use Rattle.catalogue_objects.proofs.Pieces.{Pieces, pieces_start, pieces_end, pieces_same, pieces_room, pieces_go}
-use borrow.Author.Rules.{rules}
+use Rattle.catalogue_objects.proofs.Pieces.{Pieces}
 use Rattle.catalogue_objects.proofs.put_labels.Given as goal
 
 abbrev octets_of_all : List ℕ → List ℕ

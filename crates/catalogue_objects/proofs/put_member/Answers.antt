@@ -7,7 +7,6 @@ use Rattle.ground.specs.Lists.{laid}
 use Rattle.ground.specs.Words.{six_octets}
 use Rattle.catalogue_objects.specs.Entries.{member_octets}
 use Rattle.catalogue_objects.proofs.Stores.{laid_seven}
-use borrow.Author.Rules.{rules}
 use Rattle.catalogue_objects.proofs.put_member.Goals as goal
 
 pub bounds-out-at-2 : goal.bounds-out-at-2

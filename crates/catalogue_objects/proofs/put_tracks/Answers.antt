@@ -7,7 +7,7 @@ use lib.ListN.{length}
 use Rattle.ground.specs.Lists.{span, laid}
 use Rattle.catalogue_objects.specs.Entries.{track_member, member_octets, all_octets}
 use Rattle.catalogue_objects.proofs.Octets.{member_long, members_long}
-use Rattle.catalogue_objects.proofs.Pieces.{Pieces, pieces_start, pieces_end, pieces_same, pieces_room, pieces_go}
+use Rattle.catalogue_objects.proofs.Pieces.{pieces_start, pieces_end, pieces_same, pieces_room, pieces_go}
 use Rattle.catalogue_objects.proofs.Spans.{span_opens, span_shuts, span_long}
 use borrow.Author.Rules.{rules}
 use Rattle.catalogue_objects.proofs.put_tracks.Goals as goal

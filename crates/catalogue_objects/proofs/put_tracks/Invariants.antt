@@ -1,15 +1,9 @@
 -- `catalogue_objects::put_tracks`: the records of the first i tracks are laid, and the others are left.
-use mathlib.Core.Path.{◌≡◌, ap, ◌∙◌}
-use mathlib.Core.List.{List, [], ◌++◌, map}
-use Prim.Native.Nat.{ℕ, ◌+◌, ◌-◌, ◌*◌, ◌<◌, ◌≤◌}
-use native.Mathlib.Omega.{arith}
-use lib.ListN.{length}
-use Rattle.ground.specs.Lists.{span, laid}
+use mathlib.Core.List.{List, map}
+use Prim.Native.Nat.{ℕ, ◌+◌, ◌-◌, ◌*◌, ◌≤◌}
+use Rattle.ground.specs.Lists.{span}
 use Rattle.catalogue_objects.specs.Entries.{track_member, member_octets, all_octets}
-use Rattle.catalogue_objects.proofs.Octets.{member_long, members_long}
-use Rattle.catalogue_objects.proofs.Pieces.{Pieces, pieces_start, pieces_end, pieces_same, pieces_room, pieces_go}
-use Rattle.catalogue_objects.proofs.Spans.{span_opens, span_shuts, span_long}
-use borrow.Author.Rules.{rules}
+use Rattle.catalogue_objects.proofs.Pieces.{Pieces}
 use Rattle.catalogue_objects.proofs.put_tracks.Given as goal
 
 abbrev octets_of_all : List ℕ → List ℕ

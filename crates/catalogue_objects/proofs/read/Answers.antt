@@ -6,7 +6,6 @@ use borrow.Author.Tests.{not-true, not-false}
 use lib.ListN.{length}
 use Rattle.catalogue_objects.specs.Reading.{width_of, entries_of}
 use Rattle.catalogue_objects.proofs.Answers.{too_few_words, enough_words, bad_entries, no_words, all_read}
-use borrow.Author.Rules.{rules}
 use Rattle.catalogue_objects.proofs.read.Goals as goal
 
 pub returns-then-not-s-clause-result_value : goal.returns-then-not-s-clause-result_value

@@ -1,6 +1,5 @@
 -- `catalogue_objects::size_at`: by the kind.
 use native.Mathlib.Omega.{arith}
-use borrow.Author.Rules.{rules}
 use Rattle.catalogue_objects.proofs.size_at.Goals as goal
 
 pub returns-in-Segments : goal.returns-in-Segments

@@ -8,7 +8,6 @@ use Rattle.catalogue_check.specs.Catalogue.{Right, said_of}
 use Rattle.catalogue_check.proofs.Laws.{few_groups, few_tracks, track_run_inside}
 use Rattle.catalogue_objects.specs.Objects.{group_octets}
 use Rattle.catalogue_objects.proofs.Answers.{left_alone, says_catalogue, says_absent, says_room}
-use borrow.Author.Rules.{rules}
 -- the arm of `Fine`: the catalogue is right
 use Rattle.catalogue_objects.proofs.write_group.Goals as goal
 

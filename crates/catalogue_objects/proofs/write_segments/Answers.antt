@@ -4,7 +4,6 @@ use mathlib.Core.Bool.{◌&&◌}
 use mathlib.Core.List.{List, map}
 use Prim.Native.Nat.{ℕ, ◌≤◌}
 use native.Mathlib.Omega.{arith}
-use borrow.Author.Tests.{not-true, not-false}
 use lib.Dec.{ltb}
 use lib.ListN.{length, length-take, length-drop}
 use Rattle.ground.specs.Lists.{table_after}
@@ -15,7 +14,6 @@ use Rattle.catalogue_objects.specs.Entries.{nameless, label_octets, all_octets, 
 use Rattle.catalogue_objects.specs.Objects as objects
 use Rattle.catalogue_objects.specs.Objects.{segments_octets, has_segments}
 use Rattle.catalogue_objects.proofs.Answers.{left_alone, room_said, says_catalogue, says_absent, says_room}
-use borrow.Author.Rules.{rules}
 -- the arm of `Fine`: the catalogue is right
 use Rattle.catalogue_objects.proofs.write_segments.Goals as goal
 

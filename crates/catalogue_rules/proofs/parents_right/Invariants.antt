@@ -1,11 +1,9 @@
 -- `catalogue_rules::parents_right`: after i turns, the rule of the first i groups.
-use mathlib.Core.Path.{◌≡◌, refl, ap, ◌∙◌}
+use mathlib.Core.Path.{◌≡◌}
 use Prim.Native.Nat.{◌≤◌, ◌-◌}
 use Rattle.ground.specs.Lists.{all_below}
-use Rattle.ground.proofs.Bounded.{all_turn, all_end}
 use Rattle.catalogue_tables.specs.Tables.{parent_of}
-use Rattle.catalogue_rules.specs.Rules.{parent_right, parents_rule}
-use borrow.Author.Rules.{rules}
+use Rattle.catalogue_rules.specs.Rules.{parent_right}
 use Rattle.catalogue_rules.proofs.parents_right.Given as goal
 
 abbrev pub invariant-loop-i : goal.invariant-loop-i

@@ -1,9 +1,7 @@
 -- `catalogue_rules::rises`: after i turns, the rule of the first i pairs of neighbours.
-use mathlib.Core.Path.{◌≡◌, refl}
-use Prim.Native.Nat.{◌≤◌, ◌+◌, ◌-◌}
+use mathlib.Core.Path.{refl}
+use Prim.Native.Nat.{◌-◌}
 use native.Mathlib.Omega.{arith}
-use lib.Dec.{ltb}
-use lib.ListN.{get_or}
 use Rattle.ground.specs.Lists.{all_below}
 use Rattle.ground.proofs.Bounded.{all_turn, all_end}
 use Rattle.catalogue_rules.specs.Rules.{rise_rule}

@@ -2,9 +2,7 @@
 use Prim.Native.Nat.{◌≤◌, ◌+◌, ◌*◌, ◌-◌}
 use native.Mathlib.Omega.{arith}
 use lib.ListN.{length}
-use Rattle.catalogue_tables.specs.Tables.{word_in}
-use Rattle.catalogue_rules.proofs.Runs.{record_inside, Following, start, turn, end}
-use borrow.Author.Rules.{rules}
+use Rattle.catalogue_rules.proofs.Runs.{record_inside, start, turn, end}
 use Rattle.catalogue_rules.proofs.runs_right.Goals as goal
 
 pub loop-i-init : goal.loop-i-init

@@ -1,10 +1,7 @@
 -- `catalogue_rules::runs_right`: the loop's state is `Following`.
-use Prim.Native.Nat.{◌≤◌, ◌+◌, ◌*◌, ◌-◌}
-use native.Mathlib.Omega.{arith}
-use lib.ListN.{length}
+use Prim.Native.Nat.{◌+◌, ◌-◌}
 use Rattle.catalogue_tables.specs.Tables.{word_in}
-use Rattle.catalogue_rules.proofs.Runs.{record_inside, Following, start, turn, end}
-use borrow.Author.Rules.{rules}
+use Rattle.catalogue_rules.proofs.Runs.{Following}
 use Rattle.catalogue_rules.proofs.runs_right.Given as goal
 
 abbrev pub invariant-loop-i : goal.invariant-loop-i

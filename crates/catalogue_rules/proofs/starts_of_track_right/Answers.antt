@@ -1,7 +1,6 @@
 -- `catalogue_rules::starts_of_track_right`: the last start stands for all.
 use mathlib.Core.Path.{sym}
 use native.Mathlib.Omega.{arith}
-use borrow.Author.Rules.{rules}
 use Rattle.catalogue_rules.proofs.Starts.{by_last, none_right}
 use Rattle.catalogue_rules.proofs.starts_of_track_right.Goals as goal
 

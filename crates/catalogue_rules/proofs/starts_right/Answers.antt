@@ -1,6 +1,6 @@
 -- `catalogue_rules::starts_right`: after i turns, the rule of the first i tracks.
-use mathlib.Core.Path.{◌≡◌, refl, sym, ◌∙◌}
-use Prim.Native.Nat.{◌≤◌, ◌-◌}
+use mathlib.Core.Path.{refl, sym, ◌∙◌}
+use Prim.Native.Nat.{◌-◌}
 use native.Mathlib.Omega.{arith}
 use Rattle.ground.specs.Lists.{all_below}
 use Rattle.ground.proofs.Bounded.{all_turn, all_end}

@@ -1,7 +1,7 @@
 -- `catalogue_rules::titles_text`: what is kept is what is said of the titles from the track i on.
 use mathlib.Core.Path.{◌≡◌, sym, ap, ◌∙◌}
 use mathlib.Core.List.{List, ◌∷◌}
-use Prim.Native.Nat.{ℕ, suc, ◌+◌, ◌-◌, ◌<◌, ◌≤◌}
+use Prim.Native.Nat.{ℕ, suc, ◌+◌, ◌-◌, ◌<◌}
 use native.Mathlib.Omega.{arith}
 use Rattle.ground.specs.Cases.{pick}
 use Rattle.text.specs.Utf8.{said_of, text_said}

@@ -1,15 +1,8 @@
 -- `catalogue_rules::titles_text`: what is kept is what is said of the titles from the track i on.
-use mathlib.Core.Path.{◌≡◌, sym, ap, ◌∙◌}
-use mathlib.Core.List.{List, ◌∷◌}
-use Prim.Native.Nat.{ℕ, suc, ◌+◌, ◌-◌, ◌<◌, ◌≤◌}
-use native.Mathlib.Omega.{arith}
-use Rattle.ground.specs.Cases.{pick}
-use Rattle.text.specs.Utf8.{said_of, text_said}
-use Rattle.catalogue_tables.specs.Tables.{track_count, title_of}
+use mathlib.Core.Path.{◌≡◌}
+use Prim.Native.Nat.{◌-◌, ◌≤◌}
+use Rattle.catalogue_tables.specs.Tables.{track_count}
 use Rattle.catalogue_rules.specs.Rules.{bad_title_from, titles_of}
-use Rattle.catalogue_rules.proofs.Runs.{run_part}
-use Rattle.catalogue_rules.proofs.BadTitles.{plain_text}
-use borrow.Author.Rules.{rules}
 use Rattle.catalogue_rules.proofs.titles_text.Given as goal
 
 abbrev pub invariant-loop-i : goal.invariant-loop-i

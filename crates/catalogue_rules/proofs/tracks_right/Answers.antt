@@ -1,16 +1,12 @@
 -- `catalogue_rules::tracks_right`: after i turns, the three rules of the first i tracks.
-use mathlib.Core.Path.{◌≡◌, refl}
-use mathlib.Core.Bool.{◌&&◌, ◌||◌}
+use mathlib.Core.Path.{refl}
+use mathlib.Core.Bool.{◌&&◌}
 use Prim.Native.Nat.{◌-◌}
 use native.Mathlib.Omega.{arith}
-use borrow.Author.Rules.{rules}
-use lib.Dec.{leb}
-use Rattle.ground.specs.Limits.{most_duration}
 use Rattle.ground.specs.Lists.{all_below}
 use Rattle.ground.proofs.Bounded.{all_turn, all_end}
-use Rattle.catalogue_tables.specs.Tables.{duration_of, is_running, first_segment_of, segments_in, title_offset_of, title_length_of}
 use Rattle.catalogue_rules.specs.Rules.{segment_runs_rule, durations_rule, title_placed, titles_placed_rule}
-use Rattle.catalogue_rules.proofs.Runs.{Following, start, turn, end}
+use Rattle.catalogue_rules.proofs.Runs.{start, turn, end}
 use Rattle.catalogue_rules.proofs.tracks_right.Goals as goal
 
 pub loop-i-init : goal.loop-i-init

@@ -5,7 +5,6 @@ use Rattle.ground.specs.Cases.{pick}
 use Rattle.text.specs.declared.Checked.{Checked}
 use Rattle.text.specs.Utf8.{said_of}
 use Rattle.catalogue_rules.specs.Rules.{titles_of}
-use borrow.Author.Rules.{rules}
 use Rattle.catalogue_rules.proofs.with_title.Goals as goal
 
 pub returns-in-BadAt : goal.returns-in-BadAt

@@ -1,6 +1,5 @@
 -- `catalogue_tables::end`: by the word of the track's duration.
 use mathlib.Core.Path.{ap, ◌∙◌}
-use borrow.Author.Rules.{rules}
 use Rattle.catalogue_tables.specs.Tables.{end_by, end_of}
 use Rattle.catalogue_tables.proofs.end.Goals as goal
 

@@ -1,6 +1,5 @@
 -- `catalogue_tables::is_running`: the word of the track's duration, compared.
 use mathlib.Core.Path.{ap}
-use borrow.Author.Rules.{rules}
 use Rattle.catalogue_tables.specs.Tables.{is_unknown}
 use Rattle.catalogue_tables.proofs.is_running.Goals as goal
 

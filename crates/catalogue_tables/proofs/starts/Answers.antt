@@ -1,6 +1,5 @@
 -- `catalogue_tables::starts`: the run is cut off at the end of its table, as `take` and `drop` are.
 use mathlib.Core.Path.{◌∙◌}
-use borrow.Author.Rules.{rules}
 use lib.ListN.{take, drop}
 use Rattle.catalogue_tables.specs.Tables.{starts_of}
 use Rattle.catalogue_tables.proofs.Clip.{clipped}

@@ -1,5 +1,4 @@
 -- `catalogue_tables::title_offset`: the fifth word of a track's record.
-use borrow.Author.Rules.{rules}
 use Rattle.catalogue_tables.proofs.title_offset.Goals as goal
 
 pub returns : goal.returns

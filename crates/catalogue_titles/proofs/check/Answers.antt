@@ -9,7 +9,6 @@ use Rattle.catalogue_check.specs.Catalogue.{catalogue_row, said_of, check_said}
 use Rattle.catalogue_check.proofs.Laws.{passed}
 use Rattle.catalogue_titles.specs.Titles.{renames_rule}
 use Rattle.catalogue_titles.specs.Lent.{Lent, lending, catalogue_of, renames_row, lent_said}
-use borrow.Author.Rules.{rules}
 -- what the check says, by the first that fails
 use Rattle.catalogue_titles.proofs.check.Goals as goal
 

@@ -1,6 +1,5 @@
 -- `catalogue_titles::cut`: the run is cut off at the end of its text, as `take` and `drop` are; where the part lies inside, nothing is cut off.
 use Rattle.catalogue_titles.proofs.Parts.{cut_octets, cut_part}
-use borrow.Author.Rules.{rules}
 use Rattle.catalogue_titles.proofs.cut.Goals as goal
 
 pub returns-clause-result_value : goal.returns-clause-result_value

@@ -1,10 +1,10 @@
 -- `catalogue_titles::entries_right`: after i turns, the rule of the first i entries.
-use mathlib.Core.Path.{◌≡◌, refl}
-use Prim.Native.Nat.{◌≤◌, ◌-◌}
+use mathlib.Core.Path.{refl}
+use Prim.Native.Nat.{◌-◌}
 use borrow.Author.Rules.{rules}
 use Rattle.ground.specs.Lists.{all_below}
 use Rattle.ground.proofs.Bounded.{all_turn, all_end}
-use Rattle.catalogue_titles.specs.Titles.{rename_offset_of, rename_length_of, entry_rule, entries_rule}
+use Rattle.catalogue_titles.specs.Titles.{entries_rule}
 use Rattle.catalogue_titles.proofs.entries_right.Goals as goal
 
 pub loop-i-init : goal.loop-i-init

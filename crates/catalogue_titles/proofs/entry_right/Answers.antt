@@ -7,7 +7,6 @@ use borrow.Author.Tests.{eq-eqb, ne_eqb, le-leb, lt-leb}
 use Rattle.ground.specs.Limits.{most_title}
 use Rattle.text.specs.Utf8.{text_of, is_fine}
 use Rattle.catalogue_titles.specs.Titles.{entry_rule}
-use borrow.Author.Rules.{rules}
 use Rattle.catalogue_titles.proofs.entry_right.Goals as goal
 
 pub returns-then-n-eq0 : goal.returns-then-n-eq0

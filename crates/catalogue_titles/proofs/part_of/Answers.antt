@@ -1,7 +1,6 @@
 -- `catalogue_titles::part_of`: by the length of the track's entry.
 use mathlib.Core.Path.{sym, ◌∙◌}
 use mathlib.Core.Bool.{true, false}
-use borrow.Author.Rules.{rules}
 use borrow.Author.Tests.{eq-eqb, ne_eqb}
 use Rattle.catalogue_titles.specs.Titles.{part_of}
 use Rattle.catalogue_titles.proofs.part_of.Goals as goal

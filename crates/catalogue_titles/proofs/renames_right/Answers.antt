@@ -8,7 +8,6 @@ use Rattle.ground.specs.Limits.{rename_words}
 use Rattle.catalogue_tables.specs.Tables.{track_count}
 use Rattle.catalogue_titles.specs.Titles.{count_rule, renames_rule}
 use Rattle.catalogue_titles.proofs.Zeros.{zeros_right}
-use borrow.Author.Rules.{rules}
 -- there is an entry for each track
 use Rattle.catalogue_titles.proofs.renames_right.Goals as goal
 

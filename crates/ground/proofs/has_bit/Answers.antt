@@ -1,7 +1,6 @@
 -- `ground::has_bit`: a mask of one bit is a remainder by 2.
 use mathlib.Core.Path.{ap}
 use Prim.Native.Nat.{ℕ, ◌/◌, ◌^◌}
-use borrow.Author.Rules.{rules}
 use lib.Bits.{and_mask}
 use lib.Dec.{eqb}
 use Rattle.ground.specs.Cases.{has}

@@ -1,6 +1,5 @@
 -- `ground::octet_or_zero`: behind the end stands 0.
 use mathlib.Core.Path.{sym}
-use borrow.Author.Rules.{rules}
 use lib.ListN.{get_or-eq_default}
 use Rattle.ground.proofs.octet_or_zero.Goals as goal
 

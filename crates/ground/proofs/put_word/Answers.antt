@@ -2,7 +2,6 @@
 use native.Mathlib.Omega.{arith}
 use lib.ListN.{length-set}
 use Rattle.ground.proofs.Laying.{laid_four}
-use borrow.Author.Rules.{rules}
 use Rattle.ground.proofs.put_word.Goals as goal
 
 pub bounds-b-at-2 : goal.bounds-b-at-2

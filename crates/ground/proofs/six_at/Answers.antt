@@ -1,8 +1,6 @@
 -- `ground::six_at`: the word from a place on, and the half word behind it.
-use mathlib.Core.Path.{sym, ap, ◌∙◌}
 use native.Mathlib.Omega.{arith}
 use Rattle.ground.specs.Words.{six_at}
-use borrow.Author.Rules.{rules}
 use Rattle.ground.proofs.six_at.Goals as goal
 
 pub returns : goal.returns

@@ -1,7 +1,6 @@
 -- `ground::six_octets`: written out.
 use mathlib.Core.Path.{refl}
 use Rattle.ground.specs.Words.{six_octets}
-use borrow.Author.Rules.{rules}
 use Rattle.ground.proofs.six_octets.Goals as goal
 
 pub returns : goal.returns

@@ -1,5 +1,4 @@
 -- `ground::word_at`: the four octets from a place on.
-use borrow.Author.Rules.{rules}
 use Rattle.ground.specs.Words.{word_at}
 use Rattle.ground.proofs.word_at.Goals as goal
 

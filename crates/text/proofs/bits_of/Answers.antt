@@ -1,10 +1,9 @@
 -- `text::bits_of`: after i turns, no octet before i exceeds the number.
 use mathlib.Core.Path.{refl}
-use Prim.Native.Nat.{◌+◌, ◌-◌, ◌≤◌, zero-le}
+use Prim.Native.Nat.{◌+◌, zero-le}
 use native.Mathlib.Omega.{arith}
 use borrow.Author.Rules.{rules}
-use lib.ListN.{length}
-use Rattle.text.proofs.Bits.{Over, over_more}
+use Rattle.text.proofs.Bits.{over_more}
 use Rattle.text.proofs.bits_of.Goals as goal
 
 pub loop-i-init : goal.loop-i-init

@@ -1,10 +1,7 @@
 -- `text::bits_of`: after i turns, no octet before i exceeds the number.
-use mathlib.Core.Path.{refl}
-use Prim.Native.Nat.{◌+◌, ◌-◌, ◌≤◌, zero-le}
-use native.Mathlib.Omega.{arith}
-use borrow.Author.Rules.{rules}
+use Prim.Native.Nat.{◌-◌, ◌≤◌}
 use lib.ListN.{length}
-use Rattle.text.proofs.Bits.{Over, over_more}
+use Rattle.text.proofs.Bits.{Over}
 use Rattle.text.proofs.bits_of.Given as goal
 
 abbrev pub invariant-loop-i : goal.invariant-loop-i

@@ -1,7 +1,6 @@
 -- `text::char_of_four`: each `return` is a row of the table, by the bounds that the tests leave of the first octet.
 use mathlib.Core.Path.{sym, ◌∙◌}
 use native.Mathlib.Omega.{arith}
-use borrow.Author.Rules.{rules}
 use Rattle.text.proofs.Rows.{row_f0, row_f1, row_f4}
 use Rattle.text.proofs.char_of_four.Goals as goal
 

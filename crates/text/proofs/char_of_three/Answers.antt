@@ -1,7 +1,6 @@
 -- `text::char_of_three`: each `return` is a row of the table, by the bounds that the tests leave of the first octet.
 use mathlib.Core.Path.{sym, ◌∙◌}
 use native.Mathlib.Omega.{arith}
-use borrow.Author.Rules.{rules}
 use Rattle.text.proofs.Rows.{row_e0, row_ed, three_tails}
 use Rattle.text.proofs.char_of_three.Goals as goal
 

@@ -1,6 +1,5 @@
 -- `text::check`: the scan says it; of a long text, octets that are all below 0x80 are characters of one octet each.
 use mathlib.Core.Path.{sym, ap}
-use borrow.Author.Rules.{rules}
 use Rattle.text.specs.Utf8.{said_of, text_said}
 use Rattle.text.proofs.Run.{ascii_is_text}
 use Rattle.text.proofs.check.Goals as goal

@@ -1,6 +1,5 @@
 -- `text::four`: the test is the conjunction of what the three calls say.
 use mathlib.Core.Path.{sym}
-use borrow.Author.Rules.{rules}
 use Rattle.text.proofs.four.Goals as goal
 
 pub returns-then-is_within : goal.returns-then-is_within

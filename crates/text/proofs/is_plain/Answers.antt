@@ -1,6 +1,5 @@
 -- `text::is_plain`: no octet exceeds a number that is at most 0x7F.
 use native.Mathlib.Omega.{arith}
-use borrow.Author.Rules.{rules}
 use borrow.Author.Tests.{leb-true}
 use Rattle.ground.proofs.Cases.{clash}
 use Rattle.text.proofs.is_plain.Goals as goal

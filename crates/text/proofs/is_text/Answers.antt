@@ -1,6 +1,5 @@
 -- `text::is_text`: each arm knows which of the two answers `check` gave.
 use mathlib.Core.Path.{sym, ap, ◌∙◌}
-use borrow.Author.Rules.{rules}
 use Rattle.ground.specs.Refusals.{Said}
 use Rattle.text.specs.Utf8.{said_of, text_said}
 use Rattle.text.proofs.is_text.Goals as goal

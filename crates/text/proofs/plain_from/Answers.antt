@@ -1,9 +1,7 @@
 -- `text::plain_from`: from the end on, all octets are plain.
 use mathlib.Core.Logic.{⊎_elim}
-use Prim.Native.Nat.{ℕ, ◌≤◌, ◌<◌}
 use native.Mathlib.Omega.{arith}
 use borrow.Author.Rules.{rules}
-use lib.ListN.{length, get_or}
 use Rattle.ground.proofs.Cases.{le_or}
 use Rattle.text.proofs.plain_from.Goals as goal
 

@@ -1,10 +1,8 @@
 -- `text::scan`: what is left from a place on says the whole.
-use mathlib.Core.Path.{◌≡◌, refl}
-use Prim.Native.Nat.{◌-◌, ◌≤◌}
+use mathlib.Core.Path.{refl}
 use native.Mathlib.Omega.{arith}
 use borrow.Author.Rules.{rules}
-use lib.ListN.{length, drop}
-use Rattle.text.specs.Utf8.{text_from, text_of}
+use Rattle.text.specs.Utf8.{text_of}
 use Rattle.text.proofs.Run.{stopped, turned, plain_rest}
 use Rattle.text.proofs.scan.Goals as goal
 

@@ -1,6 +1,5 @@
 -- `text::three`: the test is the conjunction of what the two calls say.
 use mathlib.Core.Path.{sym}
-use borrow.Author.Rules.{rules}
 use Rattle.text.proofs.three.Goals as goal
 
 pub returns-then-is_within : goal.returns-then-is_within
