@@ -4,6 +4,7 @@ use mathlib.Core.Path.{◌≡◌, sym, ◌∙◌}
 use mathlib.Core.List.{List}
 use Prim.Native.Nat.{ℕ}
 use contract.Lifetimes.{Lfts}
+use denote.Bor.{Bor}
 use denote.Ref.{MutBor, at_last}
 use Rattle.mcs.proofs.Leaving.{ends_settled}
 use Rattle.mcs.proofs.mcs_card_load.Reads as card-load
@@ -44,9 +45,9 @@ five p q = (
   p.1.1.1.1 ∙ sym q.1.1.1.1,
 )
 
-module _ (groups tracks segments text renames office state track octet : MutBor (List ℕ)) where
+module _ (groups tracks segments text renames office : Bor (List ℕ)) (state track octet : MutBor (List ℕ)) where
   -- the catalogue and the titles before the other arguments, and the words for where a text is wrong behind them
-  abbrev lent : {A : Type 0} → A → MutBor (List ℕ) × (MutBor (List ℕ) × (MutBor (List ℕ) × (MutBor (List ℕ) × (MutBor (List ℕ) × (MutBor (List ℕ) × A)))))
+  abbrev lent : {A : Type 0} → A → Bor (List ℕ) × (Bor (List ℕ) × (Bor (List ℕ) × (Bor (List ℕ) × (Bor (List ℕ) × (Bor (List ℕ) × A)))))
   lent rest = (groups, (tracks, (segments, (text, (renames, (office, rest))))))
 
   abbrev words : MutBor (List ℕ) × (MutBor (List ℕ) × Unit {0})
@@ -83,16 +84,16 @@ module _ (groups tracks segments text renames office state track octet : MutBor 
     unsubscribe_settled client service x n₁ n₂ new₁ new₂ t₁ t₂ o₁ o₂ = ends_settled
 
   module _ (κs : Lfts 11) where
-    pub start_settled : (name0 name1 : MutBor (List ℕ)) (mask0 ccid0 mask1 ccid1 : ℕ)
+    pub start_settled : (name0 name1 : Bor (List ℕ)) (mask0 ccid0 mask1 ccid1 : ℕ)
         → Settles (λ n new t o. start.Post κs (lent (name0, (mask0, (ccid0, (name1, (mask1, (ccid1, (state, words)))))))) n (lent (name0, (mask0, (ccid0, (name1, (mask1, (ccid1, (at_last state new, told t o)))))))))
     start_settled name0 name1 mask0 ccid0 mask1 ccid1 n₁ n₂ new₁ new₂ t₁ t₂ o₁ o₂ = ends_settled
 
   module _ (κs : Lfts 9) where
-    pub set_name_settled : (service : ℕ) (name : MutBor (List ℕ))
+    pub set_name_settled : (service : ℕ) (name : Bor (List ℕ))
         → Settles (λ n new t o. set-name.Post κs (lent (state, (service, (name, words)))) n (lent (at_last state new, (service, (name, told t o)))))
     set_name_settled service name n₁ n₂ new₁ new₂ t₁ t₂ o₁ o₂ = ends_settled
 
-    pub write_settled : (client service x : ℕ) (value : MutBor (List ℕ))
+    pub write_settled : (client service x : ℕ) (value : Bor (List ℕ))
         → Settles (λ n new t o. write.Post κs (lent (state, (client, (service, (x, (value, words)))))) n (lent (at_last state new, (client, (service, (x, (value, told t o)))))))
     write_settled client service x value n₁ n₂ new₁ new₂ t₁ t₂ o₁ o₂ = ends_settled
 
@@ -111,26 +112,26 @@ module _ (groups tracks segments text renames office state track octet : MutBor 
     take_settled n₁ n₂ new₁ new₂ t₁ t₂ o₁ o₂ p q = (ends_settled p.0 q.0, p.1.0 ∙ sym q.1.0, p.1.1 ∙ sym q.1.1)
 
   -- a title's part, and the words for where a text is wrong; the state is not lent for writing
-  module _ (κs : Lfts 10) (part : MutBor (List ℕ)) where
+  module _ (κs : Lfts 10) (held : Bor (List ℕ)) (part : MutBor (List ℕ)) where
     pub title_settled : (service : ℕ) (n₁ n₂ : ℕ) (p₁ p₂ t₁ t₂ o₁ o₂ : List ℕ)
-        → title.Post κs (lent (state, (service, (part, words)))) n₁ (lent (state, (service, (at_last part p₁, told t₁ o₁))))
-        → title.Post κs (lent (state, (service, (part, words)))) n₂ (lent (state, (service, (at_last part p₂, told t₂ o₂))))
+        → title.Post κs (lent (held, (service, (part, words)))) n₁ (lent (held, (service, (at_last part p₁, told t₁ o₁))))
+        → title.Post κs (lent (held, (service, (part, words)))) n₂ (lent (held, (service, (at_last part p₂, told t₂ o₂))))
         → (n₁ ≡ n₂) × (p₁ ≡ p₂) × (t₁ ≡ t₂) × (o₁ ≡ o₂)
     title_settled service n₁ n₂ p₁ p₂ t₁ t₂ o₁ o₂ p q = (p.0 ∙ sym q.0, p.1.0 ∙ sym q.1.0, p.1.1.0 ∙ sym q.1.1.0, p.1.1.1 ∙ sym q.1.1.1)
 
   -- what a manual's Goto comes to, where the player would be, and the words for where a text is wrong; nor is the state lent for writing
-  module _ (κs : Lfts 11) (made place : MutBor (List ℕ)) where
+  module _ (κs : Lfts 11) (held : Bor (List ℕ)) (made place : MutBor (List ℕ)) where
     pub manual_goto_settled : (service opcode number allowed : ℕ) (n₁ n₂ : ℕ) (m₁ m₂ p₁ p₂ t₁ t₂ o₁ o₂ : List ℕ)
-        → manual-goto.Post κs (lent (state, (service, (opcode, (number, (allowed, (made, (place, words)))))))) n₁ (lent (state, (service, (opcode, (number, (allowed, (at_last made m₁, (at_last place p₁, told t₁ o₁))))))))
-        → manual-goto.Post κs (lent (state, (service, (opcode, (number, (allowed, (made, (place, words)))))))) n₂ (lent (state, (service, (opcode, (number, (allowed, (at_last made m₂, (at_last place p₂, told t₂ o₂))))))))
+        → manual-goto.Post κs (lent (held, (service, (opcode, (number, (allowed, (made, (place, words)))))))) n₁ (lent (held, (service, (opcode, (number, (allowed, (at_last made m₁, (at_last place p₁, told t₁ o₁))))))))
+        → manual-goto.Post κs (lent (held, (service, (opcode, (number, (allowed, (made, (place, words)))))))) n₂ (lent (held, (service, (opcode, (number, (allowed, (at_last made m₂, (at_last place p₂, told t₂ o₂))))))))
         → (n₁ ≡ n₂) × (m₁ ≡ m₂) × (p₁ ≡ p₂) × (t₁ ≡ t₂) × (o₁ ≡ o₂)
     manual_goto_settled service opcode number allowed n₁ n₂ m₁ m₂ p₁ p₂ t₁ t₂ o₁ o₂ = five
 
 -- a card load's four tables, its counts and its block
-module _ (κs : Lfts 7) (card groups tracks segments text counts block : MutBor (List ℕ)) where
+module _ (κs : Lfts 7) (card : Bor (List ℕ)) (groups tracks segments text counts block : MutBor (List ℕ)) where
   -- what is lent, with other contents
   abbrev loaded : List ℕ → List ℕ → List ℕ → List ℕ → List ℕ → List ℕ
-      → MutBor (List ℕ) × (MutBor (List ℕ) × (MutBor (List ℕ) × (MutBor (List ℕ) × (MutBor (List ℕ) × (MutBor (List ℕ) × (MutBor (List ℕ) × Unit {0}))))))
+      → Bor (List ℕ) × (MutBor (List ℕ) × (MutBor (List ℕ) × (MutBor (List ℕ) × (MutBor (List ℕ) × (MutBor (List ℕ) × (MutBor (List ℕ) × Unit {0}))))))
   loaded g t s x c b = (card, (at_last groups g, (at_last tracks t, (at_last segments s, (at_last text x, (at_last counts c, (at_last block b, tt)))))))
 
   pub card_load_settled : (n₁ n₂ : ℕ) (g₁ g₂ t₁ t₂ s₁ s₂ x₁ x₂ c₁ c₂ b₁ b₂ : List ℕ)
@@ -148,10 +149,10 @@ module _ (κs : Lfts 7) (card groups tracks segments text counts block : MutBor 
   )
 
 -- a card write's card, its number of blocks, and the words for where a title is wrong
-module _ (κs : Lfts 8) (groups tracks segments text card blocks track octet : MutBor (List ℕ)) where
+module _ (κs : Lfts 8) (groups tracks segments text : Bor (List ℕ)) (card blocks track octet : MutBor (List ℕ)) where
   -- what is lent, with other contents
   abbrev written : List ℕ → List ℕ → List ℕ → List ℕ
-      → MutBor (List ℕ) × (MutBor (List ℕ) × (MutBor (List ℕ) × (MutBor (List ℕ) × (MutBor (List ℕ) × (MutBor (List ℕ) × (MutBor (List ℕ) × (MutBor (List ℕ) × Unit {0})))))))
+      → Bor (List ℕ) × (Bor (List ℕ) × (Bor (List ℕ) × (Bor (List ℕ) × (MutBor (List ℕ) × (MutBor (List ℕ) × (MutBor (List ℕ) × (MutBor (List ℕ) × Unit {0})))))))
   written c b t o = (groups, (tracks, (segments, (text, (at_last card c, (at_last blocks b, (at_last track t, (at_last octet o, tt))))))))
 
   pub card_write_settled : (n₁ n₂ : ℕ) (c₁ c₂ b₁ b₂ t₁ t₂ o₁ o₂ : List ℕ)
@@ -161,9 +162,9 @@ module _ (κs : Lfts 8) (groups tracks segments text card blocks track octet : M
   card_write_settled n₁ n₂ c₁ c₂ b₁ b₂ t₁ t₂ o₁ o₂ = five
 
 -- a cue sheet's starts, its count and its line
-module _ (κs : Lfts 4) (sheet starts count line : MutBor (List ℕ)) where
+module _ (κs : Lfts 4) (sheet : Bor (List ℕ)) (starts count line : MutBor (List ℕ)) where
   -- what is lent, with other contents
-  abbrev cued : List ℕ → List ℕ → List ℕ → MutBor (List ℕ) × (MutBor (List ℕ) × (MutBor (List ℕ) × (MutBor (List ℕ) × Unit {0})))
+  abbrev cued : List ℕ → List ℕ → List ℕ → Bor (List ℕ) × (MutBor (List ℕ) × (MutBor (List ℕ) × (MutBor (List ℕ) × Unit {0})))
   cued s c l = (sheet, (at_last starts s, (at_last count c, (at_last line l, tt))))
 
   pub cue_sheet_settled : (n₁ n₂ : ℕ) (s₁ s₂ c₁ c₂ l₁ l₂ : List ℕ)
@@ -178,13 +179,13 @@ module _ (κs : Lfts 4) (sheet starts count line : MutBor (List ℕ)) where
   )
 
 -- an object's octets, their number, and the words for where a title is wrong
-module _ (κs : Lfts 8) (groups tracks segments text out length track octet : MutBor (List ℕ)) (number : ℕ) where
+module _ (κs : Lfts 8) (groups tracks segments text : Bor (List ℕ)) (out length track octet : MutBor (List ℕ)) (number : ℕ) where
   -- what is lent, and with other contents
-  abbrev asked : MutBor (List ℕ) × (MutBor (List ℕ) × (MutBor (List ℕ) × (MutBor (List ℕ) × (ℕ × (MutBor (List ℕ) × (MutBor (List ℕ) × (MutBor (List ℕ) × (MutBor (List ℕ) × Unit {0}))))))))
+  abbrev asked : Bor (List ℕ) × (Bor (List ℕ) × (Bor (List ℕ) × (Bor (List ℕ) × (ℕ × (MutBor (List ℕ) × (MutBor (List ℕ) × (MutBor (List ℕ) × (MutBor (List ℕ) × Unit {0}))))))))
   asked = (groups, (tracks, (segments, (text, (number, (out, (length, (track, (octet, tt)))))))))
 
   abbrev object : List ℕ → List ℕ → List ℕ → List ℕ
-      → MutBor (List ℕ) × (MutBor (List ℕ) × (MutBor (List ℕ) × (MutBor (List ℕ) × (ℕ × (MutBor (List ℕ) × (MutBor (List ℕ) × (MutBor (List ℕ) × (MutBor (List ℕ) × Unit {0}))))))))
+      → Bor (List ℕ) × (Bor (List ℕ) × (Bor (List ℕ) × (Bor (List ℕ) × (ℕ × (MutBor (List ℕ) × (MutBor (List ℕ) × (MutBor (List ℕ) × (MutBor (List ℕ) × Unit {0}))))))))
   object c l t o = (groups, (tracks, (segments, (text, (number, (at_last out c, (at_last length l, (at_last track t, (at_last octet o, tt)))))))))
 
   pub group_object_settled : (n₁ n₂ : ℕ) (c₁ c₂ l₁ l₂ t₁ t₂ o₁ o₂ : List ℕ) → group_object_lem.Post κs asked n₁ (object c₁ l₁ t₁ o₁) → group_object_lem.Post κs asked n₂ (object c₂ l₂ t₂ o₂)
@@ -196,12 +197,12 @@ module _ (κs : Lfts 8) (groups tracks segments text out length track octet : Mu
   segments_object_settled n₁ n₂ c₁ c₂ l₁ l₂ t₁ t₂ o₁ o₂ = five
 
 -- the words of entries, and their number
-module _ (κs : Lfts 3) (octets words count : MutBor (List ℕ)) where
+module _ (κs : Lfts 3) (octets : Bor (List ℕ)) (words count : MutBor (List ℕ)) where
   three : {n n₁ n₂ : ℕ} {a a₁ a₂ b b₁ b₂ : List ℕ} → (n₁ ≡ n) × ((a₁ ≡ a) × (b₁ ≡ b)) → (n₂ ≡ n) × ((a₂ ≡ a) × (b₂ ≡ b)) → (n₁ ≡ n₂) × (a₁ ≡ a₂) × (b₁ ≡ b₂)
   three p q = (p.0 ∙ sym q.0, p.1.0 ∙ sym q.1.0, p.1.1 ∙ sym q.1.1)
 
   -- what is lent, with other contents
-  abbrev entries : List ℕ → List ℕ → MutBor (List ℕ) × (MutBor (List ℕ) × (MutBor (List ℕ) × Unit {0}))
+  abbrev entries : List ℕ → List ℕ → Bor (List ℕ) × (MutBor (List ℕ) × (MutBor (List ℕ) × Unit {0}))
   entries w c = (octets, (at_last words w, (at_last count c, tt)))
 
   pub group_entries_settled : (n₁ n₂ : ℕ) (w₁ w₂ c₁ c₂ : List ℕ) → group-entries.Post κs (octets, (words, (count, tt))) n₁ (entries w₁ c₁) → group-entries.Post κs (octets, (words, (count, tt))) n₂ (entries w₂ c₂)

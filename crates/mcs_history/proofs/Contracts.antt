@@ -4,6 +4,7 @@ use mathlib.Core.Option.{none}
 use mathlib.Core.List.{List, [], ◌∷◌}
 use Prim.Native.Nat.{ℕ}
 use contract.Lifetimes.{Lfts}
+use denote.Bor.{Bor}
 use denote.Ref.{MutBor, at_last}
 use lib.ListN.{length}
 use Rattle.catalogue_titles.specs.Lent.{Lent, lending}
@@ -23,9 +24,9 @@ use Rattle.mcs.proofs.mcs_write.Reads as write-call
 use Rattle.mcs.proofs.mcs_take.Reads as take-call
 use Rattle.mcs_history.specs.Library.{Shown, Taken, heard, Made, other, taken, Run, started}
 
-module _ (groups tracks segments text renames office state track octet : MutBor (List ℕ)) (n : ℕ) (new t o : List ℕ) where
+module _ (groups tracks segments text renames office : Bor (List ℕ)) (state track octet : MutBor (List ℕ)) (n : ℕ) (new t o : List ℕ) where
   -- what every call is lent first, and last
-  abbrev lent : {A : Type 0} → A → MutBor (List ℕ) × (MutBor (List ℕ) × (MutBor (List ℕ) × (MutBor (List ℕ) × (MutBor (List ℕ) × (MutBor (List ℕ) × A)))))
+  abbrev lent : {A : Type 0} → A → Bor (List ℕ) × (Bor (List ℕ) × (Bor (List ℕ) × (Bor (List ℕ) × (Bor (List ℕ) × (Bor (List ℕ) × A)))))
   lent rest = (groups, (tracks, (segments, (text, (renames, (office, rest))))))
 
   abbrev words : MutBor (List ℕ) × (MutBor (List ℕ) × Unit {0})
@@ -68,16 +69,16 @@ module _ (groups tracks segments text renames office state track octet : MutBor 
 
   module _ (κs : Lfts 11) where
     -- a start that answers 0 begins a history
-    pub start_begins : (name0 name1 : MutBor (List ℕ)) (mask0 ccid0 mask1 ccid1 : ℕ)
+    pub start_begins : (name0 name1 : Bor (List ℕ)) (mask0 ccid0 mask1 ccid1 : ℕ)
         → start-call.Post κs (lent (name0, (mask0, (ccid0, (name1, (mask1, (ccid1, (state, words)))))))) 0 (lent (name0, (mask0, (ccid0, (name1, (mask1, (ccid1, (at_last state new, told))))))))
         → Run k (record { name = name0.now; mask = mask0; ccid = ccid0 }) (record { name = name1.now; mask = mask1; ccid = ccid1 }) [] new
     start_begins name0 name1 mask0 ccid0 mask1 ccid1 p = started p.leaves
 
   module _ (κs : Lfts 9) where
-    pub set_name_made : (v : ℕ) (name : MutBor (List ℕ)) → set-name-call.Post κs (lent (state, (v, (name, words)))) n (lent (at_last state new, (v, (name, told)))) → MadeBy (set_name v name.now)
+    pub set_name_made : (v : ℕ) (name : Bor (List ℕ)) → set-name-call.Post κs (lent (state, (v, (name, words)))) n (lent (at_last state new, (v, (name, told)))) → MadeBy (set_name v name.now)
     set_name_made v name p = other (set_name v name.now) refl p.leaves
 
-    pub write_made : (client v x : ℕ) (value : MutBor (List ℕ))
+    pub write_made : (client v x : ℕ) (value : Bor (List ℕ))
         → write-call.Post κs (lent (state, (client, (v, (x, (value, words)))))) n (lent (at_last state new, (client, (v, (x, (value, told))))))
         → MadeBy (write client v x value.now)
     write_made client v x value p = other (write client v x value.now) refl p.leaves

@@ -61,7 +61,7 @@ module _ (k : Lent) (gen nam : Beginning) where
   -- and all that it hears
   pub hears_given : {h ks : List Call} {state : List ℕ} {l : List Handout} → Run k gen nam h state → Onward k state ks l → l ≡ given k gen nam h ks
   hears_given run done = refl
-  hears_given run (and m on) = λ i. prepend (hears_made run m i) (hears_given (then run m) on i)
+  hears_given {h = h} run (and {call = call} m on) = λ i. prepend (hears_made run m i) (hears_given {h = call ∷ h} (then run m) on i)
 
   -- the number of every call is what its definition says after the history
   pub answers : {h : List Call} {state state' : List ℕ} {number : ℕ} (call : Call) → Run k gen nam h state → Leaves (left k call (desk_of state)) state number state'

@@ -15,70 +15,50 @@ use Rattle.mcs.proofs.mcs_card_load.Goals as goal
 
 pub returns-clause-value : goal.returns-clause-value
 returns-clause-value c =
-
-    let a = c.args in
     let load = c.load-l.ensures in
-    let told = c.told_of_load-t.ensures ∙ ap told_of load.0 in
-    let blocks = blocks_of a.card.now in
-    let said = load_said a.card.now (length a.groups.now) (length a.tracks.now) (length a.segments.now) (length a.text.now) in
-    let small = load_words a.card.now (length a.groups.now) (length a.tracks.now) (length a.segments.now) (length a.text.now) in ap (λ (t : Told). t.number) told
+    let told = c.told_of_load-t.ensures ∙ ap told_of load.result_value in
+    ap (λ (t : Told). t.number) told
 
 pub returns-clause-groups_after : goal.returns-clause-groups_after
 returns-clause-groups_after c =
-
     let a = c.args in
     let load = c.load-l.ensures in
-    let told = c.told_of_load-t.ensures ∙ ap told_of load.0 in
     let blocks = blocks_of a.card.now in
-    let said = load_said a.card.now (length a.groups.now) (length a.tracks.now) (length a.segments.now) (length a.text.now) in
-    let small = load_words a.card.now (length a.groups.now) (length a.tracks.now) (length a.segments.now) (length a.text.now) in load.1.0 ∙ ap (λ (x : Said). table_after x (gather words 1 blocks) a.groups.now) load.0
+    load.groups_after ∙ ap (λ (x : Said). table_after x (gather words 1 blocks) a.groups.now) load.result_value
 
 pub returns-clause-tracks_after : goal.returns-clause-tracks_after
 returns-clause-tracks_after c =
-
     let a = c.args in
     let load = c.load-l.ensures in
-    let told = c.told_of_load-t.ensures ∙ ap told_of load.0 in
     let blocks = blocks_of a.card.now in
-    let said = load_said a.card.now (length a.groups.now) (length a.tracks.now) (length a.segments.now) (length a.text.now) in
-    let small = load_words a.card.now (length a.groups.now) (length a.tracks.now) (length a.segments.now) (length a.text.now) in load.1.1.0 ∙ ap (λ (x : Said). table_after x (gather words 2 blocks) a.tracks.now) load.0
+    load.tracks_after ∙ ap (λ (x : Said). table_after x (gather words 2 blocks) a.tracks.now) load.result_value
 
 pub returns-clause-segments_after : goal.returns-clause-segments_after
 returns-clause-segments_after c =
-
     let a = c.args in
     let load = c.load-l.ensures in
-    let told = c.told_of_load-t.ensures ∙ ap told_of load.0 in
     let blocks = blocks_of a.card.now in
-    let said = load_said a.card.now (length a.groups.now) (length a.tracks.now) (length a.segments.now) (length a.text.now) in
-    let small = load_words a.card.now (length a.groups.now) (length a.tracks.now) (length a.segments.now) (length a.text.now) in load.1.1.1.0 ∙ ap (λ (x : Said). table_after x (gather words 3 blocks) a.segments.now) load.0
+    load.segments_after ∙ ap (λ (x : Said). table_after x (gather words 3 blocks) a.segments.now) load.result_value
 
 pub returns-clause-text_after : goal.returns-clause-text_after
 returns-clause-text_after c =
-
     let a = c.args in
     let load = c.load-l.ensures in
-    let told = c.told_of_load-t.ensures ∙ ap told_of load.0 in
     let blocks = blocks_of a.card.now in
-    let said = load_said a.card.now (length a.groups.now) (length a.tracks.now) (length a.segments.now) (length a.text.now) in
-    let small = load_words a.card.now (length a.groups.now) (length a.tracks.now) (length a.segments.now) (length a.text.now) in load.1.1.1.1 ∙ ap (λ (x : Said). table_after x (gather octets 4 blocks) a.text.now) load.0
+    load.text_after ∙ ap (λ (x : Said). table_after x (gather octets 4 blocks) a.text.now) load.result_value
 
 pub returns-clause-counts_after : goal.returns-clause-counts_after
 returns-clause-counts_after c =
-
     let a = c.args in
     let load = c.load-l.ensures in
-    let told = c.told_of_load-t.ensures ∙ ap told_of load.0 in
-    let blocks = blocks_of a.card.now in
+    let told = c.told_of_load-t.ensures ∙ ap told_of load.result_value in
     let said = load_said a.card.now (length a.groups.now) (length a.tracks.now) (length a.segments.now) (length a.text.now) in
     let small = load_words a.card.now (length a.groups.now) (length a.tracks.now) (length a.segments.now) (length a.text.now) in c.tell.ensures ∙ ap (λ (t : Told). told_after t.granted t.values a.counts.now) told ∙ told_as_said said a.counts.now small
 
 pub returns-clause-block_after : goal.returns-clause-block_after
 returns-clause-block_after c =
-
     let a = c.args in
     let load = c.load-l.ensures in
-    let told = c.told_of_load-t.ensures ∙ ap told_of load.0 in
-    let blocks = blocks_of a.card.now in
+    let told = c.told_of_load-t.ensures ∙ ap told_of load.result_value in
     let said = load_said a.card.now (length a.groups.now) (length a.tracks.now) (length a.segments.now) (length a.text.now) in
     let small = load_words a.card.now (length a.groups.now) (length a.tracks.now) (length a.segments.now) (length a.text.now) in c.tell-2.ensures ∙ ap (λ (t : Told). told_after t.carries t.values a.block.now) told ∙ carried_as_said said a.block.now small

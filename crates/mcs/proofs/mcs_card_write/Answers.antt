@@ -15,95 +15,43 @@ use Rattle.mcs.proofs.mcs_card_write.Goals as goal
 
 pub returns-clause-value : goal.returns-clause-value
 returns-clause-value c =
-
-    let a = c.args in
     let write = c.write-w.ensures in
-    let told = c.told_of_write-t.ensures ∙ ap told_of write.0 in
-    let k = tables a.groups.now a.tracks.now a.segments.now a.text.now in
-    let said = write_said k (length a.card.now) in
-    let small = write_words k (length a.card.now) in ((
-      ap (λ (t : Told). t.number) told,
-      (
-        write.1 ∙ ap (λ (x : Said). table_after x (card_of k) a.card.now) write.0,
-        (
-          c.tell.ensures ∙ ap (λ (t : Told). told_after t.granted t.values a.blocks.now) told ∙ told_as_said said a.blocks.now small,
-          place_as_said _ said told small a.track.now a.octet.now _ _ c.tell_place.ensures,
-        ),
-      ),
-    )).0
+    let told = c.told_of_write-t.ensures ∙ ap told_of write.result_value in
+    ap (λ (t : Told). t.number) told
 
 pub returns-clause-card_after : goal.returns-clause-card_after
 returns-clause-card_after c =
-
     let a = c.args in
     let write = c.write-w.ensures in
-    let told = c.told_of_write-t.ensures ∙ ap told_of write.0 in
     let k = tables a.groups.now a.tracks.now a.segments.now a.text.now in
-    let said = write_said k (length a.card.now) in
-    let small = write_words k (length a.card.now) in ((
-      ap (λ (t : Told). t.number) told,
-      (
-        write.1 ∙ ap (λ (x : Said). table_after x (card_of k) a.card.now) write.0,
-        (
-          c.tell.ensures ∙ ap (λ (t : Told). told_after t.granted t.values a.blocks.now) told ∙ told_as_said said a.blocks.now small,
-          place_as_said _ said told small a.track.now a.octet.now _ _ c.tell_place.ensures,
-        ),
-      ),
-    )).1.0
+    write.card_after ∙ ap (λ (x : Said). table_after x (card_of k) a.card.now) write.result_value
 
 pub returns-clause-blocks_after : goal.returns-clause-blocks_after
 returns-clause-blocks_after c =
-
     let a = c.args in
     let write = c.write-w.ensures in
-    let told = c.told_of_write-t.ensures ∙ ap told_of write.0 in
+    let told = c.told_of_write-t.ensures ∙ ap told_of write.result_value in
     let k = tables a.groups.now a.tracks.now a.segments.now a.text.now in
     let said = write_said k (length a.card.now) in
-    let small = write_words k (length a.card.now) in ((
-      ap (λ (t : Told). t.number) told,
-      (
-        write.1 ∙ ap (λ (x : Said). table_after x (card_of k) a.card.now) write.0,
-        (
-          c.tell.ensures ∙ ap (λ (t : Told). told_after t.granted t.values a.blocks.now) told ∙ told_as_said said a.blocks.now small,
-          place_as_said _ said told small a.track.now a.octet.now _ _ c.tell_place.ensures,
-        ),
-      ),
-    )).1.1.0
+    let small = write_words k (length a.card.now) in
+    c.tell.ensures ∙ ap (λ (t : Told). told_after t.granted t.values a.blocks.now) told ∙ told_as_said said a.blocks.now small
 
 pub returns-clause-track_after : goal.returns-clause-track_after
 returns-clause-track_after c =
-
     let a = c.args in
     let write = c.write-w.ensures in
-    let told = c.told_of_write-t.ensures ∙ ap told_of write.0 in
+    let told = c.told_of_write-t.ensures ∙ ap told_of write.result_value in
     let k = tables a.groups.now a.tracks.now a.segments.now a.text.now in
     let said = write_said k (length a.card.now) in
-    let small = write_words k (length a.card.now) in ((
-      ap (λ (t : Told). t.number) told,
-      (
-        write.1 ∙ ap (λ (x : Said). table_after x (card_of k) a.card.now) write.0,
-        (
-          c.tell.ensures ∙ ap (λ (t : Told). told_after t.granted t.values a.blocks.now) told ∙ told_as_said said a.blocks.now small,
-          place_as_said _ said told small a.track.now a.octet.now _ _ c.tell_place.ensures,
-        ),
-      ),
-    )).1.1.1.0
+    let small = write_words k (length a.card.now) in
+    (place_as_said _ said told small a.track.now a.octet.now _ _ (c.tell_place.ensures.track_after, c.tell_place.ensures.octet_after)).0
 
 pub returns-clause-octet_after : goal.returns-clause-octet_after
 returns-clause-octet_after c =
-
     let a = c.args in
     let write = c.write-w.ensures in
-    let told = c.told_of_write-t.ensures ∙ ap told_of write.0 in
+    let told = c.told_of_write-t.ensures ∙ ap told_of write.result_value in
     let k = tables a.groups.now a.tracks.now a.segments.now a.text.now in
     let said = write_said k (length a.card.now) in
-    let small = write_words k (length a.card.now) in ((
-      ap (λ (t : Told). t.number) told,
-      (
-        write.1 ∙ ap (λ (x : Said). table_after x (card_of k) a.card.now) write.0,
-        (
-          c.tell.ensures ∙ ap (λ (t : Told). told_after t.granted t.values a.blocks.now) told ∙ told_as_said said a.blocks.now small,
-          place_as_said _ said told small a.track.now a.octet.now _ _ c.tell_place.ensures,
-        ),
-      ),
-    )).1.1.1.1
+    let small = write_words k (length a.card.now) in
+    (place_as_said _ said told small a.track.now a.octet.now _ _ (c.tell_place.ensures.track_after, c.tell_place.ensures.octet_after)).1

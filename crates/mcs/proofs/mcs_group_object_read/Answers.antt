@@ -9,14 +9,14 @@ use Rattle.mcs.proofs.mcs_group_object_read.Goals as goal
 pub returns-clause-value : goal.returns-clause-value
 returns-clause-value c =
     (front_as_said _ (read_said Group c.args.octets.now (length c.args.members.now)) c.read-a.ensures.result_value (entries_of Group c.args.octets.now).words c.args.members.now _
-    c.args.count.now _ _ c.read-a.ensures.out_after c.tell_count.ensures).0
+    c.args.count.now _ _ c.read-a.ensures.out_after (c.tell_count.ensures.value, c.tell_count.ensures.count_after)).0
 
 pub returns-clause-members_after : goal.returns-clause-members_after
 returns-clause-members_after c =
     (front_as_said _ (read_said Group c.args.octets.now (length c.args.members.now)) c.read-a.ensures.result_value (entries_of Group c.args.octets.now).words c.args.members.now _
-    c.args.count.now _ _ c.read-a.ensures.out_after c.tell_count.ensures).1.0
+    c.args.count.now _ _ c.read-a.ensures.out_after (c.tell_count.ensures.value, c.tell_count.ensures.count_after)).1.0
 
 pub returns-clause-count_after : goal.returns-clause-count_after
 returns-clause-count_after c =
     (front_as_said _ (read_said Group c.args.octets.now (length c.args.members.now)) c.read-a.ensures.result_value (entries_of Group c.args.octets.now).words c.args.members.now _
-    c.args.count.now _ _ c.read-a.ensures.out_after c.tell_count.ensures).1.1
+    c.args.count.now _ _ c.read-a.ensures.out_after (c.tell_count.ensures.value, c.tell_count.ensures.count_after)).1.1

@@ -26,18 +26,7 @@ returns-clause-value c =
     told_after c.told_of-t.result.granted (values c.manual_goto-s.result.arrival) old ≡ told_after l.said.is_granted (values l.state) old = λ values old. let l = call (desk_of c.args.state.now) in
     ap (λ (x : Told). told_after x.granted (values c.manual_goto-s.result.arrival) old) (told_is)
     ∙ ap (λ (x : Left Arrival). told_after l.said.is_granted (values x.state) old) (said_is) in
-
-    let a = c.args in
-    let d = desk_of a.state.now in ((
-      ap (λ (x : Told). x.number) (told_is),
-      (
-        c.tell_arrival.ensures.made_after ∙ words_are made_values a.made.now,
-        (
-          c.tell_arrival.ensures.place_after ∙ words_are place_values a.place.now,
-          place_as_said _ (call d).said (told_is) (manual_words (lent) d a.service a.opcode a.number a.allowed) a.track.now a.octet.now _ _ c.tell_place.ensures,
-        ),
-      ),
-    )).0
+    ap (λ (x : Told). x.number) (told_is)
 
 pub returns-clause-made_after : goal.returns-clause-made_after
 returns-clause-made_after c =
@@ -50,18 +39,8 @@ returns-clause-made_after c =
     told_after c.told_of-t.result.granted (values c.manual_goto-s.result.arrival) old ≡ told_after l.said.is_granted (values l.state) old = λ values old. let l = call (desk_of c.args.state.now) in
     ap (λ (x : Told). told_after x.granted (values c.manual_goto-s.result.arrival) old) (told_is)
     ∙ ap (λ (x : Left Arrival). told_after l.said.is_granted (values x.state) old) (said_is) in
-
     let a = c.args in
-    let d = desk_of a.state.now in ((
-      ap (λ (x : Told). x.number) (told_is),
-      (
-        c.tell_arrival.ensures.made_after ∙ words_are made_values a.made.now,
-        (
-          c.tell_arrival.ensures.place_after ∙ words_are place_values a.place.now,
-          place_as_said _ (call d).said (told_is) (manual_words (lent) d a.service a.opcode a.number a.allowed) a.track.now a.octet.now _ _ c.tell_place.ensures,
-        ),
-      ),
-    )).1.0
+    c.tell_arrival.ensures.made_after ∙ words_are made_values a.made.now
 
 pub returns-clause-place_after : goal.returns-clause-place_after
 returns-clause-place_after c =
@@ -74,18 +53,8 @@ returns-clause-place_after c =
     told_after c.told_of-t.result.granted (values c.manual_goto-s.result.arrival) old ≡ told_after l.said.is_granted (values l.state) old = λ values old. let l = call (desk_of c.args.state.now) in
     ap (λ (x : Told). told_after x.granted (values c.manual_goto-s.result.arrival) old) (told_is)
     ∙ ap (λ (x : Left Arrival). told_after l.said.is_granted (values x.state) old) (said_is) in
-
     let a = c.args in
-    let d = desk_of a.state.now in ((
-      ap (λ (x : Told). x.number) (told_is),
-      (
-        c.tell_arrival.ensures.made_after ∙ words_are made_values a.made.now,
-        (
-          c.tell_arrival.ensures.place_after ∙ words_are place_values a.place.now,
-          place_as_said _ (call d).said (told_is) (manual_words (lent) d a.service a.opcode a.number a.allowed) a.track.now a.octet.now _ _ c.tell_place.ensures,
-        ),
-      ),
-    )).1.1.0
+    c.tell_arrival.ensures.place_after ∙ words_are place_values a.place.now
 
 pub returns-clause-track_after : goal.returns-clause-track_after
 returns-clause-track_after c =
@@ -98,18 +67,9 @@ returns-clause-track_after c =
     told_after c.told_of-t.result.granted (values c.manual_goto-s.result.arrival) old ≡ told_after l.said.is_granted (values l.state) old = λ values old. let l = call (desk_of c.args.state.now) in
     ap (λ (x : Told). told_after x.granted (values c.manual_goto-s.result.arrival) old) (told_is)
     ∙ ap (λ (x : Left Arrival). told_after l.said.is_granted (values x.state) old) (said_is) in
-
     let a = c.args in
-    let d = desk_of a.state.now in ((
-      ap (λ (x : Told). x.number) (told_is),
-      (
-        c.tell_arrival.ensures.made_after ∙ words_are made_values a.made.now,
-        (
-          c.tell_arrival.ensures.place_after ∙ words_are place_values a.place.now,
-          place_as_said _ (call d).said (told_is) (manual_words (lent) d a.service a.opcode a.number a.allowed) a.track.now a.octet.now _ _ c.tell_place.ensures,
-        ),
-      ),
-    )).1.1.1.0
+    let d = desk_of a.state.now in
+    (place_as_said _ (call d).said (told_is) (manual_words (lent) d a.service a.opcode a.number a.allowed) a.track.now a.octet.now _ _ (c.tell_place.ensures.track_after, c.tell_place.ensures.octet_after)).0
 
 pub returns-clause-octet_after : goal.returns-clause-octet_after
 returns-clause-octet_after c =
@@ -122,15 +82,6 @@ returns-clause-octet_after c =
     told_after c.told_of-t.result.granted (values c.manual_goto-s.result.arrival) old ≡ told_after l.said.is_granted (values l.state) old = λ values old. let l = call (desk_of c.args.state.now) in
     ap (λ (x : Told). told_after x.granted (values c.manual_goto-s.result.arrival) old) (told_is)
     ∙ ap (λ (x : Left Arrival). told_after l.said.is_granted (values x.state) old) (said_is) in
-
     let a = c.args in
-    let d = desk_of a.state.now in ((
-      ap (λ (x : Told). x.number) (told_is),
-      (
-        c.tell_arrival.ensures.made_after ∙ words_are made_values a.made.now,
-        (
-          c.tell_arrival.ensures.place_after ∙ words_are place_values a.place.now,
-          place_as_said _ (call d).said (told_is) (manual_words (lent) d a.service a.opcode a.number a.allowed) a.track.now a.octet.now _ _ c.tell_place.ensures,
-        ),
-      ),
-    )).1.1.1.1
+    let d = desk_of a.state.now in
+    (place_as_said _ (call d).said (told_is) (manual_words (lent) d a.service a.opcode a.number a.allowed) a.track.now a.octet.now _ _ (c.tell_place.ensures.track_after, c.tell_place.ensures.octet_after)).1

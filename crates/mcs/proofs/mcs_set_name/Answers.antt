@@ -10,4 +10,4 @@ finish-requires-clause-all_words c =
 
 pub returns : goal.returns
 returns c =
-    ends c.set_name-o.ensures c.finish.ensures
+    ends c.set_name-o.ensures (c.finish.ensures.value, (c.finish.ensures.track_after, c.finish.ensures.octet_after))

@@ -20,23 +20,19 @@ finish-requires-clause-all_words c =
 
 pub returns-clause-ends : goal.returns-clause-ends
 returns-clause-ends c =
-
-    let k = lending c.args.groups.now c.args.tracks.now c.args.segments.now c.args.text.now c.args.renames.now c.args.office.now in
     let o = c.take-o in
-    let said = o.ensures.0.said in ends o.ensures.0 c.finish.ensures
+    ends o.ensures.answers (c.finish.ensures.value, (c.finish.ensures.track_after, c.finish.ensures.octet_after))
 
 pub returns-clause-out_after : goal.returns-clause-out_after
 returns-clause-out_after c =
-
     let k = lending c.args.groups.now c.args.tracks.now c.args.segments.now c.args.text.now c.args.renames.now c.args.office.now in
     let o = c.take-o in
-    let said = o.ensures.0.said in o.ensures.1 ∙ ap (λ (x : Said). table_after x (take_octets k (desk_of c.args.state.now)) c.args.out.now) said
+    let said = o.ensures.answers.said in o.ensures.out_after ∙ ap (λ (x : Said). table_after x (take_octets k (desk_of c.args.state.now)) c.args.out.now) said
 
 pub returns-clause-served_after : goal.returns-clause-served_after
 returns-clause-served_after c =
-
     let k = lending c.args.groups.now c.args.tracks.now c.args.segments.now c.args.text.now c.args.renames.now c.args.office.now in
     let o = c.take-o in
-    let said = o.ensures.0.said in c.tell.ensures
-            ∙ ap (λ (t : Told). told_after t.granted t.values c.args.served.now) (c.told_of-t.ensures ∙ ap told_of said)
-            ∙ told_as_said (take_call k (desk_of c.args.state.now) (length c.args.out.now)).said c.args.served.now (take_words k (desk_of c.args.state.now) (length c.args.out.now))
+    let said = o.ensures.answers.said in c.tell.ensures
+    ∙ ap (λ (t : Told). told_after t.granted t.values c.args.served.now) (c.told_of-t.ensures ∙ ap told_of said)
+    ∙ told_as_said (take_call k (desk_of c.args.state.now) (length c.args.out.now)).said c.args.served.now (take_words k (desk_of c.args.state.now) (length c.args.out.now))

@@ -17,66 +17,34 @@ pub returns-clause-value : goal.returns-clause-value
 returns-clause-value c =
     let lent : Lent = lending c.args.groups.now c.args.tracks.now c.args.segments.now c.args.text.now c.args.renames.now c.args.office.now in
     let said_is : titled_by c.which-w.result ≡ title_call (lent) (desk_of c.args.state.now) c.args.service = c.which-w.ensures in
-
-    let a = c.args in
-    let l = title_call (lent) (desk_of a.state.now) a.service in
-    let told = c.told_of-t.ensures ∙ ap (λ (x : Left Part). told_of x.said) (said_is) in ((
-      ap (λ (x : Told). x.number) told,
-      (
-        c.tell_part.ensures
-            ∙ ap (λ (x : Told). told_after x.granted (part_values c.which-w.result.part) a.part.now) told
-            ∙ ap (λ (x : Part). told_after l.said.is_granted (part_values x) a.part.now) (ap (λ (x : Left Part). x.state) (said_is)),
-        place_as_said _ l.said told (titled_words (lent) (desk_of a.state.now) a.service) a.track.now a.octet.now _ _ c.tell_place.ensures,
-      ),
-    )).0
+    let told = c.told_of-t.ensures ∙ ap (λ (x : Left Part). told_of x.said) (said_is) in
+    ap (λ (x : Told). x.number) told
 
 pub returns-clause-part_after : goal.returns-clause-part_after
 returns-clause-part_after c =
     let lent : Lent = lending c.args.groups.now c.args.tracks.now c.args.segments.now c.args.text.now c.args.renames.now c.args.office.now in
     let said_is : titled_by c.which-w.result ≡ title_call (lent) (desk_of c.args.state.now) c.args.service = c.which-w.ensures in
-
     let a = c.args in
     let l = title_call (lent) (desk_of a.state.now) a.service in
-    let told = c.told_of-t.ensures ∙ ap (λ (x : Left Part). told_of x.said) (said_is) in ((
-      ap (λ (x : Told). x.number) told,
-      (
-        c.tell_part.ensures
-            ∙ ap (λ (x : Told). told_after x.granted (part_values c.which-w.result.part) a.part.now) told
-            ∙ ap (λ (x : Part). told_after l.said.is_granted (part_values x) a.part.now) (ap (λ (x : Left Part). x.state) (said_is)),
-        place_as_said _ l.said told (titled_words (lent) (desk_of a.state.now) a.service) a.track.now a.octet.now _ _ c.tell_place.ensures,
-      ),
-    )).1.0
+    let told = c.told_of-t.ensures ∙ ap (λ (x : Left Part). told_of x.said) (said_is) in
+    c.tell_part.ensures
+    ∙ ap (λ (x : Told). told_after x.granted (part_values c.which-w.result.part) a.part.now) told
+    ∙ ap (λ (x : Part). told_after l.said.is_granted (part_values x) a.part.now) (ap (λ (x : Left Part). x.state) (said_is))
 
 pub returns-clause-track_after : goal.returns-clause-track_after
 returns-clause-track_after c =
     let lent : Lent = lending c.args.groups.now c.args.tracks.now c.args.segments.now c.args.text.now c.args.renames.now c.args.office.now in
     let said_is : titled_by c.which-w.result ≡ title_call (lent) (desk_of c.args.state.now) c.args.service = c.which-w.ensures in
-
     let a = c.args in
     let l = title_call (lent) (desk_of a.state.now) a.service in
-    let told = c.told_of-t.ensures ∙ ap (λ (x : Left Part). told_of x.said) (said_is) in ((
-      ap (λ (x : Told). x.number) told,
-      (
-        c.tell_part.ensures
-            ∙ ap (λ (x : Told). told_after x.granted (part_values c.which-w.result.part) a.part.now) told
-            ∙ ap (λ (x : Part). told_after l.said.is_granted (part_values x) a.part.now) (ap (λ (x : Left Part). x.state) (said_is)),
-        place_as_said _ l.said told (titled_words (lent) (desk_of a.state.now) a.service) a.track.now a.octet.now _ _ c.tell_place.ensures,
-      ),
-    )).1.1.0
+    let told = c.told_of-t.ensures ∙ ap (λ (x : Left Part). told_of x.said) (said_is) in
+    (place_as_said _ l.said told (titled_words (lent) (desk_of a.state.now) a.service) a.track.now a.octet.now _ _ (c.tell_place.ensures.track_after, c.tell_place.ensures.octet_after)).0
 
 pub returns-clause-octet_after : goal.returns-clause-octet_after
 returns-clause-octet_after c =
     let lent : Lent = lending c.args.groups.now c.args.tracks.now c.args.segments.now c.args.text.now c.args.renames.now c.args.office.now in
     let said_is : titled_by c.which-w.result ≡ title_call (lent) (desk_of c.args.state.now) c.args.service = c.which-w.ensures in
-
     let a = c.args in
     let l = title_call (lent) (desk_of a.state.now) a.service in
-    let told = c.told_of-t.ensures ∙ ap (λ (x : Left Part). told_of x.said) (said_is) in ((
-      ap (λ (x : Told). x.number) told,
-      (
-        c.tell_part.ensures
-            ∙ ap (λ (x : Told). told_after x.granted (part_values c.which-w.result.part) a.part.now) told
-            ∙ ap (λ (x : Part). told_after l.said.is_granted (part_values x) a.part.now) (ap (λ (x : Left Part). x.state) (said_is)),
-        place_as_said _ l.said told (titled_words (lent) (desk_of a.state.now) a.service) a.track.now a.octet.now _ _ c.tell_place.ensures,
-      ),
-    )).1.1.1
+    let told = c.told_of-t.ensures ∙ ap (λ (x : Left Part). told_of x.said) (said_is) in
+    (place_as_said _ l.said told (titled_words (lent) (desk_of a.state.now) a.service) a.track.now a.octet.now _ _ (c.tell_place.ensures.track_after, c.tell_place.ensures.octet_after)).1
