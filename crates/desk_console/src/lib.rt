@@ -1,5 +1,6 @@
 // The calls of the desk itself, as the clients see them. Each checks catalogue and state itself, and refuses by the numbers of SCOPE 20.2.
 #![tactic(auto)]
+
 ghost use Rattle.std.specs.Prelude.{◌≡◌, ◌∷◌, [], ◌<◌, ◌≤◌, length};
 ghost use Rattle.ground.specs.Refusals.{granted, leaves};
 ghost use Rattle.catalogue_titles.specs.Lent.{lending};

@@ -4,6 +4,7 @@ use mathlib.Core.Path.{◌≡◌, sym, ap, ◌∙◌}
 use mathlib.Core.List.{List}
 use Prim.Native.Nat.{ℕ}
 use contract.Lifetimes.{Lfts}
+use denote.Bor.{Bor}
 use denote.Ref.{MutBor, at_last}
 use Rattle.catalogue_titles.specs.Lent.{lending}
 use Rattle.ground.specs.Lists.{table_after}
@@ -15,12 +16,12 @@ use Rattle.desk_exchange.specs.Read.{read_octets}
 use Rattle.desk_exchange.proofs.read.Reads as read
 use Rattle.desk_exchange.proofs.write.Reads as write
 
-module _ (κs : Lfts 7) (groups tracks segments text renames office state : MutBor (List ℕ)) (who service characteristic : ℕ) (a₁ a₂ : Answer) (new₁ new₂ : List ℕ) where
+module _ (κs : Lfts 7) (groups tracks segments text renames office : Bor (List ℕ)) (state : MutBor (List ℕ)) (who service characteristic : ℕ) (a₁ a₂ : Answer) (new₁ new₂ : List ℕ) where
   -- all that is lent before the other arguments, as it is lent and with the state as it is left
-  abbrev lent : {A : Type 0} → MutBor (List ℕ) → A → MutBor (List ℕ) × (MutBor (List ℕ) × (MutBor (List ℕ) × (MutBor (List ℕ) × (MutBor (List ℕ) × (MutBor (List ℕ) × (MutBor (List ℕ) × A))))))
+  abbrev lent : {A : Type 0} → MutBor (List ℕ) → A → Bor (List ℕ) × (Bor (List ℕ) × (Bor (List ℕ) × (Bor (List ℕ) × (Bor (List ℕ) × (Bor (List ℕ) × (MutBor (List ℕ) × A))))))
   lent octets rest = (groups, (tracks, (segments, (text, (renames, (office, (octets, rest)))))))
 
-  pub write_settled : (value : MutBor (List ℕ))
+  pub write_settled : (value : Bor (List ℕ))
       → write.Post κs (lent state (who, (service, (characteristic, (value, tt))))) a₁ (lent (at_last state new₁) (who, (service, (characteristic, (value, tt)))))
       → write.Post κs (lent state (who, (service, (characteristic, (value, tt))))) a₂ (lent (at_last state new₂) (who, (service, (characteristic, (value, tt)))))
       → (a₁ ≡ a₂) × (new₁ ≡ new₂)

@@ -1,5 +1,6 @@
 // Clients read and write. Each call checks catalogue and state itself, and refuses by the numbers of SCOPE 20.2.
 #![tactic(auto)]
+
 ghost use Rattle.std.specs.Prelude.{◌≡◌, ◌<◌, ◌≤◌, true, false, ◌++◌, ltb, length as len};
 ghost use Rattle.ground.specs.Limits.{most_groups, least_output};
 ghost use Rattle.ground.specs.Lists.{table_after};

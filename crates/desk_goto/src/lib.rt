@@ -1,5 +1,6 @@
 // The manual's Goto of a service's player: it checks all that is lent and the state itself, and alters nothing.
 #![tactic(auto)]
+
 ghost use Rattle.std.specs.Prelude.{◌≡◌};
 ghost use Rattle.catalogue_titles.specs.Lent.{lending};
 ghost use Rattle.mcs_state.specs.Codec.{desk_of};

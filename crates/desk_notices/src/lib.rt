@@ -1,6 +1,7 @@
 // What differs between two states of the player: the values of the characteristics, and the track number; and what falls due to whom when a call has
 // changed the player.
 #![tactic(auto)]
+
 ghost use Rattle.std.specs.Prelude.{◌≡◌, true, not, ◌∷◌, [], min, ◌<◌};
 ghost use Rattle.player_state.specs.Player.{name_of};
 ghost use Rattle.player_values.specs.Values.{source, word_octets, title_value, duration_value, position_value, segments_now, track_now, next_now, parent_now, group_now, object_octets};

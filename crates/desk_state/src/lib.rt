@@ -1,5 +1,6 @@
 // The state of the whole: the services over the one catalogue, the links of the four clients, and the client that was served last.
 #![tactic(auto)]
+
 ghost use Rattle.std.specs.Prelude.{◌≡◌, ◌<◌};
 ghost use Rattle.desk_slots.specs.Slots.{service_count, client_count};
 ghost use Rattle.desk_state.specs.Desk.{link_at, service_at, account_in, started_service, started_desk, with_account, with_service};

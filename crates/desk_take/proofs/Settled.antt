@@ -3,6 +3,7 @@ use mathlib.Core.Path.{◌≡◌, sym, ap, ◌∙◌}
 use mathlib.Core.List.{List}
 use Prim.Native.Nat.{ℕ}
 use contract.Lifetimes.{Lfts}
+use denote.Bor.{Bor}
 use denote.Ref.{MutBor, at_last}
 use Rattle.catalogue_titles.specs.Lent.{Lent, lending}
 use Rattle.player_state.specs.declared.Player.{Player}
@@ -19,7 +20,7 @@ use Rattle.desk_take.specs.Take.{take_octets}
 use Rattle.desk_take.proofs.take.Reads as take
 use Rattle.desk_take.proofs.take_own.Reads as take_own
 
-module _ (κs : Lfts 7) (groups tracks segments text renames office state out : MutBor (List ℕ)) (new₁ new₂ out₁ out₂ : List ℕ) where
+module _ (κs : Lfts 7) (groups tracks segments text renames office : Bor (List ℕ)) (state out : MutBor (List ℕ)) (new₁ new₂ out₁ out₂ : List ℕ) where
   pub take_settled : (a₁ a₂ : Answer)
       → take.Post κs (groups, (tracks, (segments, (text, (renames, (office, (state, (out, tt)))))))) a₁ (groups, (tracks, (segments, (text, (renames, (office, (at_last state new₁, (at_last out out₁, tt))))))))
       → take.Post κs (groups, (tracks, (segments, (text, (renames, (office, (state, (out, tt)))))))) a₂ (groups, (tracks, (segments, (text, (renames, (office, (at_last state new₂, (at_last out out₂, tt))))))))
@@ -37,7 +38,7 @@ own_settled k players c out a₁ a₂ c₁ c₂ out₁ out₂ h g =
     let a = answer_settles a₁ a₂ (ap (λ (l : Left Client). l.said) e) in
     (a, ap (λ (l : Left Client). l.state) e, h.1 ∙ ap (λ (x : Answer). table_after (said_of x) (own_octets k players c) out) a ∙ sym g.1)
 
-module _ (κs : Lfts 6) (groups tracks segments text renames office out : MutBor (List ℕ)) (out₁ out₂ : List ℕ) (players : List Player) (c : Client) (h₁ h₂ : Own) where
+module _ (κs : Lfts 6) (groups tracks segments text renames office : Bor (List ℕ)) (out : MutBor (List ℕ)) (out₁ out₂ : List ℕ) (players : List Player) (c : Client) (h₁ h₂ : Own) where
   pub take_own_settled : take_own.Post κs (c, (groups, (tracks, (segments, (text, (renames, (office, (players, (out, tt))))))))) h₁ (c, (groups, (tracks, (segments, (text, (renames, (office, (players, (at_last out out₁, tt)))))))))
       → take_own.Post κs (c, (groups, (tracks, (segments, (text, (renames, (office, (players, (out, tt))))))))) h₂ (c, (groups, (tracks, (segments, (text, (renames, (office, (players, (at_last out out₂, tt)))))))))
       → (h₁ ≡ h₂) × (out₁ ≡ out₂)

@@ -1,5 +1,6 @@
 // What is owed is handed out, to one client at a time.
 #![tactic(auto)]
+
 ghost use Rattle.std.specs.Prelude.{◌≡◌, true, ◌<◌, ◌≤◌, ◌^◌, length, ◌∷◌, []};
 ghost use Rattle.ground.specs.Lists.{filled, table_after};
 ghost use Rattle.catalogue_titles.specs.Lent.{Fit, lending};

@@ -1,6 +1,7 @@
 // The title of a service's player: the part of a lent text that it is, and which part that is. Each call checks all that is lent and the state itself, and alters
 // nothing.
 #![tactic(auto)]
+
 ghost use Rattle.std.specs.Prelude.{◌≡◌};
 ghost use Rattle.catalogue_titles.specs.Titles.{IsPart};
 ghost use Rattle.catalogue_titles.specs.Lent.{lending};

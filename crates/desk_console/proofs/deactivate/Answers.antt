@@ -38,7 +38,6 @@ becoming-requires-clause-plain c =
     let lent : Lent = lending c.args.groups.now c.args.tracks.now c.args.segments.now c.args.text.now c.args.renames.now c.args.office.now in
     let front : List Row = fronted (lent) false (desk_of c.args.state.now) ++ (service_row c.args.service ∷ []) in
     let passed : NoneApplies (front) = none (front) c.service_gate-g.result c.service_gate-g.ensures (not-false _ c.if-not-g.false) in
-
     let k = lent in
     let old = c.args.state.now in
     let service = c.args.service in
@@ -51,7 +50,6 @@ becoming-requires-clause-service_lt_service_count c =
     let lent : Lent = lending c.args.groups.now c.args.tracks.now c.args.segments.now c.args.text.now c.args.renames.now c.args.office.now in
     let front : List Row = fronted (lent) false (desk_of c.args.state.now) ++ (service_row c.args.service ∷ []) in
     let passed : NoneApplies (front) = none (front) c.service_gate-g.result c.service_gate-g.ensures (not-false _ c.if-not-g.false) in
-
     let k = lent in
     let old = c.args.state.now in
     let service = c.args.service in
@@ -64,7 +62,6 @@ becoming-requires-clause-sits c =
     let lent : Lent = lending c.args.groups.now c.args.tracks.now c.args.segments.now c.args.text.now c.args.renames.now c.args.office.now in
     let front : List Row = fronted (lent) false (desk_of c.args.state.now) ++ (service_row c.args.service ∷ []) in
     let passed : NoneApplies (front) = none (front) c.service_gate-g.result c.service_gate-g.ensures (not-false _ c.if-not-g.false) in
-
     let k = lent in
     let old = c.args.state.now in
     let service = c.args.service in
@@ -77,7 +74,6 @@ becoming-requires-clause-sits_2 c =
     let lent : Lent = lending c.args.groups.now c.args.tracks.now c.args.segments.now c.args.text.now c.args.renames.now c.args.office.now in
     let front : List Row = fronted (lent) false (desk_of c.args.state.now) ++ (service_row c.args.service ∷ []) in
     let passed : NoneApplies (front) = none (front) c.service_gate-g.result c.service_gate-g.ensures (not-false _ c.if-not-g.false) in
-
     let k = lent in
     let old = c.args.state.now in
     let service = c.args.service in

@@ -7,7 +7,6 @@ use Rattle.text.specs.Utf8.{said_of}
 use Rattle.player_check.specs.Standing.{name_row}
 use Rattle.desk_replies.proofs.Gates.{says}
 use borrow.Author.Rules.{rules}
-
 -- what was said of it is what its row says
 use Rattle.desk_console.proofs.name_gate.Goals as goal
 

@@ -60,7 +60,6 @@ becoming-requires-clause-plain c =
     let front : List Row = fronted (lent) false (desk_of c.args.state.now) ++ (service_row c.args.service ∷ []) in
     let passed : NoneApplies (front) = none (front) c.service_gate-g.result c.service_gate-g.ensures (not-false _ c.if-not-g.false) in
     let good : NoneApplies (name_row c.args.name.now ∷ []) = none (name_row _ ∷ []) c.name_gate-n.result c.name_gate-n.ensures (not-false _ c.if-not-n.false) in
-
     let k = lent in
     let old = c.args.state.now in
     let service = c.args.service in
@@ -76,7 +75,6 @@ becoming-requires-clause-service_lt_service_count c =
     let front : List Row = fronted (lent) false (desk_of c.args.state.now) ++ (service_row c.args.service ∷ []) in
     let passed : NoneApplies (front) = none (front) c.service_gate-g.result c.service_gate-g.ensures (not-false _ c.if-not-g.false) in
     let good : NoneApplies (name_row c.args.name.now ∷ []) = none (name_row _ ∷ []) c.name_gate-n.result c.name_gate-n.ensures (not-false _ c.if-not-n.false) in
-
     let k = lent in
     let old = c.args.state.now in
     let service = c.args.service in
@@ -92,7 +90,6 @@ becoming-requires-clause-sits c =
     let front : List Row = fronted (lent) false (desk_of c.args.state.now) ++ (service_row c.args.service ∷ []) in
     let passed : NoneApplies (front) = none (front) c.service_gate-g.result c.service_gate-g.ensures (not-false _ c.if-not-g.false) in
     let good : NoneApplies (name_row c.args.name.now ∷ []) = none (name_row _ ∷ []) c.name_gate-n.result c.name_gate-n.ensures (not-false _ c.if-not-n.false) in
-
     let k = lent in
     let old = c.args.state.now in
     let service = c.args.service in
@@ -108,7 +105,6 @@ becoming-requires-clause-sits_2 c =
     let front : List Row = fronted (lent) false (desk_of c.args.state.now) ++ (service_row c.args.service ∷ []) in
     let passed : NoneApplies (front) = none (front) c.service_gate-g.result c.service_gate-g.ensures (not-false _ c.if-not-g.false) in
     let good : NoneApplies (name_row c.args.name.now ∷ []) = none (name_row _ ∷ []) c.name_gate-n.result c.name_gate-n.ensures (not-false _ c.if-not-n.false) in
-
     let k = lent in
     let old = c.args.state.now in
     let service = c.args.service in

@@ -21,30 +21,28 @@ returns-then-characteristic-eq18 c =
 pub player_written-q-requires-clause-right : goal.player_written-q-requires-clause-right
 player_written-q-requires-clause-right c =
     let lent : Lent = lending c.args.groups.now c.args.tracks.now c.args.segments.now c.args.text.now c.args.renames.now c.args.office.now in
-    ((fit_right (lent) c.requires.fit, c.requires.1.1.1)).0
+    fit_right (lent) c.requires.fit
 
 pub player_written-q-requires-clause-value_value : goal.player_written-q-requires-clause-value_value
 player_written-q-requires-clause-value_value c =
     let lent : Lent = lending c.args.groups.now c.args.tracks.now c.args.segments.now c.args.text.now c.args.renames.now c.args.office.now in
-    ((fit_right (lent) c.requires.fit, c.requires.1.1.1)).1.0
+    c.requires.value_value
 
 pub player_written-q-requires-clause-value_value_2 : goal.player_written-q-requires-clause-value_value_2
 player_written-q-requires-clause-value_value_2 c =
     let lent : Lent = lending c.args.groups.now c.args.tracks.now c.args.segments.now c.args.text.now c.args.renames.now c.args.office.now in
-    ((fit_right (lent) c.requires.fit, c.requires.1.1.1)).1.1
+    c.requires.value_value_2
 
 pub settle-requires-clause-sits : goal.settle-requires-clause-sits
 settle-requires-clause-sits c =
     let lent : Lent = lending c.args.groups.now c.args.tracks.now c.args.segments.now c.args.text.now c.args.renames.now c.args.office.now in
-
     let a = c.args in player_sits (catalogue_of (lent)) (fit_right (lent) c.requires.fit) a.s.player c.requires.player_value
 
 pub settle-requires-clause-sits_2 : goal.settle-requires-clause-sits_2
 settle-requires-clause-sits_2 c =
     let lent : Lent = lending c.args.groups.now c.args.tracks.now c.args.segments.now c.args.text.now c.args.renames.now c.args.office.now in
-
     let a = c.args in subst (Sits a.groups.now a.tracks.now) (sym c.player_written-q.ensures)
-          (written_sits (catalogue_of (lent)) (fit_right (lent) c.requires.fit) a.s.player c.requires.player_value a.value.now a.characteristic c.requires.value_value_2)
+    (written_sits (catalogue_of (lent)) (fit_right (lent) c.requires.fit) a.s.player c.requires.player_value a.value.now a.characteristic c.requires.value_value_2)
 
 pub returns : goal.returns
 unfolding written

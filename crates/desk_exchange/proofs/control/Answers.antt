@@ -31,17 +31,15 @@ control-done-requires-clause-p_value c =
 pub settle-t-requires-clause-sits : goal.settle-t-requires-clause-sits
 settle-t-requires-clause-sits c =
     let lent : Lent = lending c.args.groups.now c.args.tracks.now c.args.segments.now c.args.text.now c.args.renames.now c.args.office.now in
-
     let a = c.args in player_sits (catalogue_of (lent)) (fit_right (lent) c.requires.fit) a.s.player c.requires.player_value
 
 pub settle-t-requires-clause-sits_2 : goal.settle-t-requires-clause-sits_2
 settle-t-requires-clause-sits_2 c =
     let lent : Lent = lending c.args.groups.now c.args.tracks.now c.args.segments.now c.args.text.now c.args.renames.now c.args.office.now in
-
     let a = c.args in subst (λ (done : Controlled). Sits a.groups.now a.tracks.now done.player) (sym c.control-done.ensures)
-          (player_sits (catalogue_of (lent)) (fit_right (lent) c.requires.fit) _
-          (kept_controlled a.groups.now a.tracks.now a.segments.now (shaped (catalogue_of (lent)) (fit_right (lent) c.requires.fit)) a.s.player c.requires.player_value
-          c.octet_or_zero-opcode.result c.number_of-number.result))
+    (player_sits (catalogue_of (lent)) (fit_right (lent) c.requires.fit) _
+    (kept_controlled a.groups.now a.tracks.now a.segments.now (shaped (catalogue_of (lent)) (fit_right (lent) c.requires.fit)) a.s.player c.requires.player_value
+    c.octet_or_zero-opcode.result c.number_of-number.result))
 
 pub account_in-a-requires : goal.account_in-a-requires
 account_in-a-requires c =

@@ -18,4 +18,4 @@ pub returns : goal.returns
 unfolding length_right
 returns c =
     let a = c.args in
-    past _ (ne_eqb _ _ c.if-characteristic-eq18.false) (ap (λ (n : ℕ). eqb (length a.value.now) n) c.type_size.ensures)
+    past _ (ne_eqb _ _ c.if-characteristic-eq18.false) (ap (λ (n : ℕ). eqb (length a.value.now) n) c.size_of.ensures)

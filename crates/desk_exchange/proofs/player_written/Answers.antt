@@ -21,53 +21,47 @@ word_at-requires c =
 pub track_at-requires-clause-bound : goal.track_at-requires-clause-bound
 track_at-requires-clause-bound c =
     let lent : Tables = tables c.args.groups.now c.args.tracks.now c.args.segments.now c.args.text.now in
-
     let a = c.args in
     let own = track_allowed a.groups.now a.p a.value.now a.characteristic c.requires.value_value_2 c.in-11.is in track_long a.characteristic a.value.now c.requires.value_value c.in-11.is
 
 pub track_at-requires-clause-track_objects_bound : goal.track_at-requires-clause-track_objects_bound
 track_at-requires-clause-track_objects_bound c =
     let lent : Tables = tables c.args.groups.now c.args.tracks.now c.args.segments.now c.args.text.now in
-
     let a = c.args in
     let own = track_allowed a.groups.now a.p a.value.now a.characteristic c.requires.value_value_2 c.in-11.is in (
-        track_above a.groups.now a.p a.value.now own,
-        omega (arith, track_small (lent) c.requires.right _ _ (track_within a.groups.now a.p a.value.now own)),
-      )
+      track_above a.groups.now a.p a.value.now own,
+      omega (arith, track_small (lent) c.requires.right _ _ (track_within a.groups.now a.p a.value.now own)),
+    )
 
 pub track_at-requires-in-12-clause-bound : goal.track_at-requires-in-12-clause-bound
 track_at-requires-in-12-clause-bound c =
     let lent : Tables = tables c.args.groups.now c.args.tracks.now c.args.segments.now c.args.text.now in
-
     let a = c.args in
     let own = next_allowed a.groups.now a.p a.value.now a.characteristic c.requires.value_value_2 c.in-12.is in next_long a.characteristic a.value.now c.requires.value_value c.in-12.is
 
 pub track_at-requires-in-12-clause-track_objects_bound : goal.track_at-requires-in-12-clause-track_objects_bound
 track_at-requires-in-12-clause-track_objects_bound c =
     let lent : Tables = tables c.args.groups.now c.args.tracks.now c.args.segments.now c.args.text.now in
-
     let a = c.args in
     let own = next_allowed a.groups.now a.p a.value.now a.characteristic c.requires.value_value_2 c.in-12.is in (
-        track_above a.groups.now a.p a.value.now own,
-        omega (arith, track_small (lent) c.requires.right _ _ (track_within a.groups.now a.p a.value.now own)),
-      )
+      track_above a.groups.now a.p a.value.now own,
+      omega (arith, track_small (lent) c.requires.right _ _ (track_within a.groups.now a.p a.value.now own)),
+    )
 
 pub group_at-requires-clause-bound : goal.group_at-requires-clause-bound
 group_at-requires-clause-bound c =
     let lent : Tables = tables c.args.groups.now c.args.tracks.now c.args.segments.now c.args.text.now in
-
     let a = c.args in
     let any = group_allowed a.groups.now a.p a.value.now a.characteristic c.requires.value_value_2 c.in-14.is in group_long a.characteristic a.value.now c.requires.value_value c.in-14.is
 
 pub group_at-requires-clause-group_objects_bound : goal.group_at-requires-clause-group_objects_bound
 group_at-requires-clause-group_objects_bound c =
     let lent : Tables = tables c.args.groups.now c.args.tracks.now c.args.segments.now c.args.text.now in
-
     let a = c.args in
     let any = group_allowed a.groups.now a.p a.value.now a.characteristic c.requires.value_value_2 c.in-14.is in (
-        group_above a.groups.now a.p a.value.now any,
-        omega (arith, group_small (lent) c.requires.right _ (group_right a.groups.now a.p a.value.now any)),
-      )
+      group_above a.groups.now a.p a.value.now any,
+      omega (arith, group_small (lent) c.requires.right _ (group_right a.groups.now a.p a.value.now any)),
+    )
 
 pub write_group-requires : goal.write_group-requires
 write_group-requires c =

@@ -1,6 +1,6 @@
 -- `desk_exchange::read`: its rows, then a part of the value, and a read at 0 kept in mind.
 use mathlib.Core.Path.{◌≡◌, refl, ap, ◌∙◌}
-use mathlib.Core.Bool.{true}
+use mathlib.Core.Bool.{Bool, true}
 use mathlib.Core.List.{List, [], ◌∷◌, ◌++◌}
 use Prim.Native.Nat.{ℕ, ◌-◌, ◌≤◌, ◌<◌}
 use native.Mathlib.Omega.{arith}
@@ -33,6 +33,29 @@ use Rattle.desk_exchange.specs.Read.{value_now, reader_rows, after_read, read_oc
 use borrow.Author.Rules.{rules}
 use Rattle.desk_exchange.proofs.read.Goals as goal
 
+-- of a read that is not refused
+module _ (k : Lent) (small : Bool) (d : Desk) (who service characteristic offset : ℕ)
+    (n : NoneApplies (fronted k small d ++ reader_rows d who service characteristic offset (length (value_now k d service characteristic)))) where
+  lent_fits : Fit k
+  lent_fits = fit k small d (reader_rows d who service characteristic offset (length (value_now k d service characteristic))) n
+
+  there : who < client_count
+  there = leb-false _ _ n.1.1.1.1.0
+
+  served : service < service_count
+  served = leb-false _ _ n.1.1.1.1.1.0
+
+  fine : player_rule k.groups k.tracks (service_at d service).player ≡ true
+  fine = player k small d (reader_rows d who service characteristic offset (length (value_now k d service characteristic))) n service served
+
+  mtu : 23 ≤ (link_of d who).mtu
+  mtu =
+      mtu_least (link_of d who)
+      (link_stands k.groups k.tracks d (stands k small d (reader_rows d who service characteristic offset (length (value_now k d service characteristic))) n) who there)
+
+  within_value : offset ≤ length (value_now k d service characteristic)
+  within_value = ltb-false _ _ n.1.1.1.1.1.1.1.1.1.1.1.0
+
 pub returns-then-not-g-clause-answers : goal.returns-then-not-g-clause-answers
 unfolding read_call
 returns-then-not-g-clause-answers c =
@@ -41,10 +64,9 @@ returns-then-not-g-clause-answers c =
     let room : ℕ = length c.args.out.now in
     let mine : List Row = reader_rows (desk) c.args.who c.args.service c.args.characteristic c.args.offset (length (value_now (lent) (desk) c.args.service c.args.characteristic)) in
     let rows : List Row = fronted (lent) (ltb (room) least_output) (desk) ++ mine in
-
     let shut = not-true _ c.if-not-g.true in refused_so _ c.args.state.now _
-          (refuses (rows) c.read_gate-g.result c.read_gate-g.ensures shut (keeping (desk)) [] _)
-          (shut_gate (rows) c.read_gate-g.result c.read_gate-g.ensures shut)
+    (refuses (rows) c.read_gate-g.result c.read_gate-g.ensures shut (keeping (desk)) [] _)
+    (shut_gate (rows) c.read_gate-g.result c.read_gate-g.ensures shut)
 
 pub returns-then-not-g-clause-out_after : goal.returns-then-not-g-clause-out_after
 unfolding read_call
@@ -54,9 +76,8 @@ returns-then-not-g-clause-out_after c =
     let room : ℕ = length c.args.out.now in
     let mine : List Row = reader_rows (desk) c.args.who c.args.service c.args.characteristic c.args.offset (length (value_now (lent) (desk) c.args.service c.args.characteristic)) in
     let rows : List Row = fronted (lent) (ltb (room) least_output) (desk) ++ mine in
-
     let shut = not-true _ c.if-not-g.true in as_it_was (rows) c.read_gate-g.result c.read_gate-g.ensures shut _ refl
-          (read_octets (lent) (desk) c.args.who c.args.service c.args.characteristic c.args.offset) c.args.out.now
+    (read_octets (lent) (desk) c.args.who c.args.service c.args.characteristic c.args.offset) c.args.out.now
 
 pub link_at-l-requires-clause-who_lt_client_count : goal.link_at-l-requires-clause-who_lt_client_count
 link_at-l-requires-clause-who_lt_client_count c =
@@ -66,7 +87,7 @@ link_at-l-requires-clause-who_lt_client_count c =
     let mine : List Row = reader_rows (desk) c.args.who c.args.service c.args.characteristic c.args.offset (length (value_now (lent) (desk) c.args.service c.args.characteristic)) in
     let rows : List Row = fronted (lent) (ltb (room) least_output) (desk) ++ mine in
     let passed : NoneApplies (rows) = none (rows) c.read_gate-g.result c.read_gate-g.ensures (not-false _ c.if-not-g.false) in
-    there c (passed)
+    there (lent) (ltb (room) least_output) (desk) c.args.who c.args.service c.args.characteristic c.args.offset (passed)
 
 pub account_at-a-requires-clause-service_lt_service_count : goal.account_at-a-requires-clause-service_lt_service_count
 account_at-a-requires-clause-service_lt_service_count c =
@@ -76,7 +97,7 @@ account_at-a-requires-clause-service_lt_service_count c =
     let mine : List Row = reader_rows (desk) c.args.who c.args.service c.args.characteristic c.args.offset (length (value_now (lent) (desk) c.args.service c.args.characteristic)) in
     let rows : List Row = fronted (lent) (ltb (room) least_output) (desk) ++ mine in
     let passed : NoneApplies (rows) = none (rows) c.read_gate-g.result c.read_gate-g.ensures (not-false _ c.if-not-g.false) in
-    served c (passed)
+    served (lent) (ltb (room) least_output) (desk) c.args.who c.args.service c.args.characteristic c.args.offset (passed)
 
 pub account_at-a-requires-clause-who_lt_client_count : goal.account_at-a-requires-clause-who_lt_client_count
 account_at-a-requires-clause-who_lt_client_count c =
@@ -86,7 +107,7 @@ account_at-a-requires-clause-who_lt_client_count c =
     let mine : List Row = reader_rows (desk) c.args.who c.args.service c.args.characteristic c.args.offset (length (value_now (lent) (desk) c.args.service c.args.characteristic)) in
     let rows : List Row = fronted (lent) (ltb (room) least_output) (desk) ++ mine in
     let passed : NoneApplies (rows) = none (rows) c.read_gate-g.result c.read_gate-g.ensures (not-false _ c.if-not-g.false) in
-    there c (passed)
+    there (lent) (ltb (room) least_output) (desk) c.args.who c.args.service c.args.characteristic c.args.offset (passed)
 
 pub player_at-p-requires-clause-service_lt_service_count : goal.player_at-p-requires-clause-service_lt_service_count
 player_at-p-requires-clause-service_lt_service_count c =
@@ -96,7 +117,7 @@ player_at-p-requires-clause-service_lt_service_count c =
     let mine : List Row = reader_rows (desk) c.args.who c.args.service c.args.characteristic c.args.offset (length (value_now (lent) (desk) c.args.service c.args.characteristic)) in
     let rows : List Row = fronted (lent) (ltb (room) least_output) (desk) ++ mine in
     let passed : NoneApplies (rows) = none (rows) c.read_gate-g.result c.read_gate-g.ensures (not-false _ c.if-not-g.false) in
-    served c (passed)
+    served (lent) (ltb (room) least_output) (desk) c.args.who c.args.service c.args.characteristic c.args.offset (passed)
 
 pub overflow_sub-l : goal.overflow_sub-l
 overflow_sub-l c =
@@ -106,7 +127,7 @@ overflow_sub-l c =
     let mine : List Row = reader_rows (desk) c.args.who c.args.service c.args.characteristic c.args.offset (length (value_now (lent) (desk) c.args.service c.args.characteristic)) in
     let rows : List Row = fronted (lent) (ltb (room) least_output) (desk) ++ mine in
     let passed : NoneApplies (rows) = none (rows) c.read_gate-g.result c.read_gate-g.ensures (not-false _ c.if-not-g.false) in
-    omega (arith, mtu c (passed), ap (λ (l : Link). l.mtu) c.link_at-l.ensures)
+    omega (arith, mtu (lent) (ltb (room) least_output) (desk) c.args.who c.args.service c.args.characteristic c.args.offset (passed), ap (λ (l : Link). l.mtu) c.link_at-l.ensures)
 
 pub value-n-requires-clause-most_title_in_bounds : goal.value-n-requires-clause-most_title_in_bounds
 value-n-requires-clause-most_title_in_bounds c =
@@ -116,11 +137,10 @@ value-n-requires-clause-most_title_in_bounds c =
     let mine : List Row = reader_rows (desk) c.args.who c.args.service c.args.characteristic c.args.offset (length (value_now (lent) (desk) c.args.service c.args.characteristic)) in
     let rows : List Row = fronted (lent) (ltb (room) least_output) (desk) ++ mine in
     let passed : NoneApplies (rows) = none (rows) c.read_gate-g.result c.read_gate-g.ensures (not-false _ c.if-not-g.false) in
-    let standing : player_rule c.args.groups.now c.args.tracks.now c.player_at-p.result ≡ true = ap (player_rule c.args.groups.now c.args.tracks.now) c.player_at-p.ensures ∙ fine c (passed) in
-
+    let standing : player_rule c.args.groups.now c.args.tracks.now c.player_at-p.result ≡ true = ap (player_rule c.args.groups.now c.args.tracks.now) c.player_at-p.ensures ∙ fine (lent) (ltb (room) least_output) (desk) c.args.who c.args.service c.args.characteristic c.args.offset (passed) in
     let n = passed in
     let k = lent in
-    let r = lent_fits c n in
+    let r = lent_fits (lent) (ltb (room) least_output) (desk) c.args.who c.args.service c.args.characteristic c.args.offset n in
     let p = c.player_at-p.result in
     let long = ap (λ (q : Player). length (value_of (source_of k) q c.args.characteristic)) c.player_at-p.ensures in ltb-false _ _ n.1.1.0
 
@@ -132,11 +152,10 @@ value-n-requires-clause-sits c =
     let mine : List Row = reader_rows (desk) c.args.who c.args.service c.args.characteristic c.args.offset (length (value_now (lent) (desk) c.args.service c.args.characteristic)) in
     let rows : List Row = fronted (lent) (ltb (room) least_output) (desk) ++ mine in
     let passed : NoneApplies (rows) = none (rows) c.read_gate-g.result c.read_gate-g.ensures (not-false _ c.if-not-g.false) in
-    let standing : player_rule c.args.groups.now c.args.tracks.now c.player_at-p.result ≡ true = ap (player_rule c.args.groups.now c.args.tracks.now) c.player_at-p.ensures ∙ fine c (passed) in
-
+    let standing : player_rule c.args.groups.now c.args.tracks.now c.player_at-p.result ≡ true = ap (player_rule c.args.groups.now c.args.tracks.now) c.player_at-p.ensures ∙ fine (lent) (ltb (room) least_output) (desk) c.args.who c.args.service c.args.characteristic c.args.offset (passed) in
     let n = passed in
     let k = lent in
-    let r = lent_fits c n in
+    let r = lent_fits (lent) (ltb (room) least_output) (desk) c.args.who c.args.service c.args.characteristic c.args.offset n in
     let p = c.player_at-p.result in
     let long = ap (λ (q : Player). length (value_of (source_of k) q c.args.characteristic)) c.player_at-p.ensures in player_sits (catalogue_of k) (fit_right k r) p (standing)
 
@@ -148,11 +167,10 @@ value-n-requires-clause-len_le_most_title c =
     let mine : List Row = reader_rows (desk) c.args.who c.args.service c.args.characteristic c.args.offset (length (value_now (lent) (desk) c.args.service c.args.characteristic)) in
     let rows : List Row = fronted (lent) (ltb (room) least_output) (desk) ++ mine in
     let passed : NoneApplies (rows) = none (rows) c.read_gate-g.result c.read_gate-g.ensures (not-false _ c.if-not-g.false) in
-    let standing : player_rule c.args.groups.now c.args.tracks.now c.player_at-p.result ≡ true = ap (player_rule c.args.groups.now c.args.tracks.now) c.player_at-p.ensures ∙ fine c (passed) in
-
+    let standing : player_rule c.args.groups.now c.args.tracks.now c.player_at-p.result ≡ true = ap (player_rule c.args.groups.now c.args.tracks.now) c.player_at-p.ensures ∙ fine (lent) (ltb (room) least_output) (desk) c.args.who c.args.service c.args.characteristic c.args.offset (passed) in
     let n = passed in
     let k = lent in
-    let r = lent_fits c n in
+    let r = lent_fits (lent) (ltb (room) least_output) (desk) c.args.who c.args.service c.args.characteristic c.args.offset n in
     let p = c.player_at-p.result in
     let long = ap (λ (q : Player). length (value_of (source_of k) q c.args.characteristic)) c.player_at-p.ensures in name_short (catalogue_of k) (fit_right k r) p (standing)
 
@@ -164,11 +182,10 @@ value-n-requires-clause-p_len_bound c =
     let mine : List Row = reader_rows (desk) c.args.who c.args.service c.args.characteristic c.args.offset (length (value_now (lent) (desk) c.args.service c.args.characteristic)) in
     let rows : List Row = fronted (lent) (ltb (room) least_output) (desk) ++ mine in
     let passed : NoneApplies (rows) = none (rows) c.read_gate-g.result c.read_gate-g.ensures (not-false _ c.if-not-g.false) in
-    let standing : player_rule c.args.groups.now c.args.tracks.now c.player_at-p.result ≡ true = ap (player_rule c.args.groups.now c.args.tracks.now) c.player_at-p.ensures ∙ fine c (passed) in
-
+    let standing : player_rule c.args.groups.now c.args.tracks.now c.player_at-p.result ≡ true = ap (player_rule c.args.groups.now c.args.tracks.now) c.player_at-p.ensures ∙ fine (lent) (ltb (room) least_output) (desk) c.args.who c.args.service c.args.characteristic c.args.offset (passed) in
     let n = passed in
     let k = lent in
-    let r = lent_fits c n in
+    let r = lent_fits (lent) (ltb (room) least_output) (desk) c.args.who c.args.service c.args.characteristic c.args.offset n in
     let p = c.player_at-p.result in
     let long = ap (λ (q : Player). length (value_of (source_of k) q c.args.characteristic)) c.player_at-p.ensures in title_fits k r p (standing)
 
@@ -180,13 +197,12 @@ value-n-requires-clause-from_in_bounds c =
     let mine : List Row = reader_rows (desk) c.args.who c.args.service c.args.characteristic c.args.offset (length (value_now (lent) (desk) c.args.service c.args.characteristic)) in
     let rows : List Row = fronted (lent) (ltb (room) least_output) (desk) ++ mine in
     let passed : NoneApplies (rows) = none (rows) c.read_gate-g.result c.read_gate-g.ensures (not-false _ c.if-not-g.false) in
-    let standing : player_rule c.args.groups.now c.args.tracks.now c.player_at-p.result ≡ true = ap (player_rule c.args.groups.now c.args.tracks.now) c.player_at-p.ensures ∙ fine c (passed) in
-
+    let standing : player_rule c.args.groups.now c.args.tracks.now c.player_at-p.result ≡ true = ap (player_rule c.args.groups.now c.args.tracks.now) c.player_at-p.ensures ∙ fine (lent) (ltb (room) least_output) (desk) c.args.who c.args.service c.args.characteristic c.args.offset (passed) in
     let n = passed in
     let k = lent in
-    let r = lent_fits c n in
+    let r = lent_fits (lent) (ltb (room) least_output) (desk) c.args.who c.args.service c.args.characteristic c.args.offset n in
     let p = c.player_at-p.result in
-    let long = ap (λ (q : Player). length (value_of (source_of k) q c.args.characteristic)) c.player_at-p.ensures in omega (arith, within_value c n, long, c.wide_word-from.ensures.0)
+    let long = ap (λ (q : Player). length (value_of (source_of k) q c.args.characteristic)) c.player_at-p.ensures in omega (arith, within_value (lent) (ltb (room) least_output) (desk) c.args.who c.args.service c.args.characteristic c.args.offset n, long, c.wide_word-from.ensures.0)
 
 pub after_read-next-requires : goal.after_read-next-requires
 after_read-next-requires c =
@@ -206,7 +222,6 @@ put_account-requires-clause-plain c =
     let mine : List Row = reader_rows (desk) c.args.who c.args.service c.args.characteristic c.args.offset (length (value_now (lent) (desk) c.args.service c.args.characteristic)) in
     let rows : List Row = fronted (lent) (ltb (room) least_output) (desk) ++ mine in
     let passed : NoneApplies (rows) = none (rows) c.read_gate-g.result c.read_gate-g.ensures (not-false _ c.if-not-g.false) in
-
     let n = passed in plain_so (lent) (ltb (room) least_output) c.args.state.now (mine) n (search rules) c.are_octets.ensures
 
 pub put_account-requires-clause-service_lt_service_count : goal.put_account-requires-clause-service_lt_service_count
@@ -217,8 +232,7 @@ put_account-requires-clause-service_lt_service_count c =
     let mine : List Row = reader_rows (desk) c.args.who c.args.service c.args.characteristic c.args.offset (length (value_now (lent) (desk) c.args.service c.args.characteristic)) in
     let rows : List Row = fronted (lent) (ltb (room) least_output) (desk) ++ mine in
     let passed : NoneApplies (rows) = none (rows) c.read_gate-g.result c.read_gate-g.ensures (not-false _ c.if-not-g.false) in
-
-    let n = passed in served c n
+    let n = passed in served (lent) (ltb (room) least_output) (desk) c.args.who c.args.service c.args.characteristic c.args.offset n
 
 pub put_account-requires-clause-who_lt_client_count : goal.put_account-requires-clause-who_lt_client_count
 put_account-requires-clause-who_lt_client_count c =
@@ -228,8 +242,7 @@ put_account-requires-clause-who_lt_client_count c =
     let mine : List Row = reader_rows (desk) c.args.who c.args.service c.args.characteristic c.args.offset (length (value_now (lent) (desk) c.args.service c.args.characteristic)) in
     let rows : List Row = fronted (lent) (ltb (room) least_output) (desk) ++ mine in
     let passed : NoneApplies (rows) = none (rows) c.read_gate-g.result c.read_gate-g.ensures (not-false _ c.if-not-g.false) in
-
-    let n = passed in there c n
+    let n = passed in there (lent) (ltb (room) least_output) (desk) c.args.who c.args.service c.args.characteristic c.args.offset n
 
 pub returns-clause-answers : goal.returns-clause-answers
 unfolding read_call read_octets
@@ -240,7 +253,6 @@ returns-clause-answers c =
     let mine : List Row = reader_rows (desk) c.args.who c.args.service c.args.characteristic c.args.offset (length (value_now (lent) (desk) c.args.service c.args.characteristic)) in
     let rows : List Row = fronted (lent) (ltb (room) least_output) (desk) ++ mine in
     let passed : NoneApplies (rows) = none (rows) c.read_gate-g.result c.read_gate-g.ensures (not-false _ c.if-not-g.false) in
-
     let n = passed in
     let from = c.wide_word-from.ensures.0 in
     let most = c.wide_word-most.ensures.0 ∙ ap (λ (l : Link). l.mtu - 1) c.link_at-l.ensures in
@@ -249,9 +261,9 @@ returns-clause-answers c =
     (λ k. part_from (from k) (most k) (value_of (source_of (lent)) (c.player_at-p.ensures k) c.args.characteristic)) in
     let many = c.value-n.ensures.value ∙ ap length part in
     let next = c.after_read-next.ensures ∙ ap (after_read c.args.characteristic c.args.offset) c.account_at-a.ensures in accepted_so _ c.args.state.now (Octets c.value-n.result) _ _
-          (through (keeping (desk)) (rows) n
-          (λ k. leaves (granted (many k ∷ [])) (with_service c.args.service (with_account c.args.who (next k) (service_at (desk) c.args.service)) (desk))))
-          refl c.put_account.ensures
+    (through (keeping (desk)) (rows) n
+    (λ k. leaves (granted (many k ∷ [])) (with_service c.args.service (with_account c.args.who (next k) (service_at (desk) c.args.service)) (desk))))
+    refl c.put_account.ensures
 
 pub returns-clause-out_after : goal.returns-clause-out_after
 unfolding read_call read_octets
@@ -262,7 +274,6 @@ returns-clause-out_after c =
     let mine : List Row = reader_rows (desk) c.args.who c.args.service c.args.characteristic c.args.offset (length (value_now (lent) (desk) c.args.service c.args.characteristic)) in
     let rows : List Row = fronted (lent) (ltb (room) least_output) (desk) ++ mine in
     let passed : NoneApplies (rows) = none (rows) c.read_gate-g.result c.read_gate-g.ensures (not-false _ c.if-not-g.false) in
-
     let n = passed in
     let from = c.wide_word-from.ensures.0 in
     let most = c.wide_word-most.ensures.0 ∙ ap (λ (l : Link). l.mtu - 1) c.link_at-l.ensures in
@@ -271,31 +282,5 @@ returns-clause-out_after c =
     (λ k. part_from (from k) (most k) (value_of (source_of (lent)) (c.player_at-p.ensures k) c.args.characteristic)) in
     let many = c.value-n.ensures.value ∙ ap length part in
     let next = c.after_read-next.ensures ∙ ap (after_read c.args.characteristic c.args.offset) c.account_at-a.ensures in c.value-n.ensures.out_after
-          ∙ ap (λ (front : List ℕ). filled front c.args.out.now) part
-          ∙ shown _ (c.value-n.result ∷ []) octets c.args.out.now refl
-
--- MANUAL
--- of a read that is not refused
-module _ (s : tie.Start) (n : NoneApplies (rows s)) where
-  lent_fits : Fit (lent s)
-  lent_fits = fit (lent s) (ltb (room s) least_output) (desk s) (mine s) n
-
-  there : s.args.who < client_count
-  there = leb-false _ _ n.1.1.1.1.0
-
-  served : s.args.service < service_count
-  served = leb-false _ _ n.1.1.1.1.1.0
-
-  fine : player_rule s.args.groups.now s.args.tracks.now (service_at (desk s) s.args.service).player ≡ true
-  fine = player (lent s) (ltb (room s) least_output) (desk s) (mine s) n s.args.service served
-
-  mtu : 23 ≤ (link_of (desk s) s.args.who).mtu
-  mtu =
-      mtu_least (link_of (desk s) s.args.who)
-      (link_stands s.args.groups.now s.args.tracks.now (desk s) (stands (lent s) (ltb (room s) least_output) (desk s) (mine s) n) s.args.who there)
-
-  abbrev value : List ℕ
-  value = value_now (lent s) (desk s) s.args.service s.args.characteristic
-
-  within_value : s.args.offset ≤ length value
-  within_value = ltb-false _ _ n.1.1.1.1.1.1.1.1.1.1.1.0
+    ∙ ap (λ (front : List ℕ). filled front c.args.out.now) part
+    ∙ shown _ (c.value-n.result ∷ []) octets c.args.out.now refl

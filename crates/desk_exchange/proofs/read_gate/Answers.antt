@@ -128,7 +128,7 @@ returns-then-not-has_bit c =
     let mark : marked ≡ not c.has_bit.result = let known = c.has_bit.ensures ∙ ap (λ (a : Account). has a.fresh c.args.characteristic) c.account_at-a.ensures in
     ap (λ (t : Bool). t && not (fresh)) (lt-ltb 0 c.args.offset (above)) ∙ ap not (sym known) in
     says (asked ++ behind) c.gate_shut.result (refused 0x80) c.gate_shut.ensures.0 c.gate_shut.ensures.1
-    (beyond (asked) (behind) (passed) (here _ (mark ∙ c.if-not-has_bit.true) refl))
+    (beyond (asked) (behind) (passed) (here _ (mark ∙ ap not c.if-not-has_bit.true) refl))
 
 pub player_at-p-requires-clause-service_lt_service_count : goal.player_at-p-requires-clause-service_lt_service_count
 player_at-p-requires-clause-service_lt_service_count c =
@@ -158,7 +158,6 @@ length_of-n-requires-clause-sits c =
     let served : c.args.service < service_count = leb-false _ _ (passed).1.1.1.1.1.0 in
     let fine : player_rule c.args.groups.now c.args.tracks.now c.player_at-p.result ≡ true = ap (player_rule c.args.groups.now c.args.tracks.now) c.player_at-p.ensures
     ∙ player (lent) (ltb c.args.room least_output) (desk) (mine) (passed) c.args.service (served) in
-
     let right = fit_right (lent) (fit (lent) (ltb c.args.room least_output) (desk) (mine) (passed)) in
     let p = c.player_at-p.result in player_sits (catalogue_of (lent)) right p (fine)
 
@@ -176,7 +175,6 @@ length_of-n-requires-clause-len_le_most_title c =
     let served : c.args.service < service_count = leb-false _ _ (passed).1.1.1.1.1.0 in
     let fine : player_rule c.args.groups.now c.args.tracks.now c.player_at-p.result ≡ true = ap (player_rule c.args.groups.now c.args.tracks.now) c.player_at-p.ensures
     ∙ player (lent) (ltb c.args.room least_output) (desk) (mine) (passed) c.args.service (served) in
-
     let right = fit_right (lent) (fit (lent) (ltb c.args.room least_output) (desk) (mine) (passed)) in
     let p = c.player_at-p.result in name_short (catalogue_of (lent)) right p (fine)
 
@@ -201,7 +199,7 @@ returns-then-n-wide_word c =
     let length_is : past_end ≡ ltb c.length_of-n.result c.wide_word.result = let long = c.length_of-n.ensures ∙ ap (λ (p : Player). length (value_of (source_of (lent)) p c.args.characteristic)) c.player_at-p.ensures in
     λ k. ltb (sym long k) (sym c.wide_word.ensures.0 k) in
     says (asked ++ behind) c.gate_shut-then-n-wide_word.result (refused 0x07) c.gate_shut-then-n-wide_word.ensures.0 c.gate_shut-then-n-wide_word.ensures.1
-    (beyond (asked) (behind) (passed) (past _ (mark ∙ c.if-not-has_bit.false) (here _ (length_is ∙ lt-ltb _ _ c.if-n-wide_word.true) refl)))
+    (beyond (asked) (behind) (passed) (past _ (mark ∙ ap not c.if-not-has_bit.false) (here _ (length_is ∙ lt-ltb _ _ c.if-n-wide_word.true) refl)))
 
 pub returns : goal.returns
 returns c =
@@ -223,4 +221,4 @@ returns c =
     let length_is : past_end ≡ ltb c.length_of-n.result c.wide_word.result = let long = c.length_of-n.ensures ∙ ap (λ (p : Player). length (value_of (source_of (lent)) p c.args.characteristic)) c.player_at-p.ensures in
     λ k. ltb (sym long k) (sym c.wide_word.ensures.0 k) in
     stays_open (asked) c.characteristic_gate-g.result (gated) (not-false _ c.if-not-g.false) (behind)
-    (mark ∙ c.if-not-has_bit.false, (length_is ∙ le-ltb _ _ c.if-n-wide_word.false, tt))
+    (mark ∙ ap not c.if-not-has_bit.false, (length_is ∙ le-ltb _ _ c.if-n-wide_word.false, tt))

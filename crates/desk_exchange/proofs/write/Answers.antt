@@ -51,7 +51,6 @@ carry_out-written-requires-clause-fit c =
     let passed : NoneApplies (rows) = none (rows) c.write_gate-g.result c.write_gate-g.ensures (not-false _ c.if-not-g.false) in
     let client : c.args.who < client_count = leb-false _ _ (passed).1.1.1.1.0 in
     let served : c.args.service < service_count = leb-false _ _ (passed).1.1.1.1.1.0 in
-
     let n = passed in fit (lent) false (desk) (mine) n
 
 pub carry_out-written-requires-clause-player_value : goal.carry_out-written-requires-clause-player_value
@@ -63,9 +62,8 @@ carry_out-written-requires-clause-player_value c =
     let passed : NoneApplies (rows) = none (rows) c.write_gate-g.result c.write_gate-g.ensures (not-false _ c.if-not-g.false) in
     let client : c.args.who < client_count = leb-false _ _ (passed).1.1.1.1.0 in
     let served : c.args.service < service_count = leb-false _ _ (passed).1.1.1.1.1.0 in
-
     let n = passed in ap (λ (t : Service). player_rule c.args.groups.now c.args.tracks.now t.player) c.service_at-s.ensures
-            ∙ player (lent) false (desk) (mine) n c.args.service (served)
+    ∙ player (lent) false (desk) (mine) n c.args.service (served)
 
 pub carry_out-written-requires-clause-who_lt_client_count : goal.carry_out-written-requires-clause-who_lt_client_count
 carry_out-written-requires-clause-who_lt_client_count c =
@@ -76,7 +74,6 @@ carry_out-written-requires-clause-who_lt_client_count c =
     let passed : NoneApplies (rows) = none (rows) c.write_gate-g.result c.write_gate-g.ensures (not-false _ c.if-not-g.false) in
     let client : c.args.who < client_count = leb-false _ _ (passed).1.1.1.1.0 in
     let served : c.args.service < service_count = leb-false _ _ (passed).1.1.1.1.1.0 in
-
     let n = passed in client
 
 pub carry_out-written-requires-clause-value_value : goal.carry_out-written-requires-clause-value_value
@@ -88,7 +85,6 @@ carry_out-written-requires-clause-value_value c =
     let passed : NoneApplies (rows) = none (rows) c.write_gate-g.result c.write_gate-g.ensures (not-false _ c.if-not-g.false) in
     let client : c.args.who < client_count = leb-false _ _ (passed).1.1.1.1.0 in
     let served : c.args.service < service_count = leb-false _ _ (passed).1.1.1.1.1.0 in
-
     let n = passed in not-false _ n.1.1.1.1.1.1.1.1.1.1.0
 
 pub carry_out-written-requires-clause-value_value_2 : goal.carry_out-written-requires-clause-value_value_2
@@ -100,9 +96,8 @@ carry_out-written-requires-clause-value_value_2 c =
     let passed : NoneApplies (rows) = none (rows) c.write_gate-g.result c.write_gate-g.ensures (not-false _ c.if-not-g.false) in
     let client : c.args.who < client_count = leb-false _ _ (passed).1.1.1.1.0 in
     let served : c.args.service < service_count = leb-false _ _ (passed).1.1.1.1.1.0 in
-
     let n = passed in ap (λ (t : Service). allowed c.args.groups.now t.player c.args.characteristic c.args.value.now) c.service_at-s.ensures
-                ∙ not-false _ n.1.1.1.1.1.1.1.1.1.1.1.0
+    ∙ not-false _ n.1.1.1.1.1.1.1.1.1.1.1.0
 
 pub put_service-requires-clause-plain : goal.put_service-requires-clause-plain
 put_service-requires-clause-plain c =

@@ -62,7 +62,7 @@ returns-then-not-length_right c =
     let passed : NoneApplies (asked) = none (asked) c.characteristic_gate-g.result (gated) (not-false _ c.if-not-g.false) in
     let long : not (length_right c.args.characteristic c.args.value.now) ≡ not c.length_right.result = sym (ap not c.length_right.ensures) in
     says (asked ++ behind) c.gate_shut.result (refused 0x0D) c.gate_shut.ensures.0 c.gate_shut.ensures.1
-    (beyond (asked) (behind) (passed) (here _ (long ∙ c.if-not-length_right.true) refl))
+    (beyond (asked) (behind) (passed) (here _ (long ∙ ap not c.if-not-length_right.true) refl))
 
 pub player_at-p-requires-clause-service_lt_service_count : goal.player_at-p-requires-clause-service_lt_service_count
 player_at-p-requires-clause-service_lt_service_count c =
@@ -123,7 +123,7 @@ returns-then-not-is_allowed c =
     let long : not (length_right c.args.characteristic c.args.value.now) ≡ not c.length_right.result = sym (ap not c.length_right.ensures) in
     let may_is : not c.is_allowed.result ≡ not (may (service_at (desk) c.args.service).player) = ap not (c.is_allowed.ensures ∙ ap (may) c.player_at-p.ensures) in
     says (asked ++ behind) c.gate_shut-then-not-is_allowed.result (refused 0x13) c.gate_shut-then-not-is_allowed.ensures.0 c.gate_shut-then-not-is_allowed.ensures.1
-    (beyond (asked) (behind) (passed) (past _ (long ∙ c.if-not-length_right.false) (here _ (sym (may_is) ∙ c.if-not-is_allowed.true) refl)))
+    (beyond (asked) (behind) (passed) (past _ (long ∙ ap not c.if-not-length_right.false) (here _ (sym (may_is) ∙ ap not c.if-not-is_allowed.true) refl)))
 
 pub account_at-a-requires-clause-in_bounds : goal.account_at-a-requires-clause-in_bounds
 account_at-a-requires-clause-in_bounds c =
@@ -136,7 +136,6 @@ account_at-a-requires-clause-in_bounds c =
     (λ (writable : Bool). Gated (fronted (lent) false (desk) ++ (of_caller c.args.who c.args.service (own).connected ++ of_characteristic (own).encrypted c.args.characteristic 0x03 writable)) c.characteristic_gate-g.result)
     c.may_write.ensures c.characteristic_gate-g.ensures in
     let passed : NoneApplies (asked) = none (asked) c.characteristic_gate-g.result (gated) (not-false _ c.if-not-g.false) in
-
     let n = passed in c.requires
 
 pub account_at-a-requires-clause-service_lt_service_count : goal.account_at-a-requires-clause-service_lt_service_count
@@ -150,7 +149,6 @@ account_at-a-requires-clause-service_lt_service_count c =
     (λ (writable : Bool). Gated (fronted (lent) false (desk) ++ (of_caller c.args.who c.args.service (own).connected ++ of_characteristic (own).encrypted c.args.characteristic 0x03 writable)) c.characteristic_gate-g.result)
     c.may_write.ensures c.characteristic_gate-g.ensures in
     let passed : NoneApplies (asked) = none (asked) c.characteristic_gate-g.result (gated) (not-false _ c.if-not-g.false) in
-
     let n = passed in leb-false _ _ n.1.1.1.1.1.0
 
 pub account_at-a-requires-clause-who_lt_client_count : goal.account_at-a-requires-clause-who_lt_client_count
@@ -164,7 +162,6 @@ account_at-a-requires-clause-who_lt_client_count c =
     (λ (writable : Bool). Gated (fronted (lent) false (desk) ++ (of_caller c.args.who c.args.service (own).connected ++ of_characteristic (own).encrypted c.args.characteristic 0x03 writable)) c.characteristic_gate-g.result)
     c.may_write.ensures c.characteristic_gate-g.ensures in
     let passed : NoneApplies (asked) = none (asked) c.characteristic_gate-g.result (gated) (not-false _ c.if-not-g.false) in
-
     let n = passed in leb-false _ _ n.1.1.1.1.0
 
 pub returns-then-characteristic-a : goal.returns-then-characteristic-a
@@ -189,7 +186,7 @@ returns-then-characteristic-a c =
     let many_is : too_many c.account_at-a.result.waiting ≡ too_many (account_of (desk) c.args.who c.args.service).waiting = ap (λ (r : Account). too_many r.waiting) c.account_at-a.ensures in
     says (asked ++ behind) c.gate_shut-then-characteristic-a.result (refused 0x11) c.gate_shut-then-characteristic-a.ensures.0 c.gate_shut-then-characteristic-a.ensures.1
     (beyond (asked) (behind) (passed)
-    (past _ (long ∙ c.if-not-length_right.false) (past _ (sym (may_is) ∙ c.if-not-is_allowed.false) (here _ (sym (many_is) ∙ c.if-characteristic-a.true) refl))))
+    (past _ (long ∙ ap not c.if-not-length_right.false) (past _ (sym (may_is) ∙ ap not c.if-not-is_allowed.false) (here _ (sym (many_is) ∙ c.if-characteristic-a.true) refl))))
 
 pub returns : goal.returns
 returns c =
@@ -211,4 +208,4 @@ returns c =
     let may_is : not c.is_allowed.result ≡ not (may (service_at (desk) c.args.service).player) = ap not (c.is_allowed.ensures ∙ ap (may) c.player_at-p.ensures) in
     let many_is : too_many c.account_at-a.result.waiting ≡ too_many (account_of (desk) c.args.who c.args.service).waiting = ap (λ (r : Account). too_many r.waiting) c.account_at-a.ensures in
     stays_open (asked) c.characteristic_gate-g.result (gated) (not-false _ c.if-not-g.false) (behind)
-    (long ∙ c.if-not-length_right.false, (sym (may_is) ∙ c.if-not-is_allowed.false, (sym (many_is) ∙ c.if-characteristic-a.false, tt)))
+    (long ∙ ap not c.if-not-length_right.false, (sym (may_is) ∙ ap not c.if-not-is_allowed.false, (sym (many_is) ∙ c.if-characteristic-a.false, tt)))

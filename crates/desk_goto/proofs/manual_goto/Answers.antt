@@ -35,7 +35,6 @@ goto_by_steps-gone-requires-clause-shaped c =
     let lent : Lent = lending c.args.groups.now c.args.tracks.now c.args.segments.now c.args.text.now c.args.renames.now c.args.office.now in
     let rows : List Row = on_service (lent) (desk_of c.args.state.now) c.args.service in
     let passed : NoneApplies (rows) = none (rows) c.service_gate-g.result c.service_gate-g.ensures (not-false _ c.if-not-g.false) in
-
     let a = c.args in shaped_now (lent) (desk_of a.state.now) a.service (passed)
 
 pub goto_by_steps-gone-requires-clause-p_value : goal.goto_by_steps-gone-requires-clause-p_value
@@ -43,7 +42,6 @@ goto_by_steps-gone-requires-clause-p_value c =
     let lent : Lent = lending c.args.groups.now c.args.tracks.now c.args.segments.now c.args.text.now c.args.renames.now c.args.office.now in
     let rows : List Row = on_service (lent) (desk_of c.args.state.now) c.args.service in
     let passed : NoneApplies (rows) = none (rows) c.service_gate-g.result c.service_gate-g.ensures (not-false _ c.if-not-g.false) in
-
     let a = c.args in ap (player_rule a.groups.now a.tracks.now) c.player_at-p.ensures ∙ player_now (lent) (desk_of a.state.now) a.service (passed)
 
 pub returns : goal.returns

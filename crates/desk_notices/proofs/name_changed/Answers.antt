@@ -11,12 +11,12 @@ use Rattle.desk_notices.proofs.name_changed.Goals as goal
 pub slice_bounds-same-end : goal.slice_bounds-same-end
 slice_bounds-same-end c =
     let long_p : length c.args.p.name.octets ≡ 128 = search rules in
-    omega (arith, long_p, c.name_end.ensures)
+    omega (arith, long_p, c.name_end-m.ensures)
 
 pub slice_bounds-same-end-2 : goal.slice_bounds-same-end-2
 slice_bounds-same-end-2 c =
     let long_q : length c.args.q.name.octets ≡ 128 = search rules in
-    omega (arith, long_q, c.name_end2.ensures)
+    omega (arith, long_q, c.name_end-n.ensures)
 
 pub returns : goal.returns
 returns c =
@@ -28,5 +28,5 @@ returns c =
     (c.same.ensures
     ∙ (λ k.
     same_octets
-    (take_held p.octets p.len c.name_end.result (long_p) c.name_end.ensures k)
-    (take_held q.octets q.len c.name_end2.result (long_q) c.name_end2.ensures k)))
+    (take_held p.octets p.len c.name_end-m.result (long_p) c.name_end-m.ensures k)
+    (take_held q.octets q.len c.name_end-n.result (long_q) c.name_end-n.ensures k)))

@@ -11,7 +11,6 @@ use lib.Seq.{drop-cons}
 use borrow.Author.Rules.{rules}
 use Rattle.desk_notices.specs.Changes.{same_octets}
 use Rattle.desk_notices.proofs.Differing.{ne_same}
-
 -- one more octet
 use Rattle.desk_notices.proofs.same.Goals as goal
 

@@ -40,7 +40,6 @@ returns-then-is_control-clause-len_value c =
     → (c.service_of-service.result ∷ c.characteristic_of-characteristic.result ∷ n ∷ [] ≡ handed_values (lent) c.args.players c.args.c) × (c.serve-next.result ≡ passed_on (next_place c.args.c) c.args.c) = λ n e. (λ k. service k ∷ number k ∷ e k ∷ [], after) in
     let least : 23 ≤ c.args.c.link.mtu = mtu_least c.args.c.link (client_link c.args.c c.requires.c_value.0) in
     let control : c.is_control.result ≡ is_control (slot_at (next_place c.args.c)) = c.is_control.ensures ∙ ap is_control (slot) in
-
     let octets =
     ap (λ (n : ℕ). result_octets (get_or (account_with c.args.c n).results 0 blank_entry)) (service)
     ∙ result_handed (lent) c.args.players c.args.c (sym (control) ∙ c.if-is_control.true) (least) in said c.put-n.result (c.put-n.ensures.value ∙ ap length octets)
@@ -57,7 +56,6 @@ returns-then-is_control-clause-out_after c =
     → (c.service_of-service.result ∷ c.characteristic_of-characteristic.result ∷ n ∷ [] ≡ handed_values (lent) c.args.players c.args.c) × (c.serve-next.result ≡ passed_on (next_place c.args.c) c.args.c) = λ n e. (λ k. service k ∷ number k ∷ e k ∷ [], after) in
     let least : 23 ≤ c.args.c.link.mtu = mtu_least c.args.c.link (client_link c.args.c c.requires.c_value.0) in
     let control : c.is_control.result ≡ is_control (slot_at (next_place c.args.c)) = c.is_control.ensures ∙ ap is_control (slot) in
-
     let octets =
     ap (λ (n : ℕ). result_octets (get_or (account_with c.args.c n).results 0 blank_entry)) (service)
     ∙ result_handed (lent) c.args.players c.args.c (sym (control) ∙ c.if-is_control.true) (least) in c.put-n.ensures.out_after ∙ ap (λ (front : List ℕ). filled front c.args.out.now) octets
@@ -72,7 +70,6 @@ value-n-requires-clause-most_title_in_bounds c =
     let lent : Lent = lending c.args.groups.now c.args.tracks.now c.args.segments.now c.args.text.now c.args.renames.now c.args.office.now in
     let of : Player = player_at c.args.players c.service_of-service.result in
     let stands : player_rule c.args.groups.now c.args.tracks.now (of) ≡ true = each_player c.args.groups.now c.args.tracks.now c.args.players c.requires.players_value c.service_of-service.result c.service_of-service.ensures.0 in
-
     let right = fit_right (lent) c.requires.fit in c.requires.c_value.2
 
 pub value-n-requires-clause-sits : goal.value-n-requires-clause-sits
@@ -80,7 +77,6 @@ value-n-requires-clause-sits c =
     let lent : Lent = lending c.args.groups.now c.args.tracks.now c.args.segments.now c.args.text.now c.args.renames.now c.args.office.now in
     let of : Player = player_at c.args.players c.service_of-service.result in
     let stands : player_rule c.args.groups.now c.args.tracks.now (of) ≡ true = each_player c.args.groups.now c.args.tracks.now c.args.players c.requires.players_value c.service_of-service.result c.service_of-service.ensures.0 in
-
     let right = fit_right (lent) c.requires.fit in player_sits (catalogue_of (lent)) right (of) (stands)
 
 pub value-n-requires-clause-len_le_most_title : goal.value-n-requires-clause-len_le_most_title
@@ -88,7 +84,6 @@ value-n-requires-clause-len_le_most_title c =
     let lent : Lent = lending c.args.groups.now c.args.tracks.now c.args.segments.now c.args.text.now c.args.renames.now c.args.office.now in
     let of : Player = player_at c.args.players c.service_of-service.result in
     let stands : player_rule c.args.groups.now c.args.tracks.now (of) ≡ true = each_player c.args.groups.now c.args.tracks.now c.args.players c.requires.players_value c.service_of-service.result c.service_of-service.ensures.0 in
-
     let right = fit_right (lent) c.requires.fit in name_short (catalogue_of (lent)) right (of) (stands)
 
 pub value-n-requires-clause-p_len_bound : goal.value-n-requires-clause-p_len_bound
@@ -96,7 +91,6 @@ value-n-requires-clause-p_len_bound c =
     let lent : Lent = lending c.args.groups.now c.args.tracks.now c.args.segments.now c.args.text.now c.args.renames.now c.args.office.now in
     let of : Player = player_at c.args.players c.service_of-service.result in
     let stands : player_rule c.args.groups.now c.args.tracks.now (of) ≡ true = each_player c.args.groups.now c.args.tracks.now c.args.players c.requires.players_value c.service_of-service.result c.service_of-service.ensures.0 in
-
     let right = fit_right (lent) c.requires.fit in title_fits (lent) c.requires.fit (of) (stands)
 
 pub value-n-requires-clause-from_in_bounds : goal.value-n-requires-clause-from_in_bounds
@@ -104,7 +98,6 @@ value-n-requires-clause-from_in_bounds c =
     let lent : Lent = lending c.args.groups.now c.args.tracks.now c.args.segments.now c.args.text.now c.args.renames.now c.args.office.now in
     let of : Player = player_at c.args.players c.service_of-service.result in
     let stands : player_rule c.args.groups.now c.args.tracks.now (of) ≡ true = each_player c.args.groups.now c.args.tracks.now c.args.players c.requires.players_value c.service_of-service.result c.service_of-service.ensures.0 in
-
     let right = fit_right (lent) c.requires.fit in omega arith
 
 pub returns-clause-len_value : goal.returns-clause-len_value
@@ -119,7 +112,6 @@ returns-clause-len_value c =
     → (c.service_of-service.result ∷ c.characteristic_of-characteristic.result ∷ n ∷ [] ≡ handed_values (lent) c.args.players c.args.c) × (c.serve-next.result ≡ passed_on (next_place c.args.c) c.args.c) = λ n e. (λ k. service k ∷ number k ∷ e k ∷ [], after) in
     let of : Player = player_at c.args.players c.service_of-service.result in
     let control : c.is_control.result ≡ is_control (slot_at (next_place c.args.c)) = c.is_control.ensures ∙ ap is_control (slot) in
-
     let most = c.wide_word-most.ensures.0 in
     let from = source c.args.groups.now c.args.tracks.now c.args.text.now c.args.renames.now c.args.office.now in
     let octets : part_from 0 c.wide_word-most.result (value_of from (of) c.characteristic_of-characteristic.result) ≡ handed_octets (lent) c.args.players c.args.c =
@@ -138,7 +130,6 @@ returns-clause-out_after c =
     → (c.service_of-service.result ∷ c.characteristic_of-characteristic.result ∷ n ∷ [] ≡ handed_values (lent) c.args.players c.args.c) × (c.serve-next.result ≡ passed_on (next_place c.args.c) c.args.c) = λ n e. (λ k. service k ∷ number k ∷ e k ∷ [], after) in
     let of : Player = player_at c.args.players c.service_of-service.result in
     let control : c.is_control.result ≡ is_control (slot_at (next_place c.args.c)) = c.is_control.ensures ∙ ap is_control (slot) in
-
     let most = c.wide_word-most.ensures.0 in
     let from = source c.args.groups.now c.args.tracks.now c.args.text.now c.args.renames.now c.args.office.now in
     let octets : part_from 0 c.wide_word-most.result (value_of from (of) c.characteristic_of-characteristic.result) ≡ handed_octets (lent) c.args.players c.args.c =

@@ -37,9 +37,8 @@ returns-then-not-g-clause-answers c =
     let desk : Desk = desk_of c.args.state.now in
     let small : Bool = ltb (length c.args.out.now) least_output in
     let rows : List Row = fronted (lent) (small) (desk) in
-
     let e = not-true _ c.if-not-g.true in refused_so _ c.args.state.now _ (refuses (rows) c.front_gate-g.result c.front_gate-g.ensures e (keeping (desk)) [] _)
-          (shut_gate (rows) c.front_gate-g.result c.front_gate-g.ensures e)
+    (shut_gate (rows) c.front_gate-g.result c.front_gate-g.ensures e)
 
 pub returns-then-not-g-clause-out_after : goal.returns-then-not-g-clause-out_after
 unfolding take_call
@@ -48,7 +47,6 @@ returns-then-not-g-clause-out_after c =
     let desk : Desk = desk_of c.args.state.now in
     let small : Bool = ltb (length c.args.out.now) least_output in
     let rows : List Row = fronted (lent) (small) (desk) in
-
     let e = not-true _ c.if-not-g.true in as_it_was (rows) c.front_gate-g.result c.front_gate-g.ensures e _ refl (take_octets (lent) (desk)) c.args.out.now
 
 pub owed_sets-sets-requires-clause-all_right : goal.owed_sets-sets-requires-clause-all_right
@@ -83,9 +81,8 @@ returns-then-who-ge-CLIENTS-clause-answers c =
     let whose : c.next_client-who.result ≡ next_client (desk) = c.next_client-who.ensures.1
     ∙ (λ k. next client_count (owing (c.owed_sets-sets.ensures k)) (c.turn_of-turn.ensures k)) in
     let plain : 649 ≤ length c.args.state.now → Plain c.args.state.now = λ long. plain_so (lent) (small) c.args.state.now [] (clear) long c.are_octets.ensures in
-
     let over = sym (ap (leb client_count) (whose)) ∙ le-leb _ _ c.if-who-ge-CLIENTS.true in accepted_so _ c.args.state.now Done (desk) c.args.state.now (through (keeping (desk)) (rows) (clear) (here _ over refl)) refl
-          (record { octets = sym (plain (search rules)); state = refl })
+    (record { octets = sym (plain (search rules)); state = refl })
 
 pub returns-then-who-ge-CLIENTS-clause-out_after : goal.returns-then-who-ge-CLIENTS-clause-out_after
 unfolding next_client take_call take_octets
@@ -99,9 +96,8 @@ returns-then-who-ge-CLIENTS-clause-out_after c =
     let whose : c.next_client-who.result ≡ next_client (desk) = c.next_client-who.ensures.1
     ∙ (λ k. next client_count (owing (c.owed_sets-sets.ensures k)) (c.turn_of-turn.ensures k)) in
     let plain : 649 ≤ length c.args.state.now → Plain c.args.state.now = λ long. plain_so (lent) (small) c.args.state.now [] (clear) long c.are_octets.ensures in
-
     let over = sym (ap (leb client_count) (whose)) ∙ le-leb _ _ c.if-who-ge-CLIENTS.true in ap (λ (octets : List ℕ). filled octets c.args.out.now) (here _ over refl)
-          ∙ shown _ [] (take_octets (lent) (desk)) c.args.out.now refl
+    ∙ shown _ [] (take_octets (lent) (desk)) c.args.out.now refl
 
 pub hand_out-h-requires-clause-fit : goal.hand_out-h-requires-clause-fit
 unfolding next_client
@@ -116,7 +112,6 @@ hand_out-h-requires-clause-fit c =
     let clear : NoneApplies (rows) = passed in
     let whose : c.next_client-who.result ≡ next_client (desk) = c.next_client-who.ensures.1
     ∙ (λ k. next client_count (owing (c.owed_sets-sets.ensures k)) (c.turn_of-turn.ensures k)) in
-
     let n = clear in
     let there = c.if-who-ge-CLIENTS.false in
     let own = c.client_at-c.ensures in fit (lent) (small) (desk) [] n
@@ -134,11 +129,10 @@ hand_out-h-requires-clause-players_value c =
     let clear : NoneApplies (rows) = passed in
     let whose : c.next_client-who.result ≡ next_client (desk) = c.next_client-who.ensures.1
     ∙ (λ k. next client_count (owing (c.owed_sets-sets.ensures k)) (c.turn_of-turn.ensures k)) in
-
     let n = clear in
     let there = c.if-who-ge-CLIENTS.false in
     let own = c.client_at-c.ensures in ap (players_rule c.args.groups.now c.args.tracks.now) c.players_of-players.ensures
-            ∙ players_stand c.args.groups.now c.args.tracks.now (desk) (player (lent) (small) (desk) [] n)
+    ∙ players_stand c.args.groups.now c.args.tracks.now (desk) (player (lent) (small) (desk) [] n)
 
 pub hand_out-h-requires-clause-c_value : goal.hand_out-h-requires-clause-c_value
 unfolding next_client
@@ -153,14 +147,13 @@ hand_out-h-requires-clause-c_value c =
     let clear : NoneApplies (rows) = passed in
     let whose : c.next_client-who.result ≡ next_client (desk) = c.next_client-who.ensures.1
     ∙ (λ k. next client_count (owing (c.owed_sets-sets.ensures k)) (c.turn_of-turn.ensures k)) in
-
     let n = clear in
     let there = c.if-who-ge-CLIENTS.false in
     let own = c.client_at-c.ensures in (
-          ap client_rule own ∙ records_stand n c.next_client-who.result there,
-          subst (λ (r : Client). 0 < places_owed r) (sym own) (owed_there (desk) (turn_stands n) c.next_client-who.result (whose) there),
-          ltb-false _ _ n.1.1.0,
-        )
+      ap client_rule own ∙ records_stand n c.next_client-who.result there,
+      subst (λ (r : Client). 0 < places_owed r) (sym own) (owed_there (desk) (turn_stands n) c.next_client-who.result (whose) there),
+      ltb-false _ _ n.1.1.0,
+    )
 
 pub put_served-requires-clause-plain : goal.put_served-requires-clause-plain
 put_served-requires-clause-plain c =
@@ -195,7 +188,6 @@ returns-clause-answers c =
     let clear : NoneApplies (rows) = passed in
     let whose : c.next_client-who.result ≡ next_client (desk) = c.next_client-who.ensures.1
     ∙ (λ k. next client_count (owing (c.owed_sets-sets.ensures k)) (c.turn_of-turn.ensures k)) in
-
     let d = desk in
     let who = whose in
     let under = sym (ap (leb client_count) who) ∙ lt-leb _ _ c.if-who-ge-CLIENTS.false in
@@ -204,10 +196,10 @@ returns-clause-answers c =
     let h = c.hand_out-h in
     let octets : handed_octets (lent) c.players_of-players.result c.client_at-c.result ≡ take_octets (lent) d =
     (λ k. handed_octets (lent) (players k) (own k)) ∙ past _ under refl in
-    let values = h.ensures.0.0 ∙ (λ k. handed_values (lent) (players k) (own k)) in
-    let after = h.ensures.0.1 ∙ ap after_serving own in accepted_so _ c.args.state.now (Served c.next_client-who.result h.result.service h.result.characteristic h.result.len) _ _
-          (through (keeping d) (rows) (clear) (past _ under (λ k. leaves (granted (who k ∷ values k)) (with_served (who k) (after k) d))))
-          refl c.put_served.ensures
+    let values = h.ensures.len_value.0 ∙ (λ k. handed_values (lent) (players k) (own k)) in
+    let after = h.ensures.len_value.1 ∙ ap after_serving own in accepted_so _ c.args.state.now (Served c.next_client-who.result h.result.service h.result.characteristic h.result.len) _ _
+    (through (keeping d) (rows) (clear) (past _ under (λ k. leaves (granted (who k ∷ values k)) (with_served (who k) (after k) d))))
+    refl c.put_served.ensures
 
 pub returns-clause-out_after : goal.returns-clause-out_after
 unfolding next_client take_call take_octets with_served
@@ -220,7 +212,6 @@ returns-clause-out_after c =
     let clear : NoneApplies (rows) = passed in
     let whose : c.next_client-who.result ≡ next_client (desk) = c.next_client-who.ensures.1
     ∙ (λ k. next client_count (owing (c.owed_sets-sets.ensures k)) (c.turn_of-turn.ensures k)) in
-
     let d = desk in
     let who = whose in
     let under = sym (ap (leb client_count) who) ∙ lt-leb _ _ c.if-who-ge-CLIENTS.false in
@@ -229,6 +220,6 @@ returns-clause-out_after c =
     let h = c.hand_out-h in
     let octets : handed_octets (lent) c.players_of-players.result c.client_at-c.result ≡ take_octets (lent) d =
     (λ k. handed_octets (lent) (players k) (own k)) ∙ past _ under refl in
-    let values = h.ensures.0.0 ∙ (λ k. handed_values (lent) (players k) (own k)) in
-    let after = h.ensures.0.1 ∙ ap after_serving own in h.ensures.1 ∙ ap (λ (front : List ℕ). filled front c.args.out.now) octets
-          ∙ shown _ (c.next_client-who.result ∷ h.result.service ∷ h.result.characteristic ∷ h.result.len ∷ []) (take_octets (lent) d) c.args.out.now refl
+    let values = h.ensures.len_value.0 ∙ (λ k. handed_values (lent) (players k) (own k)) in
+    let after = h.ensures.len_value.1 ∙ ap after_serving own in h.ensures.out_after ∙ ap (λ (front : List ℕ). filled front c.args.out.now) octets
+    ∙ shown _ (c.next_client-who.result ∷ h.result.service ∷ h.result.characteristic ∷ h.result.len ∷ []) (take_octets (lent) d) c.args.out.now refl

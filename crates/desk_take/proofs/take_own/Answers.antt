@@ -41,9 +41,8 @@ returns-then-not-stand-record c =
     let lent : Lent = lending c.args.groups.now c.args.tracks.now c.args.segments.now c.args.text.now c.args.renames.now c.args.office.now in
     let front : List Row = lent_rows (lent) (ltb (length c.args.out.now) least_output) in
     let passed : NoneApplies (front) = none (front) c.lent_gate-g.result c.lent_gate-g.ensures (not-false _ c.if-not-g.false) in
-    let both : record_right (lent) c.args.players c.args.c ≡ (c.players_right-stand.result && c.client_right-record.result) = λ k. sym c.players_right-stand.ensures k && sym c.client_right-record.ensures k in
-    (
-      through (keeping c.args.c) (front) (passed) (here _ (ap not (both) ∙ c.if-not-stand-record.true) (ap (keeping c.args.c) c.refuse-refusal.ensures)),
+    let both : record_right (lent) c.args.players c.args.c ≡ (c.players_right-stand.result && c.client_right-record.result) = λ k. sym c.players_right-stand.ensures k && sym c.client_right-record.ensures k in (
+      through (keeping c.args.c) (front) (passed) (here _ (ap not (both ∙ c.if-not-stand-record.true)) (ap (keeping c.args.c) c.refuse-refusal.ensures)),
       past (filled (own_octets (lent) c.args.players c.args.c) c.args.out.now) (ap (λ (said : Said). said.is_granted) c.refuse-refusal.ensures) refl,
     )
 
@@ -52,7 +51,7 @@ places_owed-owed-requires c =
     let lent : Lent = lending c.args.groups.now c.args.tracks.now c.args.segments.now c.args.text.now c.args.renames.now c.args.office.now in
     let both : record_right (lent) c.args.players c.args.c ≡ (c.players_right-stand.result && c.client_right-record.result) = λ k. sym c.players_right-stand.ensures k && sym c.client_right-record.ensures k in
     let record_stands : client_rule c.args.c ≡ true = let a = c.args in
-    and_right (players_rule a.groups.now a.tracks.now a.players) (client_rule a.c) (both ∙ not-false _ c.if-not-stand-record.false) in
+    and_right (players_rule a.groups.now a.tracks.now a.players) (client_rule a.c) (both ∙ c.if-not-stand-record.false) in
     record_stands
 
 pub returns-then-owed-eq0 : goal.returns-then-owed-eq0
@@ -63,7 +62,7 @@ returns-then-owed-eq0 c =
     let passed : NoneApplies (front) = none (front) c.lent_gate-g.result c.lent_gate-g.ensures (not-false _ c.if-not-g.false) in
     let both : record_right (lent) c.args.players c.args.c ≡ (c.players_right-stand.result && c.client_right-record.result) = λ k. sym c.players_right-stand.ensures k && sym c.client_right-record.ensures k in
     let nothing = eq-eqb _ _ (sym c.places_owed-owed.ensures.1 ∙ c.if-owed-eq0.true) in (
-      through (keeping c.args.c) (front) (passed) (past _ (ap not (both) ∙ c.if-not-stand-record.false) (here _ nothing refl)),
+      through (keeping c.args.c) (front) (passed) (past _ (ap not (both ∙ c.if-not-stand-record.false)) (here _ nothing refl)),
       ap (λ (octets : List ℕ). filled octets c.args.out.now) (here _ nothing refl)
           ∙ shown _ [] (own_octets (lent) c.args.players c.args.c) c.args.out.now refl,
     )
@@ -75,11 +74,10 @@ hand_out-h-requires-clause-fit c =
     let passed : NoneApplies (front) = none (front) c.lent_gate-g.result c.lent_gate-g.ensures (not-false _ c.if-not-g.false) in
     let both : record_right (lent) c.args.players c.args.c ≡ (c.players_right-stand.result && c.client_right-record.result) = λ k. sym c.players_right-stand.ensures k && sym c.client_right-record.ensures k in
     let players_stand : players_rule c.args.groups.now c.args.tracks.now c.args.players ≡ true = let a = c.args in
-    and_left (players_rule a.groups.now a.tracks.now a.players) (client_rule a.c) (both ∙ not-false _ c.if-not-stand-record.false) in
+    and_left (players_rule a.groups.now a.tracks.now a.players) (client_rule a.c) (both ∙ c.if-not-stand-record.false) in
     let record_stands : client_rule c.args.c ≡ true = let a = c.args in
-    and_right (players_rule a.groups.now a.tracks.now a.players) (client_rule a.c) (both ∙ not-false _ c.if-not-stand-record.false) in
+    and_right (players_rule a.groups.now a.tracks.now a.players) (client_rule a.c) (both ∙ c.if-not-stand-record.false) in
     let something : places_owed c.args.c ≡ 0 → ⊥ = λ z. c.if-owed-eq0.false (c.places_owed-owed.ensures.1 ∙ z) in
-
     let n = passed in none_fit (lent) (n.0, (n.1.0, tt))
 
 pub hand_out-h-requires-clause-players_value : goal.hand_out-h-requires-clause-players_value
@@ -89,11 +87,10 @@ hand_out-h-requires-clause-players_value c =
     let passed : NoneApplies (front) = none (front) c.lent_gate-g.result c.lent_gate-g.ensures (not-false _ c.if-not-g.false) in
     let both : record_right (lent) c.args.players c.args.c ≡ (c.players_right-stand.result && c.client_right-record.result) = λ k. sym c.players_right-stand.ensures k && sym c.client_right-record.ensures k in
     let players_stand : players_rule c.args.groups.now c.args.tracks.now c.args.players ≡ true = let a = c.args in
-    and_left (players_rule a.groups.now a.tracks.now a.players) (client_rule a.c) (both ∙ not-false _ c.if-not-stand-record.false) in
+    and_left (players_rule a.groups.now a.tracks.now a.players) (client_rule a.c) (both ∙ c.if-not-stand-record.false) in
     let record_stands : client_rule c.args.c ≡ true = let a = c.args in
-    and_right (players_rule a.groups.now a.tracks.now a.players) (client_rule a.c) (both ∙ not-false _ c.if-not-stand-record.false) in
+    and_right (players_rule a.groups.now a.tracks.now a.players) (client_rule a.c) (both ∙ c.if-not-stand-record.false) in
     let something : places_owed c.args.c ≡ 0 → ⊥ = λ z. c.if-owed-eq0.false (c.places_owed-owed.ensures.1 ∙ z) in
-
     let n = passed in players_stand
 
 pub hand_out-h-requires-clause-c_value : goal.hand_out-h-requires-clause-c_value
@@ -103,11 +100,10 @@ hand_out-h-requires-clause-c_value c =
     let passed : NoneApplies (front) = none (front) c.lent_gate-g.result c.lent_gate-g.ensures (not-false _ c.if-not-g.false) in
     let both : record_right (lent) c.args.players c.args.c ≡ (c.players_right-stand.result && c.client_right-record.result) = λ k. sym c.players_right-stand.ensures k && sym c.client_right-record.ensures k in
     let players_stand : players_rule c.args.groups.now c.args.tracks.now c.args.players ≡ true = let a = c.args in
-    and_left (players_rule a.groups.now a.tracks.now a.players) (client_rule a.c) (both ∙ not-false _ c.if-not-stand-record.false) in
+    and_left (players_rule a.groups.now a.tracks.now a.players) (client_rule a.c) (both ∙ c.if-not-stand-record.false) in
     let record_stands : client_rule c.args.c ≡ true = let a = c.args in
-    and_right (players_rule a.groups.now a.tracks.now a.players) (client_rule a.c) (both ∙ not-false _ c.if-not-stand-record.false) in
+    and_right (players_rule a.groups.now a.tracks.now a.players) (client_rule a.c) (both ∙ c.if-not-stand-record.false) in
     let something : places_owed c.args.c ≡ 0 → ⊥ = λ z. c.if-owed-eq0.false (c.places_owed-owed.ensures.1 ∙ z) in
-
     let n = passed in (record_stands, above (places_owed c.args.c) (something), ltb-false _ _ n.1.1.0)
 
 pub returns : goal.returns
@@ -121,8 +117,8 @@ returns c =
     let h = c.hand_out-h in
     let owed = ne_eqb _ _ (something) in (
       through (keeping c.args.c) (front) (passed)
-          (past _ (ap not (both) ∙ c.if-not-stand-record.false)
-          (past _ owed (λ k. leaves (granted (h.ensures.0.0 k)) (h.ensures.0.1 k)))),
-      h.ensures.1 ∙ ap (λ (octets : List ℕ). filled octets c.args.out.now) (past _ owed refl)
+          (past _ (ap not (both ∙ c.if-not-stand-record.false))
+          (past _ owed (λ k. leaves (granted (h.ensures.len_value.0 k)) (h.ensures.len_value.1 k)))),
+      h.ensures.out_after ∙ ap (λ (octets : List ℕ). filled octets c.args.out.now) (past _ owed refl)
           ∙ shown _ (h.result.service ∷ h.result.characteristic ∷ h.result.len ∷ []) (own_octets (lent) c.args.players c.args.c) c.args.out.now refl,
     )
