@@ -2,7 +2,6 @@
 use mathlib.Core.Bool.{◌&&◌}
 use lib.Dec.{ltb}
 use Rattle.player_check.specs.Standing.{group_rule}
-use borrow.Author.Rules.{rules}
 use Rattle.player_check.proofs.group_right.Goals as goal
 
 pub returns : goal.returns

@@ -2,7 +2,6 @@
 use mathlib.Core.Path.{◌≡◌, ◌∙◌}
 use mathlib.Core.Bool.{◌&&◌}
 use Prim.Native.Nat.{◌+◌}
-use borrow.Author.Rules.{rules}
 use lib.Dec.{ltb, leb}
 use Rattle.catalogue_tables.specs.Tables.{first_track_of, tracks_in}
 use Rattle.player_check.proofs.in_group.Goals as goal

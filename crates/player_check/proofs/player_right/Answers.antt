@@ -1,6 +1,5 @@
 -- `player_check::player_right`: the five rules together.
 use mathlib.Core.Bool.{◌&&◌}
-use borrow.Author.Rules.{rules}
 use Rattle.player_check.specs.Standing.{player_rule}
 use Rattle.player_check.proofs.player_right.Goals as goal
 

@@ -5,7 +5,6 @@ use Prim.Native.Nat.{ℕ}
 use borrow.Author.Tests.{eq-eqb, ne_eqb}
 use Rattle.ground.proofs.Cases.{past, here}
 use Rattle.player_check.specs.Standing.{in_group, upcoming_rule}
-use borrow.Author.Rules.{rules}
 use Rattle.player_check.proofs.upcoming_right.Goals as goal
 
 pub returns-then-upcoming-eq0 : goal.returns-then-upcoming-eq0

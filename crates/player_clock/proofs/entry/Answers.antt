@@ -1,5 +1,4 @@
 -- `player_clock::entry` meets its contract. Assumes nothing.
-use borrow.Author.Rules.{rules}
 use Rattle.player_clock.proofs.Factors.{factors, factor_is}
 use Rattle.player_clock.proofs.entry.Goals as goal
 

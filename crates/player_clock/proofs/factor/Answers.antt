@@ -1,6 +1,5 @@
 -- `player_clock::factor` meets its contract: the code's own table passes the test of SCOPE 13.2 at each of its 256 entries; antt computes it. Assumes nothing.
 use mathlib.Core.Path.{refl}
-use borrow.Author.Rules.{rules}
 use Rattle.player_clock.specs.Clock.{factors_from, table_rule}
 use Rattle.player_clock.proofs.factor.Goals as goal
 

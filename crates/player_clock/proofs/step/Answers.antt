@@ -1,7 +1,6 @@
 -- `player_clock::step`: the factor of the speed, and the step by it.
 use mathlib.Core.Path.{ap, ◌∙◌}
 use Prim.Native.Nat.{ℕ}
-use borrow.Author.Rules.{rules}
 use Rattle.player_clock.specs.Clock.{stepped_by, stepped}
 use Rattle.player_clock.proofs.step.Goals as goal
 

@@ -1,6 +1,5 @@
 -- `player_clock::step_by`: the sum fits in 64 bits; its whole part, held, and what is left.
 use native.Mathlib.Omega.{arith}
-use borrow.Author.Rules.{rules}
 use Rattle.player_clock.proofs.Steps.{product_fits, sum_fits}
 use Rattle.player_clock.proofs.step_by.Goals as goal
 

@@ -6,7 +6,6 @@ use borrow.Author.Tests.{eq-eqb, ne_eqb}
 use Rattle.ground.proofs.Cases.{past, here}
 use Rattle.player_moves.proofs.Ready.{seated, current, current_run, rising_now, below_now}
 use Rattle.player_goto.specs.Goto.{gone}
-use borrow.Author.Rules.{rules}
 use Rattle.player_goto.proofs.goto_by_steps.Goals as goal
 
 pub returns-then-not-is_offered_goto : goal.returns-then-not-is_offered_goto

@@ -8,7 +8,6 @@ use Rattle.player_moves.specs.Moves.{group_after}
 use Rattle.player_moves.specs.Control.{entered}
 use Rattle.player_goto.specs.Goto.{from_group, ended, group_gone}
 use Rattle.player_goto.proofs.Reached.{reached}
-use borrow.Author.Rules.{rules}
 use Rattle.player_goto.proofs.goto_group.Goals as goal
 
 pub enter-entered-requires : goal.enter-entered-requires

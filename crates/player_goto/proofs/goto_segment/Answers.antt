@@ -12,7 +12,6 @@ use Rattle.player_moves.specs.Control.{success}
 use Rattle.player_moves.proofs.Past.{past_starts}
 use Rattle.player_goto.specs.Goto.{from_position, ended, segment_gone}
 use Rattle.player_goto.proofs.Reached.{reached}
-use borrow.Author.Rules.{rules}
 use Rattle.player_goto.proofs.goto_segment.Goals as goal
 
 pub returns-then-n-eq0 : goal.returns-then-n-eq0

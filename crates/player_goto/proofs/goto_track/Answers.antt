@@ -8,7 +8,6 @@ use Rattle.player_moves.specs.Moves.{track_after}
 use Rattle.player_moves.specs.Control.{success}
 use Rattle.player_goto.specs.Goto.{from_track, ended, track_gone}
 use Rattle.player_goto.proofs.Reached.{reached}
-use borrow.Author.Rules.{rules}
 use Rattle.player_goto.proofs.goto_track.Goals as goal
 
 pub returns-in-All : goal.returns-in-All

@@ -1,6 +1,5 @@
 -- `player_goto::is_offered_goto`: each of the three, and any other.
 use borrow.Author.Tests.{ne_eqb}
-use borrow.Author.Rules.{rules}
 use Rattle.player_goto.proofs.is_offered_goto.Goals as goal
 
 pub returns-in-36 : goal.returns-in-36

@@ -2,7 +2,6 @@
 use mathlib.Core.Path.{sym, ◌∙◌}
 use Rattle.player_walk.specs.declared.Near.TheVariants.{At, Nothing}
 use Rattle.player_groups.proofs.Moves.{lone_move, place_within, sibling_move}
-use borrow.Author.Rules.{rules}
 use Rattle.player_groups.proofs.group_after.Goals as goal
 
 pub returns-in-At : goal.returns-in-At

@@ -1,7 +1,6 @@
 -- `player_groups::is_sibling`: the three tests on the words of the two groups.
 use mathlib.Core.Bool.{◌&&◌, not}
 use lib.Dec.{eqb}
-use borrow.Author.Rules.{rules}
 use Rattle.player_groups.proofs.is_sibling.Goals as goal
 
 pub returns : goal.returns

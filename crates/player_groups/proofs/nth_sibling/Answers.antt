@@ -1,8 +1,6 @@
 -- `player_groups::nth_sibling`: what is sought among the rest is what is sought among all.
-use mathlib.Core.Path.{◌≡◌, sym, ◌∙◌}
-use Prim.Native.Nat.{◌-◌, ◌≤◌}
-use Rattle.ground.specs.Lists.{span, those}
-use Rattle.player_walk.specs.Steps.{at}
+use mathlib.Core.Path.{sym, ◌∙◌}
+use Prim.Native.Nat.{◌-◌}
 use Rattle.player_groups.specs.Family.{is_sibling}
 use Rattle.player_groups.proofs.Scan.{all_left, found, nearer, skipped, search_ends}
 use borrow.Author.Rules.{rules}

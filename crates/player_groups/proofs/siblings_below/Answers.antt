@@ -1,10 +1,8 @@
 -- `player_groups::siblings_below`: what is counted and what is left to count make up all of them.
-use mathlib.Core.Path.{◌≡◌, sym, ◌∙◌}
-use Prim.Native.Nat.{◌+◌, ◌-◌, ◌≤◌}
+use mathlib.Core.Path.{sym, ◌∙◌}
+use Prim.Native.Nat.{◌-◌}
 use native.Mathlib.Nat.{zero-add}
 use native.Mathlib.Omega.{arith}
-use lib.ListN.{length}
-use Rattle.ground.specs.Lists.{span, those}
 use Rattle.player_groups.specs.Family.{is_sibling}
 use Rattle.player_groups.proofs.Scan.{all_left, counted, passed, count_ends}
 use borrow.Author.Rules.{rules}

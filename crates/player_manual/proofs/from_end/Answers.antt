@@ -3,7 +3,6 @@ use mathlib.Core.Path.{sym, ◌∙◌}
 use native.Mathlib.Omega.{arith}
 use Rattle.player_manual.proofs.Steps.{none_allowed, no_end, at_end_lem}
 use Rattle.player_manual.proofs.Places.{stays}
-use borrow.Author.Rules.{rules}
 use Rattle.player_manual.proofs.from_end.Goals as goal
 
 pub returns-then-allowed-eq0 : goal.returns-then-allowed-eq0

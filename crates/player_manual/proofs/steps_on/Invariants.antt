@@ -1,12 +1,8 @@
 -- `player_manual::steps_on`: what is left of the walk, from where the loop stands, is the whole walk.
-use mathlib.Core.Path.{◌≡◌, refl, sym, ◌∙◌}
-use Prim.Native.Nat.{◌+◌, ◌-◌, ◌<◌, ◌≤◌}
-use native.Mathlib.Omega.{arith}
+use mathlib.Core.Path.{◌≡◌}
+use Prim.Native.Nat.{◌-◌, ◌<◌, ◌≤◌}
 use Rattle.player_walk.specs.Places.{place_after}
 use Rattle.player_manual.specs.Made.{more, steps}
-use Rattle.player_manual.proofs.Steps.{arrives, runs_out, stops, goes_on_lem}
-use Rattle.player_manual.proofs.Places.{stays}
-use borrow.Author.Rules.{rules}
 use Rattle.player_manual.proofs.steps_on.Given as goal
 
 abbrev pub invariant-loop-left : goal.invariant-loop-left

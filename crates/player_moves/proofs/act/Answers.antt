@@ -3,7 +3,6 @@ use mathlib.Core.Path.{ap, ◌∙◌}
 use Rattle.player_state.specs.Player.{at_position}
 use Rattle.player_moves.specs.Control.{success, acted}
 use Rattle.player_moves.proofs.Ready.{seated, current, current_run, rising_now, below_now}
-use borrow.Author.Rules.{rules}
 use Rattle.player_moves.proofs.act.Goals as goal
 
 pub move_segment-requires-clause-rising : goal.move_segment-requires-clause-rising

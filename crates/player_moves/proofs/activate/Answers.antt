@@ -4,7 +4,6 @@ use Rattle.player_walk.specs.declared.Near.{Near}
 use Rattle.player_state.specs.Player.{at_place}
 use Rattle.player_orders.specs.Order.{near_track}
 use Rattle.player_moves.specs.Clock.{activated_on, activated}
-use borrow.Author.Rules.{rules}
 use Rattle.player_moves.proofs.activate.Goals as goal
 
 pub returns-in-Found : goal.returns-in-Found

@@ -4,7 +4,6 @@ use native.Mathlib.Omega.{arith}
 use borrow.Author.Tests.{eq-eqb, ne_eqb}
 use Rattle.ground.proofs.Cases.{past, here}
 use Rattle.player_moves.specs.Clock.{advanced}
-use borrow.Author.Rules.{rules}
 use Rattle.player_moves.proofs.advance.Goals as goal
 
 pub play_on-requires : goal.play_on-requires

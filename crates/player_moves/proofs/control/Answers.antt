@@ -6,7 +6,6 @@ use borrow.Author.Tests.{eq-eqb, ne_eqb}
 use Rattle.ground.proofs.Cases.{past, here}
 use Rattle.player_moves.specs.Control.{acted, controlled}
 use Rattle.player_opcodes.specs.declared.Action.{Action}
-use borrow.Author.Rules.{rules}
 use Rattle.player_moves.proofs.control.Goals as goal
 
 pub returns-then-not-is_offered : goal.returns-then-not-is_offered

@@ -3,7 +3,6 @@ use mathlib.Core.Path.{ap, ◌∙◌}
 use Rattle.player_walk.specs.declared.Near.{Near}
 use Rattle.player_state.specs.Modes.{moved_to}
 use Rattle.player_moves.specs.Control.{success, onward}
-use borrow.Author.Rules.{rules}
 use Rattle.player_moves.proofs.enter.Goals as goal
 
 pub returns : goal.returns

@@ -3,7 +3,6 @@ use mathlib.Core.Path.{◌∙◌}
 use Rattle.player_walk.specs.Steps.{first_of}
 use Rattle.player_orders.specs.Order.{tracks_in_order}
 use Rattle.player_moves.specs.Moves.{entry_of}
-use borrow.Author.Rules.{rules}
 use Rattle.player_moves.proofs.entry.Goals as goal
 
 pub returns : goal.returns

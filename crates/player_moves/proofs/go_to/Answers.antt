@@ -4,7 +4,6 @@ use Rattle.player_walk.specs.declared.Near.{Near}
 use Rattle.player_state.specs.Modes.{moved_to}
 use Rattle.player_orders.specs.Order.{near_track}
 use Rattle.player_moves.specs.Control.{success, onward}
-use borrow.Author.Rules.{rules}
 use Rattle.player_moves.proofs.go_to.Goals as goal
 
 pub returns-in-Found : goal.returns-in-Found

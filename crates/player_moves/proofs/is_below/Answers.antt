@@ -2,7 +2,6 @@
 use mathlib.Core.Path.{ap}
 use Prim.Native.Nat.{ℕ, ◌+◌}
 use lib.Dec.{ltb}
-use borrow.Author.Rules.{rules}
 use Rattle.player_moves.proofs.is_below.Goals as goal
 
 pub returns : goal.returns

@@ -5,7 +5,6 @@ use Rattle.player_groups.specs.Family.{near_group}
 use Rattle.player_moves.specs.Moves.{group_after}
 use Rattle.player_moves.specs.Control.{onward, entered}
 use Rattle.player_groups.proofs.Laws.{stays_current}
-use borrow.Author.Rules.{rules}
 use Rattle.player_moves.proofs.move_group.Goals as goal
 
 pub enter-requires : goal.enter-requires

@@ -4,7 +4,6 @@ use Prim.Native.Nat.{ℕ}
 use Rattle.player_state.specs.Player.{at_position}
 use Rattle.player_state.specs.Positions.{held_sum}
 use Rattle.player_walk.specs.Signed.{signed_word}
-use borrow.Author.Rules.{rules}
 use Rattle.player_moves.proofs.move_relative.Goals as goal
 
 pub returns : goal.returns

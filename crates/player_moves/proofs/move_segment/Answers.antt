@@ -9,7 +9,6 @@ use Rattle.player_segments.specs.Segments.{segment_move, near_position}
 use Rattle.player_moves.specs.Moves.{segment_after}
 use Rattle.player_moves.specs.Control.{success, onward, moves_nothing}
 use Rattle.player_moves.proofs.Past.{past_starts}
-use borrow.Author.Rules.{rules}
 use Rattle.player_moves.proofs.move_segment.Goals as goal
 
 pub segment_after-near-requires-clause-rising : goal.segment_after-near-requires-clause-rising

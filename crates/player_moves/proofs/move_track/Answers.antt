@@ -8,7 +8,6 @@ use Rattle.player_state.specs.Modes.{moved_to}
 use Rattle.player_moves.specs.Moves.{track_after}
 use Rattle.player_moves.specs.Control.{success, onward, track_moved}
 use Rattle.player_moves.specs.declared.Controlled.{Controlled}
-use borrow.Author.Rules.{rules}
 -- along the order
 use Rattle.player_moves.proofs.move_track.Goals as goal
 

@@ -1,5 +1,4 @@
 -- `player_moves::moves_nothing`: a case for each step.
-use borrow.Author.Rules.{rules}
 use Rattle.player_moves.proofs.moves_nothing.Goals as goal
 
 pub returns-in-Goto : goal.returns-in-Goto

@@ -3,7 +3,6 @@ use mathlib.Core.Path.{◌∙◌}
 use Rattle.player_walk.specs.Steps.{move_in}
 use Rattle.player_orders.specs.Order.{tracks_in_order, repeats}
 use Rattle.player_moves.specs.Moves.{track_after}
-use borrow.Author.Rules.{rules}
 use Rattle.player_moves.proofs.near_track.Goals as goal
 
 pub returns : goal.returns

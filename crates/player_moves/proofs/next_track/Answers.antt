@@ -1,7 +1,6 @@
 -- `player_moves::next_track`: the track that is named, or that of the order.
 use mathlib.Core.Path.{sym, ◌∙◌}
 use Rattle.player_moves.proofs.Named.{next_named, next_ordered}
-use borrow.Author.Rules.{rules}
 use Rattle.player_moves.proofs.next_track.Goals as goal
 
 pub returns-then-p-ne0 : goal.returns-then-p-ne0

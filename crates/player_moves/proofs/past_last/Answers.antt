@@ -3,7 +3,6 @@ use mathlib.Core.Path.{refl, sym, ap, ◌∙◌}
 use Prim.Native.Nat.{ℕ}
 use Rattle.ground.proofs.Cases.{past, here}
 use Rattle.player_walk.specs.declared.Near.TheVariants.{At}
-use borrow.Author.Rules.{rules}
 use Rattle.player_moves.proofs.past_last.Goals as goal
 
 pub returns-then-is_running : goal.returns-then-is_running

@@ -11,7 +11,6 @@ use Rattle.player_orders.specs.Order.{near_track}
 use Rattle.player_moves.specs.Moves.{end_now}
 use Rattle.player_moves.specs.Clock.{is_below, stays_below, after_end, played_on}
 use Rattle.player_moves.proofs.Past.{end_le}
-use borrow.Author.Rules.{rules}
 use Rattle.player_moves.proofs.play_on.Goals as goal
 
 pub overflow_add-sum : goal.overflow_add-sum

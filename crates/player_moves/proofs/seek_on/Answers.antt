@@ -4,7 +4,6 @@ use Prim.Native.Nat.{ℕ}
 use Rattle.player_state.specs.Player.{at_position}
 use Rattle.player_state.specs.Positions.{sought}
 use Rattle.player_moves.specs.Clock.{sought_on}
-use borrow.Author.Rules.{rules}
 use Rattle.player_moves.proofs.seek_on.Goals as goal
 
 pub returns : goal.returns

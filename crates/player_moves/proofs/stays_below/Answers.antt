@@ -1,7 +1,6 @@
 -- `player_moves::stays_below`: the whole hundredths of the step.
 use mathlib.Core.Path.{ap, ◌∙◌}
 use Rattle.player_clock.specs.declared.Stepped.{Stepped}
-use borrow.Author.Rules.{rules}
 use Rattle.player_moves.specs.Clock.{is_below}
 use Rattle.player_moves.proofs.stays_below.Goals as goal
 

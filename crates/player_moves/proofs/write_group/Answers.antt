@@ -2,7 +2,6 @@
 use mathlib.Core.Path.{ap}
 use Rattle.player_moves.specs.declared.Controlled.{Controlled}
 use Rattle.player_moves.specs.Clock.{group_written}
-use borrow.Author.Rules.{rules}
 use Rattle.player_moves.proofs.write_group.Goals as goal
 
 pub returns : goal.returns

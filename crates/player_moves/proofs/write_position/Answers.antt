@@ -8,7 +8,6 @@ use Rattle.player_state.specs.Player.{at_position}
 use Rattle.player_state.specs.Positions.{written}
 use Rattle.player_walk.specs.Signed.{signed_word}
 use Rattle.player_moves.specs.Clock.{positioned}
-use borrow.Author.Rules.{rules}
 use Rattle.player_moves.proofs.write_position.Goals as goal
 
 pub returns-then-p-eq-INACTIVE : goal.returns-then-p-eq-INACTIVE

@@ -1,6 +1,5 @@
 -- `player_opcodes::action_of`: a case for each row, and for each gap between them.
 use native.Mathlib.Omega.{arith}
-use borrow.Author.Rules.{rules}
 use Rattle.player_opcodes.specs.Opcodes.{action_of}
 use Rattle.player_opcodes.proofs.Rows.{below_steps, before_track, before_group, back, action_segment, action_track, action_group, action_none}
 use Rattle.player_opcodes.proofs.action_of.Goals as goal

@@ -1,7 +1,6 @@
 -- `player_opcodes::is_offered`: the bit lies in the mask, or higher.
 use mathlib.Core.Path.{◌≡◌, ap, ◌∙◌}
 use Prim.Native.Nat.{◌≤◌, ◌<◌}
-use borrow.Author.Rules.{rules}
 use borrow.Author.Tests.{lt-ltb, le-ltb}
 use native.Mathlib.Omega.{arith}
 use Rattle.ground.specs.Cases.{has}

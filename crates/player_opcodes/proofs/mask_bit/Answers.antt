@@ -1,6 +1,5 @@
 -- `player_opcodes::mask_bit`: a case for each row, and for each gap between them.
 use native.Mathlib.Omega.{arith}
-use borrow.Author.Rules.{rules}
 use Rattle.player_opcodes.proofs.Rows.{front, before_segment, before_track, before_group, back, bit_mode, bit_move, bit_segment, bit_track, bit_group, bit_none}
 use Rattle.player_opcodes.proofs.mask_bit.Goals as goal
 

@@ -1,6 +1,4 @@
 -- `player_opcodes::parameter_length`: a case for each row, and for each gap between them.
-use mathlib.Core.Path.{◌≡◌}
-use mathlib.Core.Logic.{inl, inr}
 use native.Mathlib.Omega.{arith}
 use Rattle.player_opcodes.proofs.Rows.{front, before_segment, before_track, before_group, back, bit_mode, bit_segment, bit_track, bit_group, length_five, length_one, length_none}
 use Rattle.player_opcodes.proofs.parameter_length.Goals as goal

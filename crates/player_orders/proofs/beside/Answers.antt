@@ -1,12 +1,11 @@
 -- `player_orders::beside`: of the tracks before i, best is the least key at or above x, turned where the scan looks back.
 use mathlib.Core.Path.{ap, ◌∙◌}
 use mathlib.Core.Logic.{⊎_elim}
-use Prim.Native.Nat.{◌≤◌, ◌-◌}
+use Prim.Native.Nat.{◌-◌}
 use native.Mathlib.Nat.{eq-or-lt_of_le}
 use native.Mathlib.Omega.{arith}
 use borrow.Author.Rules.{rules}
-use Rattle.player_orders.specs.Keys.{key_of}
-use Rattle.player_orders.proofs.Nearest.{Least, turn, least_none, least_more, least_all, beside_none, beside_some}
+use Rattle.player_orders.proofs.Nearest.{turn, least_none, least_more, least_all, beside_none, beside_some}
 use Rattle.player_orders.proofs.beside.Goals as goal
 
 pub loop-i-init : goal.loop-i-init

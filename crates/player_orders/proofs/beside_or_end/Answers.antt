@@ -1,5 +1,4 @@
 -- `player_orders::beside_or_end`: a case for what is found beside x, and for whether the order repeats.
-use borrow.Author.Rules.{rules}
 use Rattle.player_orders.proofs.beside_or_end.Goals as goal
 
 pub returns-then-repeat : goal.returns-then-repeat

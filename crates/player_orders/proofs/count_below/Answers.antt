@@ -1,10 +1,8 @@
 -- `player_orders::count_below`: what is counted so far and the keys below x in the rest of the run are together those of the whole run.
-use mathlib.Core.Path.{◌≡◌}
-use Prim.Native.Nat.{◌≤◌, ◌+◌, ◌-◌}
+use Prim.Native.Nat.{◌-◌}
 use borrow.Author.Tests.{lt-ltb, le-ltb}
 use borrow.Author.Rules.{rules}
-use Rattle.ground.specs.Lists.{span}
-use Rattle.player_orders.specs.Keys.{key_of, below}
+use Rattle.player_orders.specs.Keys.{key_of}
 use Rattle.player_orders.proofs.Span.{counts, passes, whole, counted}
 use Rattle.player_orders.proofs.count_below.Goals.{then-less, else-less}
 use Rattle.player_orders.proofs.count_below.Goals as goal

@@ -1,11 +1,8 @@
 -- `player_orders::count_below`: what is counted so far and the keys below x in the rest of the run are together those of the whole run.
 use mathlib.Core.Path.{◌≡◌}
-use mathlib.Core.Logic.{⊎_elim}
 use Prim.Native.Nat.{◌≤◌, ◌+◌, ◌-◌}
-use borrow.Author.Rules.{rules}
 use Rattle.ground.specs.Lists.{span}
 use Rattle.player_orders.specs.Keys.{key_of, below}
-use Rattle.player_orders.proofs.Span.{counts, passes, whole, counted}
 use Rattle.player_orders.proofs.count_below.Given as goal
 
 abbrev pub invariant-loop-i : goal.invariant-loop-i

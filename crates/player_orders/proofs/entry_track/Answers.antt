@@ -2,7 +2,6 @@
 use mathlib.Core.Path.{ap, ◌∙◌}
 use native.Mathlib.Omega.{arith}
 use borrow.Author.Tests.{le-leb}
-use borrow.Author.Rules.{rules}
 use Rattle.player_walk.specs.Steps.{at, first_of}
 use Rattle.player_orders.specs.declared.By.{By}
 use Rattle.player_orders.specs.Order.{ordered, tracks_in_order}

@@ -1,6 +1,5 @@
 -- `player_orders::key`: a case for each By; a stamp and a number have 32 bits each, so that a key has 64.
 use native.Mathlib.Omega.{arith}
-use borrow.Author.Rules.{rules}
 use Rattle.player_orders.proofs.key.Goals as goal
 
 pub returns-in-Number : goal.returns-in-Number

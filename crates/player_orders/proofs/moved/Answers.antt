@@ -1,5 +1,4 @@
 -- `player_orders::moved`: both ways lead to one track.
-use borrow.Author.Rules.{rules}
 use Rattle.player_orders.proofs.moved.Goals as goal
 
 pub returns-in-Number : goal.returns-in-Number

@@ -1,6 +1,5 @@
 -- `player_orders::moved_by_keys`: a case for each step.
 use mathlib.Core.Path.{◌∙◌}
-use borrow.Author.Rules.{rules}
 use Rattle.player_orders.proofs.Moves.{to_previous, to_next, to_first, to_last}
 use Rattle.player_orders.proofs.moved_by_keys.Goals as goal
 

@@ -1,6 +1,5 @@
 -- `player_orders::moved_by_places`: the move on places, from the place of t.
 use mathlib.Core.Path.{◌∙◌}
-use borrow.Author.Rules.{rules}
 use Rattle.player_orders.proofs.Moves.{moves}
 use Rattle.player_orders.proofs.moved_by_places.Goals as goal
 

@@ -1,6 +1,5 @@
 -- `player_orders::nth`: by number the run stands in order as it is; no key is below 0, and the rest is what the two others find.
 use mathlib.Core.Path.{sym, ap, ◌∙◌}
-use borrow.Author.Rules.{rules}
 use Rattle.player_walk.specs.Steps.{at}
 use Rattle.player_orders.specs.declared.By.{By}
 use Rattle.player_orders.specs.Order.{ordered}

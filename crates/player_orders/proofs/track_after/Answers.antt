@@ -1,7 +1,6 @@
 -- `player_orders::track_after`: a move along the current track alone, or along the run put in order.
 use mathlib.Core.Path.{◌∙◌}
 use native.Mathlib.Omega.{arith}
-use borrow.Author.Rules.{rules}
 use Rattle.player_orders.proofs.Moves.{along_one, along_run}
 use Rattle.player_orders.proofs.track_after.Goals as goal
 

@@ -1,5 +1,4 @@
 -- `player_orders::turned`: a case for each way.
-use borrow.Author.Rules.{rules}
 use Rattle.player_orders.proofs.turned.Goals as goal
 
 pub returns-then-back : goal.returns-then-back

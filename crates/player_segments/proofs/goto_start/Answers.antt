@@ -1,7 +1,6 @@
 -- `player_segments::goto_start`: the steps lead where the closed form says.
 use mathlib.Core.Path.{sym, ◌∙◌}
 use Rattle.player_segments.proofs.Steps.{stays, goes_ahead, goes_back}
-use borrow.Author.Rules.{rules}
 use Rattle.player_segments.proofs.goto_start.Goals as goal
 
 pub returns-in-Stay : goal.returns-in-Stay

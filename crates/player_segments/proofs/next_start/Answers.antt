@@ -1,6 +1,5 @@
 -- `player_segments::next_start`: the start at the cut at the position.
 use mathlib.Core.Path.{◌∙◌}
-use borrow.Author.Rules.{rules}
 use Rattle.player_segments.proofs.Cuts.{next_past, next_here}
 use Rattle.player_segments.proofs.Whole.{next_same}
 use Rattle.player_segments.proofs.next_start.Goals as goal

@@ -1,8 +1,7 @@
 -- `player_segments::not_above`: halving keeps the starts not above x on the left and the others on the right.
 use Prim.Native.Nat.{◌+◌, ◌-◌, ◌/◌}
 use native.Mathlib.Omega.{arith}
-use borrow.Author.Rules.{rules}
-use Rattle.player_segments.proofs.Cuts.{Bracket, bracket, up, down, closed}
+use Rattle.player_segments.proofs.Cuts.{bracket, up, down, closed}
 use Rattle.player_segments.proofs.not_above.Goals as goal
 
 pub loop-lo-init : goal.loop-lo-init

@@ -1,7 +1,6 @@
 -- `player_segments::previous_start`: the start before the cut at the position, or the one before that.
 use Prim.Native.Nat.{◌-◌}
 use native.Mathlib.Omega.{arith}
-use borrow.Author.Rules.{rules}
 use Rattle.player_segments.proofs.Cuts.{previous_own, previous_before}
 use Rattle.player_segments.proofs.Whole.{whole_is, previous_in_first}
 use Rattle.player_segments.proofs.previous_start.Goals as goal

@@ -5,7 +5,6 @@ use Rattle.player_walk.specs.declared.Near.TheVariants.{At}
 use Rattle.player_segments.specs.Segments.{move_along}
 use Rattle.player_segments.proofs.Whole.{some, from_zero}
 use Rattle.player_segments.proofs.Steps.{last_is}
-use borrow.Author.Rules.{rules}
 use Rattle.player_segments.proofs.segment_after.Goals as goal
 
 pub returns-in-Previous : goal.returns-in-Previous

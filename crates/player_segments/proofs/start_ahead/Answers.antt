@@ -1,6 +1,5 @@
 -- `player_segments::start_ahead`: a track without segments has one start, 0.
 use Rattle.player_segments.proofs.Whole.{ahead_in, ahead_none, ahead_past}
-use borrow.Author.Rules.{rules}
 use Rattle.player_segments.proofs.start_ahead.Goals as goal
 
 pub returns-then-m-starts : goal.returns-then-m-starts

@@ -1,6 +1,5 @@
 -- `player_segments::start_back`: a track without segments has one start, 0.
 use Rattle.player_segments.proofs.Whole.{back_in, back_past}
-use borrow.Author.Rules.{rules}
 use Rattle.player_segments.proofs.start_back.Goals as goal
 
 pub returns-then-m-n : goal.returns-then-m-n

@@ -2,7 +2,6 @@
 use mathlib.Core.Path.{ap}
 use Prim.Native.Nat.{ℕ}
 use Rattle.player_state.specs.Player.{place_at, with_place, with_upcoming}
-use borrow.Author.Rules.{rules}
 use Rattle.player_state.proofs.at_place.Goals as goal
 
 pub returns : goal.returns

@@ -2,7 +2,6 @@
 use mathlib.Core.Path.{ap}
 use Rattle.player_state.specs.declared.Player.{Player}
 use Rattle.player_state.specs.Player.{place_at, with_place, unnamed}
-use borrow.Author.Rules.{rules}
 use Rattle.player_state.proofs.deactivate.Goals as goal
 
 pub returns : goal.returns

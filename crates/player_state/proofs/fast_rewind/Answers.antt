@@ -4,7 +4,6 @@ use Prim.Native.Nat.{ℕ}
 use borrow.Author.Tests.{eq-eqb, ne_eqb}
 use Rattle.player_state.specs.Player.{in_mode}
 use Rattle.player_state.specs.Modes.{rewound}
-use borrow.Author.Rules.{rules}
 use Rattle.player_state.proofs.fast_rewind.Goals as goal
 
 pub returns-then-p-eq-SEEKING : goal.returns-then-p-eq-SEEKING

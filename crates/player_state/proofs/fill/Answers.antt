@@ -1,9 +1,9 @@
 -- `player_state::fill`: after i turns the first i octets are copied.
-use mathlib.Core.Path.{◌≡◌, refl}
-use Prim.Native.Nat.{◌≤◌, ◌<◌, ◌-◌}
+use mathlib.Core.Path.{refl}
+use Prim.Native.Nat.{◌<◌, ◌-◌}
 use native.Mathlib.Omega.{arith}
 use lib.ListN.{length, length-set}
-use Rattle.ground.proofs.Sweep.{copied, copy_turn, copy_end}
+use Rattle.ground.proofs.Sweep.{copy_turn, copy_end}
 use borrow.Author.Rules.{rules}
 use Rattle.player_state.proofs.fill.Goals as goal
 

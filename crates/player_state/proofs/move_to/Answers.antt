@@ -4,7 +4,6 @@ use borrow.Author.Tests.{eq-eqb, ne_eqb}
 use Rattle.ground.proofs.Cases.{past, here}
 use Rattle.player_state.specs.Player.{at_place}
 use Rattle.player_state.specs.Modes.{moved_to}
-use borrow.Author.Rules.{rules}
 use Rattle.player_state.proofs.move_to.Goals as goal
 
 pub returns-then-p-eq-SEEKING : goal.returns-then-p-eq-SEEKING

@@ -1,7 +1,6 @@
 -- `player_state::set_name`: the name alone is another.
 use lib.ListN.{length}
 use Rattle.player_state.specs.Player.{renamed}
-use borrow.Author.Rules.{rules}
 use Rattle.player_state.proofs.set_name.Goals as goal
 
 pub returns : goal.returns

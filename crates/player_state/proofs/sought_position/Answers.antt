@@ -3,7 +3,6 @@ use mathlib.Core.Path.{ap, ◌∙◌}
 use Prim.Native.Nat.{ℕ, min, ◌-◌}
 use native.Mathlib.Omega.{arith}
 use Rattle.player_state.proofs.Signs.{sought_up, sought_down, small_product}
-use borrow.Author.Rules.{rules}
 use Rattle.player_state.proofs.sought_position.Goals as goal
 
 pub overflow_mul-d : goal.overflow_mul-d

@@ -1,7 +1,6 @@
 -- `player_state::start`: what start leaves, field by field.
 use lib.ListN.{length}
 use Rattle.player_state.specs.Player.{started_player}
-use borrow.Author.Rules.{rules}
 use Rattle.player_state.proofs.start.Goals as goal
 
 pub returns : goal.returns

@@ -3,7 +3,6 @@ use mathlib.Core.Path.{ap, ◌∙◌}
 use Prim.Native.Nat.{ℕ, min}
 use native.Mathlib.Omega.{arith}
 use Rattle.player_state.proofs.Signs.{written_up, written_down}
-use borrow.Author.Rules.{rules}
 use Rattle.player_state.proofs.written_position.Goals as goal
 
 pub returns-then-number-lt2147483648 : goal.returns-then-number-lt2147483648

@@ -8,7 +8,6 @@ use Rattle.player_manual.specs.Made.{by_steps}
 use Rattle.player_manual.specs.Places.{on_places, onto}
 use Rattle.player_manual.proofs.Along.{landing}
 use Rattle.player_orders.specs.Order.{ordered, near_track}
-use borrow.Author.Rules.{rules}
 use Rattle.player_steps.proofs.along_run.Goals as goal
 
 pub returns-in-Found : goal.returns-in-Found

@@ -13,7 +13,6 @@ use Rattle.player_groups.specs.Family.{is_sibling, near_group}
 use Rattle.player_groups.proofs.Moves.{place_within}
 use Rattle.player_steps.specs.Stepping.{along_groups}
 use Rattle.player_steps.proofs.Groups.{walked_alone, walked_line}
-use borrow.Author.Rules.{rules}
 -- group 0: what the walk on one place came to
 use Rattle.player_steps.proofs.goto_group.Goals as goal
 

@@ -1,7 +1,6 @@
 -- `player_steps::goto_segment`: the three ways.
 use Rattle.player_manual.specs.Made.{by_steps}
 use Rattle.player_manual.proofs.Steps.{by_way_lem}
-use borrow.Author.Rules.{rules}
 use Rattle.player_steps.proofs.goto_segment.Goals as goal
 
 pub returns-in-Stay : goal.returns-in-Stay

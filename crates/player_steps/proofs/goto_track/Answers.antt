@@ -2,7 +2,6 @@
 use mathlib.Core.Path.{◌∙◌}
 use native.Mathlib.Omega.{arith}
 use Rattle.player_steps.proofs.Tracks.{walked_alone, walked_run}
-use borrow.Author.Rules.{rules}
 use Rattle.player_steps.proofs.goto_track.Goals as goal
 
 pub returns-then-order-le2 : goal.returns-then-order-le2

@@ -3,7 +3,6 @@ use mathlib.Core.Path.{sym, ap, ◌∙◌}
 use native.Mathlib.Omega.{arith}
 use Rattle.player_segments.specs.Segments.{near_position}
 use Rattle.player_manual.proofs.Steps.{none_allowed, no_end, at_end_lem}
-use borrow.Author.Rules.{rules}
 use Rattle.player_steps.proofs.segments_from_end.Goals as goal
 
 pub returns-then-allowed-eq0 : goal.returns-then-allowed-eq0

@@ -1,12 +1,9 @@
 -- `player_steps::segments_on`: what is left of the walk, from where the loop stands, is the whole walk.
-use mathlib.Core.Path.{◌≡◌, refl, sym, ap, ◌∙◌}
-use Prim.Native.Nat.{◌+◌, ◌-◌, ◌<◌, ◌≤◌}
-use native.Mathlib.Omega.{arith}
+use mathlib.Core.Path.{◌≡◌}
+use Prim.Native.Nat.{◌-◌, ◌<◌, ◌≤◌}
 use Rattle.player_manual.specs.Made.{more, steps}
-use Rattle.player_manual.proofs.Steps.{arrives, runs_out, stops, goes_on_lem}
 use Rattle.player_segments.specs.Segments.{near_position}
 use Rattle.player_steps.specs.Stepping.{along_segments}
-use borrow.Author.Rules.{rules}
 use Rattle.player_steps.proofs.segments_on.Given as goal
 
 abbrev pub invariant-loop-left : goal.invariant-loop-left

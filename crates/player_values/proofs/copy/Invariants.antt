@@ -1,10 +1,8 @@
 -- `player_values::copy`: after i turns the first i octets are copied.
-use mathlib.Core.Path.{◌≡◌, refl}
-use Prim.Native.Nat.{◌≤◌, ◌<◌, ◌-◌}
-use native.Mathlib.Omega.{arith}
-use lib.ListN.{length, length-set}
-use Rattle.ground.proofs.Sweep.{copied, copy_turn, copy_end}
-use borrow.Author.Rules.{rules}
+use mathlib.Core.Path.{◌≡◌}
+use Prim.Native.Nat.{◌≤◌, ◌-◌}
+use lib.ListN.{length}
+use Rattle.ground.proofs.Sweep.{copied}
 use Rattle.player_values.proofs.copy.Given as goal
 
 abbrev pub invariant-loop-i : goal.invariant-loop-i

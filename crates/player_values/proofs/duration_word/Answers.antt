@@ -3,7 +3,6 @@ use mathlib.Core.Path.{refl, ap, ◌∙◌}
 use borrow.Author.Tests.{eq-eqb, ne_eqb}
 use Rattle.player_values.specs.Values.{word_octets, duration_value}
 use Rattle.player_values.proofs.Laws.{read_as_kept}
-use borrow.Author.Rules.{rules}
 use Rattle.player_values.proofs.duration_word.Goals as goal
 
 pub returns-then-p-eq-INACTIVE : goal.returns-then-p-eq-INACTIVE

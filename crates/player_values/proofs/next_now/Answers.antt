@@ -4,7 +4,6 @@ use native.Mathlib.Omega.{arith}
 use borrow.Author.Tests.{eq-eqb, ne_eqb}
 use Rattle.player_orders.specs.Order.{near_track}
 use Rattle.player_values.specs.Values.{track_found, next_now}
-use borrow.Author.Rules.{rules}
 use Rattle.player_values.proofs.next_now.Goals as goal
 
 pub returns-then-p-eq-INACTIVE : goal.returns-then-p-eq-INACTIVE

@@ -4,7 +4,6 @@ use native.Mathlib.Omega.{arith}
 use borrow.Author.Tests.{eq-eqb, ne_eqb}
 use Rattle.catalogue_tables.specs.Objects.{group_object}
 use Rattle.player_values.specs.Values.{parent_now}
-use borrow.Author.Rules.{rules}
 use Rattle.player_values.proofs.parent_now.Goals as goal
 
 pub returns-then-p-eq-INACTIVE : goal.returns-then-p-eq-INACTIVE

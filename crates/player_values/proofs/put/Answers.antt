@@ -5,7 +5,6 @@ use Prim.Native.Nat.{ℕ}
 use lib.ListN.{length-take, length-drop}
 use Rattle.ground.specs.Lists.{filled}
 use Rattle.player_values.proofs.Parts.{part_whole}
-use borrow.Author.Rules.{rules}
 use Rattle.player_values.proofs.put.Goals as goal
 
 pub returns-clause-value : goal.returns-clause-value

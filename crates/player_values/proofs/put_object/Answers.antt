@@ -7,7 +7,6 @@ use borrow.Author.Tests.{eq-eqb, ne_eqb}
 use Rattle.ground.specs.Lists.{filled, part_from}
 use Rattle.player_values.specs.Values.{object_octets}
 use Rattle.player_values.proofs.Parts.{nothing_put}
-use borrow.Author.Rules.{rules}
 use Rattle.player_values.proofs.put_object.Goals as goal
 
 pub returns-then-object-eq0-clause-value : goal.returns-then-object-eq0-clause-value

@@ -2,7 +2,6 @@
 use mathlib.Core.Path.{sym, ap}
 use native.Mathlib.Omega.{arith}
 use lib.ListN.{length}
-use borrow.Author.Rules.{rules}
 use Rattle.player_values.proofs.put_title.Goals as goal
 
 pub put-requires-clause-s_in_bounds : goal.put-requires-clause-s_in_bounds

@@ -1,6 +1,5 @@
 -- `player_values::put_word`: the four octets are the word's.
 use Rattle.player_values.specs.Values.{word_octets}
-use borrow.Author.Rules.{rules}
 use Rattle.player_values.proofs.put_word.Goals as goal
 
 pub put-requires-clause-from_in_bounds : goal.put-requires-clause-from_in_bounds

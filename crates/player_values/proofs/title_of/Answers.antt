@@ -3,7 +3,6 @@ use mathlib.Core.Path.{ap, ◌∙◌}
 use Rattle.catalogue_titles.specs.declared.Part.{Part}
 use Rattle.catalogue_titles.specs.Titles.{octets_at}
 use Rattle.player_values.specs.Values.{title_value}
-use borrow.Author.Rules.{rules}
 use Rattle.player_values.proofs.title_of.Goals as goal
 
 pub returns : goal.returns

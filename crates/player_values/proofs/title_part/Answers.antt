@@ -1,7 +1,6 @@
 -- `player_values::title_part`: the front while Inactive, else the current track's part.
 use borrow.Author.Tests.{eq-eqb, ne_eqb}
 use Rattle.player_values.specs.Values.{title_part}
-use borrow.Author.Rules.{rules}
 use Rattle.player_values.proofs.title_part.Goals as goal
 
 pub returns-then-p-eq-INACTIVE : goal.returns-then-p-eq-INACTIVE

@@ -3,7 +3,6 @@ use mathlib.Core.Path.{refl}
 use native.Mathlib.Omega.{arith}
 use borrow.Author.Tests.{eq-eqb, ne_eqb}
 use Rattle.player_values.specs.Values.{track_now}
-use borrow.Author.Rules.{rules}
 use Rattle.player_values.proofs.track_now.Goals as goal
 
 pub returns-then-p-eq-INACTIVE : goal.returns-then-p-eq-INACTIVE

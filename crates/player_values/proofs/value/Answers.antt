@@ -6,7 +6,6 @@ use lib.ListN.{length}
 use Rattle.player_values.specs.Values.{source, object_octets, word_octets, opcodes_value, value_of}
 use Rattle.player_values.proofs.Laws.{value_none}
 use Rattle.player_values.proofs.Parts.{nothing_put}
-use borrow.Author.Rules.{rules}
 use Rattle.player_values.proofs.value.Goals as goal
 
 fits : (a : ℕ) {v w : List ℕ} → w ≡ v → a ≤ length v → a ≤ length w

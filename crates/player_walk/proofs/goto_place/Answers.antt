@@ -1,7 +1,6 @@
 -- `player_walk::goto_place`: the three ways.
 use mathlib.Core.Path.{ap, ◌∙◌}
 use Rattle.player_walk.specs.Places.{wrap, mirror}
-use borrow.Author.Rules.{rules}
 use Rattle.player_walk.proofs.goto_place.Goals as goal
 
 pub returns-in-Stay : goal.returns-in-Stay

@@ -1,6 +1,5 @@
 -- `player_walk::mirrored`: a place that is there has one from the other end.
 use borrow.Author.Tests.{lt-ltb, le-ltb}
-use borrow.Author.Rules.{rules}
 use Rattle.player_walk.proofs.mirrored.Goals as goal
 
 pub returns-then-k-len : goal.returns-then-k-len

@@ -2,7 +2,6 @@
 use mathlib.Core.Path.{ap, ◌∙◌}
 use borrow.Author.Tests.{lt-ltb, le-ltb}
 use Rattle.player_walk.specs.Places.{goto_place, place_after}
-use borrow.Author.Rules.{rules}
 use Rattle.player_walk.proofs.place_after.Goals as goal
 
 pub returns-then-k-gt0 : goal.returns-then-k-gt0

@@ -1,7 +1,6 @@
 -- `player_walk::way_of`: the three cases of a word.
 use native.Mathlib.Omega.{arith}
 use Rattle.player_walk.proofs.Ways.{stays, ahead, back}
-use borrow.Author.Rules.{rules}
 use Rattle.player_walk.proofs.way_of.Goals as goal
 
 pub returns-then-word-eq0 : goal.returns-then-word-eq0

@@ -1,6 +1,5 @@
 -- `player_walk::wrapped`: the two kinds of order.
 use borrow.Author.Tests.{lt-ltb, le-ltb}
-use borrow.Author.Rules.{rules}
 use Rattle.player_walk.proofs.wrapped.Goals as goal
 
 pub returns-then-repeat : goal.returns-then-repeat
