@@ -307,9 +307,9 @@ module _ (k : Lent) (right : lent_rule k ≡ true) (L : Ledger) (d : Desk) (ok :
   -- the refusals of a take carry nothing where the catalogue is right
   no_values : (carried : List ℕ) (wrong misnamed small fallen : Bool) → wrong ≡ false
       → (said_by (row_with 200 carried wrong ∷ row 224 misnamed ∷ row 205 small ∷ row 201 fallen ∷ [])).values ≡ []
-  no_values carried true misnamed small fallen e = clash (sym e)
-  no_values carried false true small fallen e = refl
-  no_values carried false false true fallen e = refl
+  no_values carried true misnamed small _ e = clash (sym e)
+  no_values carried false true small _ e = refl
+  no_values carried false false true _ e = refl
   no_values carried false false false true e = refl
   no_values carried false false false false e = refl
 
