@@ -2,6 +2,7 @@
 // Writes the counts and "catalogue fine"; of a card with a bad block the refusal number, the block and what is wrong with it, in words; of a title that is not
 // UTF-8 the refusal number, its track and the octet; or the refusal number alone.
 #![tactic(auto)]
+
 ghost use Rattle.std.specs.Prelude.{◌≤◌};
 
 use card_load::{Counts, Loaded};

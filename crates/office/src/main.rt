@@ -12,6 +12,7 @@
 // nothing is renamed, as in the beginning; else the word is how many words the entries have, and the text is these, little endian, and then the office's text.
 // The text of a manual's Goto: little endian words, the allowed steps and the opcode.
 #![tactic(auto)]
+
 ghost use Rattle.std.specs.Prelude.{◌-◌, ◌<◌, ◌≤◌, length};
 ghost use Rattle.desk_slots.specs.Slots.{slot_count};
 

@@ -1,6 +1,7 @@
 // Reads a card from standard input, loads it into tables at the limits, and checks the catalogue that it holds. Writes, for each group with tracks, in
 // number order, its number, a colon and its tracks in order 5, a space before each; or the refusal number alone (SCOPE 22.3).
 #![tactic(auto)]
+
 ghost use Rattle.std.specs.Prelude.{◌≤◌, length};
 ghost use Rattle.ground.specs.Limits.{most_groups};
 ghost use Rattle.player_orders.specs.Order.{Run};

@@ -3,6 +3,7 @@
 // be written, 6 and 7 catalogue and group or track whose Group object or Track Segments object is to be written, 8 and 9 such an object that is to be read, 10
 // catalogue with the office's titles), an octet for the length of the name, the name, the case.
 #![tactic(auto)]
+
 ghost use Rattle.std.specs.Prelude.{◌-◌, ◌≤◌, length};
 
 use card_load::Loaded;

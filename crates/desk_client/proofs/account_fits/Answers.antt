@@ -3,7 +3,6 @@ use mathlib.Core.Bool.{◌&&◌, ◌||◌}
 use lib.Dec.{eqb}
 use Rattle.ground.proofs.Cases.{past, here}
 use Rattle.desk_client.specs.Client.{account_fits}
-use borrow.Author.Rules.{rules}
 use Rattle.desk_client.proofs.account_fits.Goals as goal
 
 pub returns-then-l : goal.returns-then-l

@@ -10,7 +10,6 @@ use Rattle.desk_slots.specs.Slots.{only_slots, inter}
 use Rattle.desk_slots.proofs.SetLaws.{readable_word}
 use Rattle.desk_client.specs.Client.{only_readable, alike, control_slot, codes_right, account_rule}
 use Rattle.desk_client.specs.declared.Account.{Account}
-use borrow.Author.Rules.{rules}
 -- too many results fail the rule, whatever else holds
 use Rattle.desk_client.proofs.account_right.Goals as goal
 

@@ -1,11 +1,9 @@
 -- `desk_client::accounts_fit`: after v turns, the accounts with the first v services.
-use mathlib.Core.Path.{◌≡◌, refl}
-use Prim.Native.Nat.{◌≤◌, ◌-◌}
+use mathlib.Core.Path.{refl}
+use Prim.Native.Nat.{◌-◌}
 use native.Mathlib.Omega.{arith}
-use lib.ListN.{get_or}
 use Rattle.ground.specs.Lists.{all_below}
 use Rattle.ground.proofs.Bounded.{all_turn, all_end}
-use Rattle.desk_client.specs.Client.{account_fits, no_account}
 use borrow.Author.Rules.{rules}
 use Rattle.desk_client.proofs.accounts_fit.Goals as goal
 

@@ -1,12 +1,9 @@
 -- `desk_client::accounts_fit`: after v turns, the accounts with the first v services.
-use mathlib.Core.Path.{◌≡◌, refl}
+use mathlib.Core.Path.{◌≡◌}
 use Prim.Native.Nat.{◌≤◌, ◌-◌}
-use native.Mathlib.Omega.{arith}
 use lib.ListN.{get_or}
 use Rattle.ground.specs.Lists.{all_below}
-use Rattle.ground.proofs.Bounded.{all_turn, all_end}
 use Rattle.desk_client.specs.Client.{account_fits, no_account}
-use borrow.Author.Rules.{rules}
 use Rattle.desk_client.proofs.accounts_fit.Given as goal
 
 abbrev pub invariant-loop-v : goal.invariant-loop-v

@@ -1,7 +1,6 @@
 -- `desk_client::blank_client`: as many blank accounts as services.
 use lib.ListN.{replicate}
 use Rattle.desk_slots.specs.Slots.{service_count}
-use borrow.Author.Rules.{rules}
 use Rattle.desk_client.proofs.blank_client.Goals as goal
 
 pub returns : goal.returns

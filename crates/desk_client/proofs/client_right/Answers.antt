@@ -1,7 +1,6 @@
 -- `desk_client::client_right`: the link, and the accounts.
 use mathlib.Core.Bool.{◌&&◌}
 use Rattle.desk_client.specs.Client.{client_rule}
-use borrow.Author.Rules.{rules}
 use Rattle.desk_client.proofs.client_right.Goals as goal
 
 pub returns : goal.returns

@@ -1,13 +1,10 @@
 -- `desk_client::codes_right`: after i turns, the first i codes.
-use mathlib.Core.Path.{◌≡◌, refl}
-use Prim.Native.Nat.{◌≤◌, ◌-◌}
+use mathlib.Core.Path.{refl}
+use Prim.Native.Nat.{◌-◌}
 use native.Mathlib.Omega.{arith}
 use borrow.Author.Rules.{rules}
-use lib.ListN.{length, get_or}
-use Rattle.ground.specs.Cases.{within}
 use Rattle.ground.specs.Lists.{all_below}
 use Rattle.ground.proofs.Bounded.{all_turn, all_end}
-use Rattle.desk_client.specs.Client.{blank_entry}
 use Rattle.desk_client.proofs.codes_right.Goals as goal
 
 pub loop-i-init : goal.loop-i-init

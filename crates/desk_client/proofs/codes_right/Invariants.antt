@@ -1,12 +1,9 @@
 -- `desk_client::codes_right`: after i turns, the first i codes.
-use mathlib.Core.Path.{◌≡◌, refl}
+use mathlib.Core.Path.{◌≡◌}
 use Prim.Native.Nat.{◌≤◌, ◌-◌}
-use native.Mathlib.Omega.{arith}
-use borrow.Author.Rules.{rules}
 use lib.ListN.{length, get_or}
 use Rattle.ground.specs.Cases.{within}
 use Rattle.ground.specs.Lists.{all_below}
-use Rattle.ground.proofs.Bounded.{all_turn, all_end}
 use Rattle.desk_client.specs.Client.{blank_entry}
 use Rattle.desk_client.proofs.codes_right.Given as goal
 

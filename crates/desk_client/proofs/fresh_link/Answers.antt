@@ -1,7 +1,6 @@
 -- `desk_client::fresh_link`: start's.
 use mathlib.Core.Path.{refl}
 use Rattle.desk_client.specs.Client.{start_link}
-use borrow.Author.Rules.{rules}
 use Rattle.desk_client.proofs.fresh_link.Goals as goal
 
 pub returns : goal.returns

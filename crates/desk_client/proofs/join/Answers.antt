@@ -1,6 +1,5 @@
 -- `desk_client::join`: the slot is put in.
 use Rattle.desk_client.specs.Duties.{joined}
-use borrow.Author.Rules.{rules}
 use Rattle.desk_client.proofs.join.Goals as goal
 
 pub returns : goal.returns

@@ -1,7 +1,6 @@
 -- `desk_client::leave`: the slot is taken out of both sets, and of 18 the results with it.
 use mathlib.Core.Path.{sym, ◌∙◌}
 use Rattle.desk_client.specs.Duties.{dropped}
-use borrow.Author.Rules.{rules}
 use Rattle.desk_client.proofs.leave.Goals as goal
 
 pub returns-then-is_control : goal.returns-then-is_control

@@ -5,7 +5,6 @@ use lib.Dec.{ltb}
 use Rattle.ground.proofs.Cases.{past, here}
 use Rattle.desk_slots.specs.Slots.{place_count}
 use Rattle.desk_client.specs.Client.{link_rule}
-use borrow.Author.Rules.{rules}
 use Rattle.desk_client.proofs.link_right.Goals as goal
 
 pub returns-then-l : goal.returns-then-l

@@ -1,6 +1,5 @@
 -- `desk_client::mark_read`: the characteristic is put in.
 use Rattle.desk_client.specs.Duties.{was_read}
-use borrow.Author.Rules.{rules}
 use Rattle.desk_client.proofs.mark_read.Goals as goal
 
 pub returns : goal.returns

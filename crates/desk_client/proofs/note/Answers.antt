@@ -1,6 +1,5 @@
 -- `desk_client::note`: what fell due is owed where it is subscribed, and what was altered is no longer as it was read.
 use Rattle.desk_client.specs.Duties.{noted}
-use borrow.Author.Rules.{rules}
 use Rattle.desk_client.proofs.note.Goals as goal
 
 pub returns : goal.returns

@@ -1,9 +1,7 @@
 -- `desk_client::note_result`: a result for a client subscribed to 18, and nothing for another.
 use mathlib.Core.Path.{refl, sym, ◌∙◌}
-use borrow.Author.Tests.{not-true, not-false}
 use Rattle.ground.proofs.Cases.{past, here}
 use Rattle.desk_client.specs.Duties.{resulted}
-use borrow.Author.Rules.{rules}
 use Rattle.desk_client.proofs.note_result.Goals as goal
 
 pub returns-then-not-has_bit : goal.returns-then-not-has_bit

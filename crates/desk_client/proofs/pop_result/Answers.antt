@@ -1,7 +1,6 @@
 -- `desk_client::pop_result`: the oldest goes, where one waits.
 use borrow.Author.Tests.{eq-eqb, ne_eqb}
 use Rattle.desk_client.specs.Queue.{popped}
-use borrow.Author.Rules.{rules}
 use Rattle.desk_client.proofs.pop_result.Goals as goal
 
 pub returns-then-n-eq0 : goal.returns-then-n-eq0

@@ -1,7 +1,6 @@
 -- `desk_client::push_result`: behind those that wait, where there is room.
 use borrow.Author.Tests.{lt-ltb, le-ltb}
 use Rattle.desk_client.specs.Queue.{pushed}
-use borrow.Author.Rules.{rules}
 use Rattle.desk_client.proofs.push_result.Goals as goal
 
 pub returns-then-at-ge-MOST_RESULTS : goal.returns-then-at-ge-MOST_RESULTS

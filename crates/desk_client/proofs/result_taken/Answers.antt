@@ -1,7 +1,6 @@
 -- `desk_client::result_taken`: 18 is owed as long as others wait.
 use borrow.Author.Tests.{lt-ltb, le-ltb}
 use Rattle.desk_client.specs.Duties.{result_taken}
-use borrow.Author.Rules.{rules}
 use Rattle.desk_client.proofs.result_taken.Goals as goal
 
 pub returns-then-a-gt1 : goal.returns-then-a-gt1

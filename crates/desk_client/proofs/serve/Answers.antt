@@ -5,7 +5,6 @@ use Rattle.desk_client.specs.Client.{no_account}
 use Rattle.desk_client.specs.Setters.{with_mark}
 use Rattle.desk_client.specs.Duties.{served, passed_on}
 use Prim.Native.Nat.{ℕ}
-use borrow.Author.Rules.{rules}
 use Rattle.desk_client.proofs.serve.Goals as goal
 
 pub returns : goal.returns

@@ -2,7 +2,6 @@
 use mathlib.Core.Path.{sym, ◌∙◌}
 use Rattle.ground.proofs.Cases.{past, here}
 use Rattle.desk_client.specs.Duties.{served}
-use borrow.Author.Rules.{rules}
 use Rattle.desk_client.proofs.slot_served.Goals as goal
 
 pub returns-then-is_control : goal.returns-then-is_control

@@ -10,7 +10,6 @@ use Rattle.mcs_state.specs.Codec.{desk_of}
 use Rattle.desk_notices.specs.Owed.{settled}
 use Rattle.desk_replies.specs.declared.Answer.TheVariants.{Done}
 use Rattle.desk_replies.proofs.Gates.{accepted_so}
-use borrow.Author.Rules.{rules}
 use Rattle.desk_console.proofs.becoming.Goals as goal
 
 pub service_at-s-requires-clause-service_lt_service_count : goal.service_at-s-requires-clause-service_lt_service_count

@@ -1,7 +1,6 @@
 -- `desk_console::fresh`: each player freshly started.
 use Rattle.desk_state.specs.Desk.{started_desk}
 use mathlib.Core.Path.{ap₂, ◌∙◌}
-use borrow.Author.Rules.{rules}
 use Rattle.desk_console.proofs.fresh.Goals as goal
 
 pub returns : goal.returns

@@ -5,7 +5,6 @@ use borrow.Author.Tests.{eq-eqb, ne_eqb}
 use Rattle.player_state.specs.Player.{playing}
 use Rattle.player_moves.specs.Clock.{stays_below}
 use Rattle.desk_console.specs.Console.{quiet_advance}
-use borrow.Author.Rules.{rules}
 use Rattle.desk_console.proofs.is_quiet.Goals as goal
 
 pub returns-then-p-eq-PLAYING : goal.returns-then-p-eq-PLAYING

@@ -1,12 +1,11 @@
 -- `desk_console::name_gate`: the gate says what was said of the name.
-use mathlib.Core.Path.{◌≡◌, refl, sym, ap, ◌∙◌}
+use mathlib.Core.Path.{◌≡◌, sym, ap, ◌∙◌}
 use mathlib.Core.List.{[], ◌∷◌}
 use Rattle.ground.specs.Refusals.{granted, said_by}
 use Rattle.text.specs.declared.Checked.{Checked}
 use Rattle.text.specs.Utf8.{said_of}
 use Rattle.player_check.specs.Standing.{name_row}
 use Rattle.desk_replies.proofs.Gates.{says}
-use borrow.Author.Rules.{rules}
 -- what was said of it is what its row says
 use Rattle.desk_console.proofs.name_gate.Goals as goal
 

@@ -15,7 +15,6 @@ use Rattle.desk_replies.specs.declared.Answer.TheVariants.{Done}
 use Rattle.desk_replies.specs.Replies.{lent_rows}
 use Rattle.desk_replies.proofs.Gates.{refuses, none, shut_gate, refused_as, accepted_so}
 use Rattle.desk_console.specs.Console.{Beginning, freshly, nameless, start_call}
-use borrow.Author.Rules.{rules}
 use Rattle.desk_console.proofs.start.Goals as goal
 
 pub returns-then-not-g : goal.returns-then-not-g

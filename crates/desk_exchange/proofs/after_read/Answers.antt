@@ -2,7 +2,6 @@
 use mathlib.Core.Path.{refl}
 use borrow.Author.Tests.{eq-eqb, ne_eqb}
 use Rattle.ground.proofs.Cases.{past, here}
-use borrow.Author.Rules.{rules}
 use Rattle.desk_exchange.proofs.after_read.Goals as goal
 
 pub returns-then-offset-eq0 : goal.returns-then-offset-eq0

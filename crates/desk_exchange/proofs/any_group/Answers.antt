@@ -12,7 +12,6 @@ use Rattle.player_state.specs.Player.{inactive}
 use Rattle.player_check.specs.Standing.{group_rule}
 use Rattle.desk_exchange.specs.Write.{object_of, group_at, any_group}
 use Rattle.desk_exchange.proofs.Written.{not_looked_up, not_below, looked_up}
-use borrow.Author.Rules.{rules}
 use Rattle.desk_exchange.proofs.any_group.Goals as goal
 
 -- behind the last group there is none

@@ -10,7 +10,6 @@ use Rattle.player_values.proofs.Fits.{player_sits}
 use Rattle.desk_notices.specs.Owed.{settled}
 use Rattle.desk_exchange.specs.Write.{written}
 use Rattle.desk_exchange.proofs.Written.{written_sits}
-use borrow.Author.Rules.{rules}
 use Rattle.desk_exchange.proofs.carry_out.Goals as goal
 
 pub returns-then-characteristic-eq18 : goal.returns-then-characteristic-eq18

@@ -15,7 +15,6 @@ use Rattle.desk_state.specs.declared.Service.{Service}
 use Rattle.desk_state.specs.Desk.{account_in, with_account}
 use Rattle.desk_notices.specs.Owed.{settled}
 use Rattle.desk_exchange.specs.Write.{control_written}
-use borrow.Author.Rules.{rules}
 use Rattle.desk_exchange.proofs.control.Goals as goal
 
 pub control-done-requires-clause-shaped : goal.control-done-requires-clause-shaped

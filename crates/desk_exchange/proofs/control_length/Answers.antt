@@ -7,7 +7,6 @@ use lib.ListN.{length}
 use Rattle.ground.specs.Cases.{within}
 use Rattle.player_opcodes.specs.Opcodes.{parameter_length}
 use Rattle.desk_exchange.specs.Write.{control_length}
-use borrow.Author.Rules.{rules}
 use Rattle.desk_exchange.proofs.control_length.Goals as goal
 
 pub returns : goal.returns

@@ -5,7 +5,6 @@ use Rattle.ground.specs.Cases.{within}
 use Rattle.ground.proofs.Cases.{past}
 use Rattle.desk_exchange.specs.Write.{allowed}
 use Rattle.desk_exchange.proofs.Written.{track_long, next_long, group_long}
-use borrow.Author.Rules.{rules}
 use Rattle.desk_exchange.proofs.is_allowed.Goals as goal
 
 pub own_track-requires : goal.own_track-requires

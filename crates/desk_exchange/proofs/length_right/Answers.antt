@@ -6,7 +6,6 @@ use lib.Dec.{eqb}
 use lib.ListN.{length}
 use Rattle.ground.proofs.Cases.{past, here}
 use Rattle.desk_exchange.specs.Write.{length_right}
-use borrow.Author.Rules.{rules}
 use Rattle.desk_exchange.proofs.length_right.Goals as goal
 
 pub returns-then-characteristic-eq18 : goal.returns-then-characteristic-eq18

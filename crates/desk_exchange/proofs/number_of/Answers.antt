@@ -3,7 +3,6 @@ use mathlib.Core.Path.{refl}
 use borrow.Author.Tests.{eq-eqb, ne_eqb}
 use Rattle.ground.proofs.Cases.{past, here}
 use Rattle.desk_exchange.specs.Write.{number_of}
-use borrow.Author.Rules.{rules}
 use Rattle.desk_exchange.proofs.number_of.Goals as goal
 
 pub returns-then-value-eq5 : goal.returns-then-value-eq5

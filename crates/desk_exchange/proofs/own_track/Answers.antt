@@ -8,7 +8,6 @@ use Rattle.player_state.specs.Player.{inactive}
 use Rattle.player_check.specs.Standing.{in_group}
 use Rattle.desk_exchange.specs.Write.{object_of, own_track}
 use Rattle.desk_exchange.proofs.Written.{not_looked_up, not_below, looked_up}
-use borrow.Author.Rules.{rules}
 use Rattle.desk_exchange.proofs.own_track.Goals as goal
 
 pub returns-then-p-object : goal.returns-then-p-object

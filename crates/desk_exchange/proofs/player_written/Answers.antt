@@ -11,7 +11,6 @@ use Rattle.player_moves.specs.Clock.{positioned, track_written, group_written}
 use Rattle.player_moves.proofs.Ready.{shaped, run_of}
 use Rattle.desk_exchange.specs.Write.{group_at, player_written}
 use Rattle.desk_exchange.proofs.Written.{position_long, track_long, next_long, group_long, track_allowed, next_allowed, group_allowed, track_above, track_within, track_small, group_above, group_right, group_small}
-use borrow.Author.Rules.{rules}
 use Rattle.desk_exchange.proofs.player_written.Goals as goal
 
 pub word_at-requires : goal.word_at-requires

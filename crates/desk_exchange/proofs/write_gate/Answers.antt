@@ -22,7 +22,6 @@ use Rattle.mcs_state.specs.Codec.{desk_of}
 use Rattle.desk_replies.specs.Replies.{Gated, fronted, of_caller, of_characteristic, link_of, account_of}
 use Rattle.desk_replies.proofs.Gates.{says, none, stays_shut, stays_open, fit}
 use Rattle.desk_exchange.specs.Write.{length_right, allowed}
-use borrow.Author.Rules.{rules}
 use Rattle.desk_exchange.proofs.write_gate.Goals as goal
 
 pub returns-then-not-g : goal.returns-then-not-g

@@ -13,7 +13,6 @@ use Rattle.desk_replies.specs.Replies.{on_service}
 use Rattle.desk_replies.proofs.Gates.{refuses, none}
 use Rattle.desk_goto.specs.Manual.{arrival_of, no_arrival, manual_call}
 use Rattle.desk_goto.proofs.Standing.{there, shaped_now, player_now}
-use borrow.Author.Rules.{rules}
 use Rattle.desk_goto.proofs.manual_goto.Goals as goal
 
 pub returns-then-not-g : goal.returns-then-not-g

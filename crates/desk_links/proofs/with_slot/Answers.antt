@@ -1,5 +1,4 @@
 -- `desk_links::with_slot`: put in, or taken out.
-use borrow.Author.Rules.{rules}
 use Rattle.desk_links.proofs.with_slot.Goals as goal
 
 pub returns-then-on : goal.returns-then-on

@@ -1,14 +1,12 @@
 -- `desk_notices::due_to`: after s turns, the slots below s.
-use mathlib.Core.Path.{◌≡◌, refl, ap, ◌∙◌}
+use mathlib.Core.Path.{refl, ap, ◌∙◌}
 use mathlib.Core.Bool.{not, ◌&&◌}
-use Prim.Native.Nat.{◌≤◌, ◌-◌}
+use Prim.Native.Nat.{◌-◌}
 use native.Mathlib.Omega.{arith}
 use Rattle.ground.specs.Cases.{has}
-use Rattle.desk_slots.specs.Slots.{slot_count}
 use Rattle.desk_slots.specs.Characteristics.{set_of}
 use Rattle.desk_slots.proofs.SetLaws.{set_turn, set_end}
 use Rattle.desk_notices.specs.Owed.{falls_due, spared, falls}
-use borrow.Author.Rules.{rules}
 use Rattle.desk_notices.proofs.due_to.Goals as goal
 
 pub loop-s-init : goal.loop-s-init

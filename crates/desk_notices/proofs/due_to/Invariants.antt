@@ -1,14 +1,9 @@
 -- `desk_notices::due_to`: after s turns, the slots below s.
-use mathlib.Core.Path.{◌≡◌, refl, ap, ◌∙◌}
-use mathlib.Core.Bool.{not, ◌&&◌}
+use mathlib.Core.Path.{◌≡◌}
 use Prim.Native.Nat.{◌≤◌, ◌-◌}
-use native.Mathlib.Omega.{arith}
-use Rattle.ground.specs.Cases.{has}
 use Rattle.desk_slots.specs.Slots.{slot_count}
 use Rattle.desk_slots.specs.Characteristics.{set_of}
-use Rattle.desk_slots.proofs.SetLaws.{set_turn, set_end}
-use Rattle.desk_notices.specs.Owed.{falls_due, spared, falls}
-use borrow.Author.Rules.{rules}
+use Rattle.desk_notices.specs.Owed.{falls}
 use Rattle.desk_notices.proofs.due_to.Given as goal
 
 abbrev pub invariant-loop-s : goal.invariant-loop-s

@@ -3,7 +3,6 @@ use mathlib.Core.Path.{ap}
 use mathlib.Core.Bool.{Bool, ◌&&◌, ◌||◌}
 use lib.Dec.{eqb}
 use Rattle.desk_notices.specs.Owed.{spared}
-use borrow.Author.Rules.{rules}
 use Rattle.desk_notices.proofs.is_spared.Goals as goal
 
 pub returns : goal.returns

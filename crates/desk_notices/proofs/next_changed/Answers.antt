@@ -4,7 +4,6 @@ use mathlib.Core.Bool.{not}
 use Rattle.player_values.specs.Values.{object_octets}
 use Rattle.desk_notices.specs.Changes.{same_octets}
 use Rattle.desk_notices.proofs.Differing.{eq_same, next_same}
-use borrow.Author.Rules.{rules}
 use Rattle.desk_notices.proofs.next_changed.Goals as goal
 
 pub returns-then-same_next : goal.returns-then-same_next

@@ -1,9 +1,9 @@
 -- `desk_notices::note_all`: after i turns, the first i accounts are told.
 use mathlib.Core.Path.{◌≡◌, refl, ap, ◌∙◌}
-use Prim.Native.Nat.{ℕ, ◌≤◌, ◌-◌}
+use Prim.Native.Nat.{ℕ, ◌-◌}
 use native.Mathlib.Omega.{arith}
-use lib.ListN.{length, get_or}
-use Rattle.ground.proofs.Sweep.{up_to, turn, swept}
+use lib.ListN.{get_or}
+use Rattle.ground.proofs.Sweep.{turn, swept}
 use Rattle.desk_client.specs.Client.{no_account}
 use Rattle.desk_client.specs.Duties.{noted}
 use Rattle.desk_notices.specs.Owed.{noticed}

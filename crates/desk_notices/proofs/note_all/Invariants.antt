@@ -1,13 +1,9 @@
 -- `desk_notices::note_all`: after i turns, the first i accounts are told.
-use mathlib.Core.Path.{◌≡◌, refl, ap, ◌∙◌}
-use Prim.Native.Nat.{ℕ, ◌≤◌, ◌-◌}
-use native.Mathlib.Omega.{arith}
-use lib.ListN.{length, get_or}
-use Rattle.ground.proofs.Sweep.{up_to, turn, swept}
-use Rattle.desk_client.specs.Client.{no_account}
-use Rattle.desk_client.specs.Duties.{noted}
+use mathlib.Core.Path.{◌≡◌}
+use Prim.Native.Nat.{◌≤◌, ◌-◌}
+use lib.ListN.{length}
+use Rattle.ground.proofs.Sweep.{up_to}
 use Rattle.desk_notices.specs.Owed.{noticed}
-use borrow.Author.Rules.{rules}
 use Rattle.desk_notices.proofs.note_all.Given as goal
 
 abbrev pub invariant-loop-i : goal.invariant-loop-i

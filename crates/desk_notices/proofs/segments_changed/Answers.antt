@@ -3,7 +3,6 @@ use mathlib.Core.Path.{◌∙◌}
 use mathlib.Core.Bool.{not}
 use Rattle.player_values.specs.Values.{object_octets}
 use Rattle.desk_notices.specs.Changes.{same_octets}
-use borrow.Author.Rules.{rules}
 use Rattle.desk_notices.proofs.segments_changed.Goals as goal
 
 pub returns : goal.returns

@@ -4,7 +4,6 @@ use Rattle.ground.specs.Lists.{map_from}
 use Rattle.desk_client.specs.Duties.{noted}
 use Rattle.desk_notices.specs.Owed.{noticed, due_to, altered_of, settled}
 use Rattle.desk_notices.proofs.Laws.{due_is}
-use borrow.Author.Rules.{rules}
 use Rattle.player_values.specs.Values.{source}
 use Rattle.desk_notices.proofs.settle.Goals as goal
 

@@ -2,7 +2,6 @@
 use mathlib.Core.Path.{ap, ◌∙◌}
 use mathlib.Core.Bool.{not}
 use Rattle.desk_notices.specs.Changes.{same_octets}
-use borrow.Author.Rules.{rules}
 use Rattle.desk_notices.proofs.title_changed.Goals as goal
 
 pub returns : goal.returns

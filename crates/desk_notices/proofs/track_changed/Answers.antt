@@ -2,7 +2,6 @@
 use mathlib.Core.Bool.{not}
 use lib.Dec.{eqb}
 use Rattle.desk_notices.specs.Changes.{track_changed}
-use borrow.Author.Rules.{rules}
 use Rattle.desk_notices.proofs.track_changed.Goals as goal
 
 pub returns : goal.returns

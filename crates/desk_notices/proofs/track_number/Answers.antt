@@ -2,7 +2,6 @@
 use mathlib.Core.Path.{refl}
 use borrow.Author.Tests.{eq-eqb, ne_eqb}
 use Rattle.desk_notices.specs.Changes.{track_number}
-use borrow.Author.Rules.{rules}
 use Rattle.desk_notices.proofs.track_number.Goals as goal
 
 pub returns-then-p-eq-INACTIVE : goal.returns-then-p-eq-INACTIVE

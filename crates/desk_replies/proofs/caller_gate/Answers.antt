@@ -11,7 +11,6 @@ use Rattle.desk_client.specs.declared.Link.{Link}
 use Rattle.mcs_state.specs.Codec.{desk_of}
 use Rattle.desk_replies.specs.Replies.{fronted, client_row, service_row, connected_row, link_of}
 use Rattle.desk_replies.proofs.Gates.{says, none, stays_shut, stays_open}
-use borrow.Author.Rules.{rules}
 use Rattle.desk_replies.proofs.caller_gate.Goals as goal
 
 pub returns-then-not-g : goal.returns-then-not-g

@@ -12,7 +12,6 @@ use Rattle.desk_client.specs.declared.Link.{Link}
 use Rattle.mcs_state.specs.Codec.{desk_of}
 use Rattle.desk_replies.specs.Replies.{fronted, of_caller, of_characteristic, link_of}
 use Rattle.desk_replies.proofs.Gates.{says, none, stays_shut, stays_open}
-use borrow.Author.Rules.{rules}
 use Rattle.desk_replies.proofs.characteristic_gate.Goals as goal
 
 pub returns-then-not-g : goal.returns-then-not-g

@@ -9,7 +9,6 @@ use Rattle.catalogue_titles.specs.Lent.{Lent, lending}
 use Rattle.mcs_state.specs.Codec.{desk_of}
 use Rattle.desk_replies.specs.Replies.{fronted, client_row}
 use Rattle.desk_replies.proofs.Gates.{says, none, stays_shut, stays_open}
-use borrow.Author.Rules.{rules}
 use Rattle.desk_replies.proofs.client_gate.Goals as goal
 
 pub returns-then-not-g : goal.returns-then-not-g

@@ -9,7 +9,6 @@ use Rattle.mcs_state.specs.Codec.{desk_of}
 use Rattle.desk_replies.specs.Replies.{state_row, state_right, lent_rows, fronted}
 use Rattle.desk_replies.proofs.Gates.{says, none, stays_shut, stays_open}
 use borrow.Author.Tests.{not-true, not-false}
-use borrow.Author.Rules.{rules}
 use Rattle.desk_replies.proofs.front_gate.Goals as goal
 
 pub returns-then-not-g : goal.returns-then-not-g

@@ -1,6 +1,5 @@
 -- `desk_replies::gate_shut`: shut by the number alone.
 use mathlib.Core.Path.{◌∙◌}
-use borrow.Author.Rules.{rules}
 use Rattle.desk_replies.proofs.gate_shut.Goals as goal
 
 pub returns : goal.returns

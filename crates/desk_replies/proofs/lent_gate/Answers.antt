@@ -11,7 +11,6 @@ use Rattle.catalogue_check.specs.declared.Catalogue.TheVariants.{Fine}
 use Rattle.catalogue_check.specs.Catalogue.{said_of}
 use Rattle.desk_replies.specs.Replies.{lent_rows}
 use Rattle.desk_replies.proofs.Gates.{says}
-use borrow.Author.Rules.{rules}
 use Rattle.desk_replies.proofs.lent_gate.Goals as goal
 
 pub returns-then-small : goal.returns-then-small

@@ -1,5 +1,4 @@
 -- `desk_replies::refuse`: the number alone.
-use borrow.Author.Rules.{rules}
 use Rattle.desk_replies.proofs.refuse.Goals as goal
 
 pub returns : goal.returns

@@ -3,7 +3,6 @@ use mathlib.Core.Path.{sym, ap, ◌∙◌}
 use mathlib.Core.Bool.{Bool, ◌&&◌}
 use borrow.Author.Tests.{lt-ltb, le-ltb}
 use Rattle.ground.specs.Cases.{has}
-use borrow.Author.Rules.{rules}
 use Rattle.desk_slots.proofs.in_word.Goals as goal
 
 pub returns-then-c-lt32 : goal.returns-then-c-lt32

@@ -3,7 +3,6 @@ use mathlib.Core.Path.{◌∙◌, refl}
 use Rattle.desk_slots.specs.Slots.{insert}
 use Rattle.desk_slots.specs.Characteristics.{readables, is_in, set_of}
 use Rattle.desk_slots.proofs.SetLaws.{listed}
-use borrow.Author.Rules.{rules}
 use Rattle.desk_slots.proofs.may_read.Goals as goal
 
 pub returns : goal.returns

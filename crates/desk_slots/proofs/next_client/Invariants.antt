@@ -1,11 +1,9 @@
 -- `desk_slots::next_client`: what the search finds from distance d on is still the answer.
-use mathlib.Core.Path.{◌≡◌, sym, ◌∙◌}
-use Prim.Native.Nat.{◌+◌, ◌-◌, ◌%◌, ◌≤◌}
-use native.Mathlib.Omega.{arith}
+use mathlib.Core.Path.{◌≡◌}
+use Prim.Native.Nat.{◌+◌, ◌-◌, ◌≤◌}
 use Rattle.desk_slots.specs.Slots.{client_count, owing}
-use Rattle.desk_slots.proofs.SlotLaws.{owing_some, owing_none}
 use Rattle.desk_slots.specs.Round.{next}
-use Rattle.desk_slots.proofs.Scan.{scan, scan_start, scan_hit, scan_pass, scan_end}
+use Rattle.desk_slots.proofs.Scan.{scan}
 use Rattle.desk_slots.proofs.next_client.Given as goal
 
 abbrev pub invariant-loop-d : goal.invariant-loop-d

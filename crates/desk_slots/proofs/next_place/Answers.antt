@@ -1,6 +1,5 @@
 -- `desk_slots::next_place`: the trailing zeros of the turned word are the places passed over.
 use Prim.Native.Nat.{ℕ, ◌+◌, ◌^◌, ◌<◌}
-use borrow.Author.Rules.{rules}
 use native.Mathlib.Omega.{arith}
 use lib.Count.{count_trailing_zeros, trailing_le}
 use lib.Dec.{lit≤}

@@ -1,5 +1,4 @@
 -- `desk_slots::with`: a bit set by a mask of one bit is a slot put in.
-use borrow.Author.Rules.{rules}
 use lib.Dec.{lit≤}
 use Rattle.desk_slots.proofs.CodeLaws.{insert_code}
 use Rattle.desk_slots.proofs.with.Goals as goal

@@ -1,7 +1,6 @@
 -- `desk_slots::with_if`: put in, or as it was.
 use mathlib.Core.Path.{refl}
 use Rattle.ground.proofs.Cases.{past, here}
-use borrow.Author.Rules.{rules}
 use Rattle.desk_slots.proofs.with_if.Goals as goal
 
 pub returns-then-on : goal.returns-then-on

@@ -1,5 +1,4 @@
 -- `desk_slots::without`: a bit cleared by the complement of one bit is a slot taken out.
-use borrow.Author.Rules.{rules}
 use lib.Dec.{lit≤}
 use Rattle.desk_slots.proofs.CodeLaws.{remove_code}
 use Rattle.desk_slots.proofs.without.Goals as goal

@@ -3,7 +3,6 @@ use mathlib.Core.List.{[], ◌∷◌}
 use lib.ListN.{replicate}
 use Rattle.desk_slots.specs.Slots.{client_count}
 use Rattle.desk_state.specs.Desk.{started_desk}
-use borrow.Author.Rules.{rules}
 use Rattle.desk_state.proofs.fresh_desk.Goals as goal
 
 pub returns : goal.returns

@@ -1,7 +1,6 @@
 -- `desk_state::fresh_service`: four blank accounts.
 use lib.ListN.{replicate}
 use Rattle.desk_slots.specs.Slots.{client_count}
-use borrow.Author.Rules.{rules}
 use Rattle.desk_state.proofs.fresh_service.Goals as goal
 
 pub returns : goal.returns

@@ -20,7 +20,6 @@ use Rattle.desk_client.specs.Duties.{passed_on}
 use Rattle.desk_client.proofs.Rule.{client_link, mtu_least, mark_within}
 use Rattle.desk_take.specs.Serving.{next_place, result_octets, player_at, handed_octets, handed_values}
 use Rattle.desk_take.proofs.Laws.{each_player, result_handed, value_handed}
-use borrow.Author.Rules.{rules}
 use Rattle.desk_take.proofs.hand_out.Goals as goal
 
 pub next_place-place-requires : goal.next_place-place-requires

@@ -2,7 +2,6 @@
 use mathlib.Core.List.{[], ◌∷◌}
 use native.Mathlib.Omega.{arith}
 use Rattle.desk_take.specs.Take.{owed_sets}
-use borrow.Author.Rules.{rules}
 use Rattle.desk_take.proofs.owed_sets.Goals as goal
 
 pub owed_to-a-requires-clause-who_lt_client_count : goal.owed_to-a-requires-clause-who_lt_client_count

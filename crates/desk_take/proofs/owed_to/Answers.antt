@@ -4,7 +4,6 @@ use mathlib.Core.Bool.{true}
 use Rattle.desk_client.specs.declared.Client.{Client}
 use Rattle.desk_client.specs.Client.{client_rule}
 use Rattle.desk_take.specs.Serving.{places_owed}
-use borrow.Author.Rules.{rules}
 use Rattle.desk_take.proofs.owed_to.Goals as goal
 
 pub places_owed-requires : goal.places_owed-requires

@@ -2,7 +2,6 @@
 use native.Mathlib.Omega.{arith}
 use Rattle.desk_take.specs.Serving.{places_owed}
 use Rattle.desk_take.proofs.Laws.{owed_set}
-use borrow.Author.Rules.{rules}
 use Rattle.desk_take.proofs.places_owed.Goals as goal
 
 pub places_of-requires : goal.places_of-requires

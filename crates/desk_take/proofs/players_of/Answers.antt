@@ -1,6 +1,5 @@
 -- `desk_take::players_of`: the player of each service.
 use mathlib.Core.List.{[], ◌∷◌}
-use borrow.Author.Rules.{rules}
 use Rattle.desk_take.proofs.players_of.Goals as goal
 
 pub returns : goal.returns

@@ -1,11 +1,10 @@
 -- `desk_take::players_right`: after v turns, the first v players.
-use mathlib.Core.Path.{◌≡◌, refl}
-use Prim.Native.Nat.{◌≤◌, ◌-◌}
+use mathlib.Core.Path.{refl}
+use Prim.Native.Nat.{◌-◌}
 use native.Mathlib.Omega.{arith}
 use Rattle.ground.specs.Lists.{all_below}
 use Rattle.ground.proofs.Bounded.{all_turn, all_end}
-use Rattle.player_check.specs.Standing.{player_rule}
-use Rattle.desk_take.specs.Serving.{player_at, players_rule}
+use Rattle.desk_take.specs.Serving.{players_rule}
 use borrow.Author.Rules.{rules}
 use Rattle.desk_take.proofs.players_right.Goals as goal
 

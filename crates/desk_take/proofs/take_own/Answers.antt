@@ -18,7 +18,6 @@ use Rattle.desk_client.specs.Client.{client_rule}
 use Rattle.desk_replies.specs.Replies.{lent_rows, state_row}
 use Rattle.desk_replies.proofs.Gates.{refuses, none, none_fit, as_it_was, shown}
 use Rattle.desk_take.specs.Serving.{places_owed, players_rule, record_right, own_call, own_octets}
-use borrow.Author.Rules.{rules}
 use Rattle.desk_take.proofs.take_own.Goals as goal
 
 -- a number that is not 0

@@ -7,7 +7,6 @@ use Rattle.catalogue_titles.specs.Titles.{Inside, IsPart}
 use Rattle.catalogue_titles.specs.Lent.{Lent, lending}
 use Rattle.mcs_state.specs.Codec.{desk_of}
 use Rattle.desk_title.proofs.Lying.{title_inside}
-use borrow.Author.Rules.{rules}
 use Rattle.desk_title.proofs.title.Goals as goal
 
 pub returns : goal.returns

@@ -11,7 +11,6 @@ use Rattle.mcs_state.specs.Codec.{desk_of}
 use Rattle.desk_replies.specs.Replies.{on_service, said_of}
 use Rattle.desk_replies.proofs.Gates.{refuses, none}
 use Rattle.desk_title.specs.Title.{title_call}
-use borrow.Author.Rules.{rules}
 use Rattle.desk_title.proofs.which.Goals as goal
 
 pub returns-then-not-g : goal.returns-then-not-g

@@ -1,7 +1,6 @@
 -- `mcs::mcs_activate`: `desk_console::activate`, then what C is told.
 use Rattle.mcs.proofs.Leaving.{ends, small_said}
 use Rattle.mcs.proofs.Short.{activate_words}
-use borrow.Author.Rules.{rules}
 use Rattle.mcs.proofs.mcs_activate.Goals as goal
 
 pub finish-requires-clause-all_words : goal.finish-requires-clause-all_words

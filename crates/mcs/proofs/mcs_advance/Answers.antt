@@ -1,7 +1,6 @@
 -- `mcs::mcs_advance`: `desk_console::advance`, then what C is told.
 use Rattle.mcs.proofs.Leaving.{ends, small_said}
 use Rattle.mcs.proofs.Short.{advance_words}
-use borrow.Author.Rules.{rules}
 use Rattle.mcs.proofs.mcs_advance.Goals as goal
 
 pub finish-requires-clause-all_words : goal.finish-requires-clause-all_words

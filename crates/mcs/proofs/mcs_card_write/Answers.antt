@@ -10,7 +10,6 @@ use Rattle.mcs_told.specs.declared.Told.{Told}
 use Rattle.mcs_told.specs.Calls.{told_of, told_after}
 use Rattle.mcs_told.proofs.Words.{told_as_said, place_as_said}
 use Rattle.mcs.proofs.Short.{write_words}
-use borrow.Author.Rules.{rules}
 use Rattle.mcs.proofs.mcs_card_write.Goals as goal
 
 pub returns-clause-value : goal.returns-clause-value

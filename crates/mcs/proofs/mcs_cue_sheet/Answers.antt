@@ -8,7 +8,6 @@ use Rattle.mcs_told.specs.declared.Told.{Told}
 use Rattle.mcs_told.specs.Calls.{carries, told_of, told_after}
 use Rattle.mcs_told.proofs.Words.{told_by_places}
 use Rattle.mcs.proofs.Short.{cue_words}
-use borrow.Author.Rules.{rules}
 use Rattle.mcs.proofs.mcs_cue_sheet.Goals as goal
 
 pub returns-clause-value : goal.returns-clause-value

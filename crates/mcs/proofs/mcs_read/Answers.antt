@@ -11,7 +11,6 @@ use Rattle.mcs_told.specs.Calls.{told_of, told_after}
 use Rattle.mcs.proofs.Leaving.{ends, small_said}
 use Rattle.mcs_told.proofs.Words.{told_as_said}
 use Rattle.mcs.proofs.Short.{read_words}
-use borrow.Author.Rules.{rules}
 use Rattle.mcs.proofs.mcs_read.Goals as goal
 
 pub finish-requires-clause-all_words : goal.finish-requires-clause-all_words

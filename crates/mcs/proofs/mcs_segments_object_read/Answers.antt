@@ -3,7 +3,6 @@ use lib.ListN.{length}
 use Rattle.catalogue_objects.specs.declared.Kind.TheVariants.{Segments}
 use Rattle.catalogue_objects.specs.Reading.{entries_of, read_said}
 use Rattle.mcs_told.proofs.Words.{front_as_said}
-use borrow.Author.Rules.{rules}
 use Rattle.mcs.proofs.mcs_segments_object_read.Goals as goal
 
 pub returns-clause-value : goal.returns-clause-value

@@ -1,7 +1,6 @@
 -- `mcs::mcs_set_name`: `desk_console::set_name`, then what C is told.
 use Rattle.mcs.proofs.Leaving.{ends, small_said}
 use Rattle.mcs.proofs.Short.{set_name_words}
-use borrow.Author.Rules.{rules}
 use Rattle.mcs.proofs.mcs_set_name.Goals as goal
 
 pub finish-requires-clause-all_words : goal.finish-requires-clause-all_words

@@ -1,7 +1,6 @@
 -- `mcs::mcs_start`: `desk_console::start`, then what C is told.
 use Rattle.mcs.proofs.Leaving.{ends, small_said}
 use Rattle.mcs.proofs.Short.{start_words}
-use borrow.Author.Rules.{rules}
 use Rattle.mcs.proofs.mcs_start.Goals as goal
 
 pub finish-requires-clause-all_words : goal.finish-requires-clause-all_words

@@ -2,7 +2,6 @@
 use Rattle.mcs.proofs.Leaving.{ends, small_said}
 use Rattle.mcs.proofs.Short.{slot_words}
 use Rattle.desk_client.specs.Duties.{joined}
-use borrow.Author.Rules.{rules}
 use Rattle.mcs.proofs.mcs_subscribe.Goals as goal
 
 pub finish-requires-clause-all_words : goal.finish-requires-clause-all_words

@@ -1,7 +1,6 @@
 -- `mcs_state::account_at`: the account at the client's place in the service.
 use mathlib.Core.Path.{sym, ◌∙◌}
 use Rattle.mcs_state.proofs.Places.{account_there}
-use borrow.Author.Rules.{rules}
 use Rattle.mcs_state.proofs.account_at.Goals as goal
 
 pub returns : goal.returns

@@ -2,7 +2,6 @@
 use Prim.Native.Nat.{◌+◌, ◌*◌}
 use Rattle.ground.specs.Lists.{part}
 use Rattle.mcs_state.specs.Codec.{entries_at, account_from}
-use borrow.Author.Rules.{rules}
 use Rattle.mcs_state.proofs.account_from.Goals as goal
 
 pub returns : goal.returns

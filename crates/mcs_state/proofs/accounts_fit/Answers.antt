@@ -1,13 +1,11 @@
 -- `mcs_state::accounts_fit`: after i turns, the first i accounts.
-use mathlib.Core.Path.{◌≡◌, refl, ◌∙◌}
-use Prim.Native.Nat.{◌≤◌, ◌-◌}
+use mathlib.Core.Path.{refl, ◌∙◌}
+use Prim.Native.Nat.{◌-◌}
 use native.Mathlib.Omega.{arith}
-use lib.ListN.{get_or}
 use Rattle.ground.specs.Lists.{all_below}
 use Rattle.ground.proofs.Bounded.{all_turn, all_end}
-use Rattle.desk_client.specs.Client.{account_fits, no_account}
-use Rattle.desk_state.specs.Desk.{link_at, service_at, accounts_fit}
-use Rattle.mcs_state.specs.Codec.{desk_of}
+use Rattle.desk_client.specs.Client.{account_fits}
+use Rattle.desk_state.specs.Desk.{accounts_fit}
 use borrow.Author.Rules.{rules}
 use Rattle.mcs_state.proofs.accounts_fit.Goals as goal
 

@@ -1,6 +1,5 @@
 -- `mcs_state::are_octets`: what is lent is octets.
 use native.Mathlib.Omega.{arith}
-use borrow.Author.Rules.{rules}
 use Rattle.mcs_state.proofs.are_octets.Goals as goal
 
 pub returns : goal.returns

@@ -1,7 +1,6 @@
 -- `mcs_state::client_at`: its link, and its account with each service.
 use mathlib.Core.List.{[], ◌∷◌}
 use Rattle.desk_state.specs.Desk.{client_at}
-use borrow.Author.Rules.{rules}
 use Rattle.mcs_state.proofs.client_at.Goals as goal
 
 pub returns : goal.returns

@@ -1,7 +1,6 @@
 -- `mcs_state::decode`: the turn, each link and each service from its part.
 use mathlib.Core.List.{[], ◌∷◌}
 use Rattle.mcs_state.specs.Codec.{desk_of}
-use borrow.Author.Rules.{rules}
 use Rattle.mcs_state.proofs.decode.Goals as goal
 
 pub returns : goal.returns

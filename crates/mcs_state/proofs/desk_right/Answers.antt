@@ -2,7 +2,6 @@
 use mathlib.Core.Bool.{◌&&◌}
 use lib.Dec.{ltb}
 use Rattle.desk_state.specs.Desk.{desk_rule}
-use borrow.Author.Rules.{rules}
 use Rattle.mcs_state.proofs.desk_right.Goals as goal
 
 pub returns : goal.returns

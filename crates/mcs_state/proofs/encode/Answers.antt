@@ -11,7 +11,6 @@ use Rattle.mcs_state.specs.Codec.{each_octets, turn_octets, link_octets, service
 use Rattle.mcs_state.proofs.Laid.{Laid, lay}
 use Rattle.mcs_state.proofs.Each.{AllKept, none, more, behind, behind_is}
 use Rattle.mcs_state.proofs.Round.{turn_long, link_kept, again}
-use borrow.Author.Rules.{rules}
 use Rattle.mcs_state.proofs.encode.Goals as goal
 
 pub returns-clause-s_after : goal.returns-clause-s_after

@@ -5,7 +5,6 @@ use lib.ListN.{length}
 use lib.Seq.{paste}
 use Rattle.mcs_state.specs.Codec.{account_octets}
 use Rattle.mcs_state.proofs.Round.{account_kept}
-use borrow.Author.Rules.{rules}
 use Rattle.mcs_state.proofs.lay_account.Goals as goal
 
 pub returns-clause-s_after : goal.returns-clause-s_after

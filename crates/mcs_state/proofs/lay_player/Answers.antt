@@ -4,7 +4,6 @@ use Prim.Native.Nat.{◌+◌}
 use lib.ListN.{length}
 use lib.Seq.{paste}
 use Rattle.mcs_state.specs.Codec.{player_octets}
-use borrow.Author.Rules.{rules}
 use Rattle.mcs_state.proofs.lay_player.Goals as goal
 
 pub returns : goal.returns

@@ -13,7 +13,6 @@ use Rattle.mcs_state.specs.Codec.{each_octets, account_from, account_octets, pla
 use Rattle.mcs_state.proofs.Laid.{Laid, lay}
 use Rattle.mcs_state.proofs.Each.{AllKept, none, more, behind, behind_is}
 use Rattle.mcs_state.proofs.Round.{player_long, service_kept}
-use borrow.Author.Rules.{rules}
 use Rattle.mcs_state.proofs.lay_service.Goals as goal
 
 pub returns-clause-s_after : goal.returns-clause-s_after

@@ -3,7 +3,6 @@ use mathlib.Core.Path.{◌∙◌}
 use lib.ListN.{length}
 use lib.Seq.{paste}
 use Rattle.mcs_state.specs.Codec.{turn_octets}
-use borrow.Author.Rules.{rules}
 use Rattle.mcs_state.proofs.lay_turn.Goals as goal
 
 pub returns : goal.returns

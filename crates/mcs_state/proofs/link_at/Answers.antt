@@ -1,7 +1,6 @@
 -- `mcs_state::link_at`: the link at the client's place.
 use mathlib.Core.Path.{sym, ◌∙◌}
 use Rattle.mcs_state.proofs.Places.{link_there}
-use borrow.Author.Rules.{rules}
 use Rattle.mcs_state.proofs.link_at.Goals as goal
 
 pub returns : goal.returns

@@ -3,7 +3,6 @@ use Prim.Native.Nat.{◌+◌, ◌*◌}
 use lib.ListN.{get_or}
 use Rattle.ground.specs.Lists.{part}
 use Rattle.mcs_state.specs.Codec.{flag, link_from}
-use borrow.Author.Rules.{rules}
 use Rattle.mcs_state.proofs.link_from.Goals as goal
 
 pub returns : goal.returns

@@ -1,7 +1,6 @@
 -- `mcs_state::link_octets`: written out.
 use mathlib.Core.Path.{refl}
 use Rattle.mcs_state.specs.Codec.{link_octets}
-use borrow.Author.Rules.{rules}
 use Rattle.mcs_state.proofs.link_octets.Goals as goal
 
 pub returns : goal.returns

@@ -1,12 +1,11 @@
 -- `mcs_state::links_right`: after i turns, the first i links.
-use mathlib.Core.Path.{◌≡◌, refl, ap, ◌∙◌}
-use Prim.Native.Nat.{◌≤◌, ◌-◌}
+use mathlib.Core.Path.{refl, ap, ◌∙◌}
+use Prim.Native.Nat.{◌-◌}
 use native.Mathlib.Omega.{arith}
 use Rattle.ground.specs.Lists.{all_below}
 use Rattle.ground.proofs.Bounded.{all_turn, all_end}
-use Rattle.desk_state.specs.Desk.{link_at, links_rule}
+use Rattle.desk_state.specs.Desk.{links_rule}
 use Rattle.desk_client.specs.Client.{link_rule}
-use Rattle.mcs_state.specs.Codec.{desk_of}
 use borrow.Author.Rules.{rules}
 use Rattle.mcs_state.proofs.links_right.Goals as goal
 

@@ -2,7 +2,6 @@
 use mathlib.Core.Path.{refl}
 use Rattle.ground.proofs.Cases.{past, here}
 use Rattle.mcs_state.specs.Codec.{mtu_from}
-use borrow.Author.Rules.{rules}
 use Rattle.mcs_state.proofs.mtu_from.Goals as goal
 
 pub returns-then-plain : goal.returns-then-plain

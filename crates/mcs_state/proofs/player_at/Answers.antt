@@ -3,7 +3,6 @@ use mathlib.Core.Path.{sym, ap, ◌∙◌}
 use Rattle.desk_state.specs.declared.Service.{Service}
 use Rattle.mcs_state.specs.Codec.{service_from}
 use Rattle.mcs_state.proofs.Places.{service_there}
-use borrow.Author.Rules.{rules}
 use Rattle.mcs_state.proofs.player_at.Goals as goal
 
 pub returns : goal.returns

@@ -5,7 +5,6 @@ use Prim.Native.Nat.{ℕ}
 use native.Mathlib.Omega.{arith}
 use lib.ListN.{get_or, length, replicate, drop_of_length-le}
 use Rattle.mcs_state.specs.Codec.{player_from}
-use borrow.Author.Rules.{rules}
 use Rattle.mcs_state.proofs.player_from.Goals as goal
 
 pub returns : goal.returns

@@ -1,6 +1,5 @@
 -- `mcs_state::put_account`: an account of a client alone is another.
 use Rattle.mcs_state.proofs.Stored.{account_stored}
-use borrow.Author.Rules.{rules}
 use Rattle.mcs_state.proofs.put_account.Goals as goal
 
 pub returns : goal.returns

@@ -1,6 +1,5 @@
 -- `mcs_state::put_link`: the link of a client alone is another.
 use Rattle.mcs_state.proofs.Stored.{link_stored}
-use borrow.Author.Rules.{rules}
 use Rattle.mcs_state.proofs.put_link.Goals as goal
 
 pub returns : goal.returns

@@ -1,6 +1,5 @@
 -- `mcs_state::put_service`: a service alone is another.
 use Rattle.mcs_state.proofs.Stored.{service_stored}
-use borrow.Author.Rules.{rules}
 use Rattle.mcs_state.proofs.put_service.Goals as goal
 
 pub returns : goal.returns

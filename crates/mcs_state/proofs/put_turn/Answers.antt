@@ -1,6 +1,5 @@
 -- `mcs_state::put_turn`: the turn alone is another.
 use Rattle.mcs_state.proofs.Stored.{turn_stored}
-use borrow.Author.Rules.{rules}
 use Rattle.mcs_state.proofs.put_turn.Goals as goal
 
 pub returns : goal.returns

@@ -1,7 +1,6 @@
 -- `mcs_state::service_at`: the service at its place.
 use mathlib.Core.Path.{sym, ◌∙◌}
 use Rattle.mcs_state.proofs.Places.{service_there}
-use borrow.Author.Rules.{rules}
 use Rattle.mcs_state.proofs.service_at.Goals as goal
 
 pub returns : goal.returns

@@ -1,7 +1,6 @@
 -- `mcs_state::service_from`: the player from the front, and each account from its part.
 use mathlib.Core.List.{[], ◌∷◌}
 use Rattle.mcs_state.specs.Codec.{service_from}
-use borrow.Author.Rules.{rules}
 use Rattle.mcs_state.proofs.service_from.Goals as goal
 
 pub returns : goal.returns

@@ -1,14 +1,12 @@
 -- `mcs_state::services_right`: after v turns, the first v services.
-use mathlib.Core.Path.{◌≡◌, refl, ap, ◌∙◌}
+use mathlib.Core.Path.{refl, ap, ◌∙◌}
 use mathlib.Core.Bool.{◌&&◌}
-use Prim.Native.Nat.{◌≤◌, ◌-◌}
+use Prim.Native.Nat.{◌-◌}
 use native.Mathlib.Omega.{arith}
-use lib.ListN.{get_or}
 use Rattle.ground.specs.Lists.{all_below}
 use Rattle.ground.proofs.Bounded.{all_turn, all_end}
 use Rattle.player_check.specs.Standing.{player_rule}
-use Rattle.desk_state.specs.Desk.{no_service, service_rule, services_rule}
-use Rattle.mcs_state.specs.Codec.{desk_of}
+use Rattle.desk_state.specs.Desk.{service_rule, services_rule}
 use borrow.Author.Rules.{rules}
 use Rattle.mcs_state.proofs.services_right.Goals as goal
 

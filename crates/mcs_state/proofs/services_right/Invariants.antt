@@ -1,15 +1,10 @@
 -- `mcs_state::services_right`: after v turns, the first v services.
-use mathlib.Core.Path.{◌≡◌, refl, ap, ◌∙◌}
-use mathlib.Core.Bool.{◌&&◌}
+use mathlib.Core.Path.{◌≡◌}
 use Prim.Native.Nat.{◌≤◌, ◌-◌}
-use native.Mathlib.Omega.{arith}
 use lib.ListN.{get_or}
 use Rattle.ground.specs.Lists.{all_below}
-use Rattle.ground.proofs.Bounded.{all_turn, all_end}
-use Rattle.player_check.specs.Standing.{player_rule}
-use Rattle.desk_state.specs.Desk.{no_service, service_rule, services_rule}
+use Rattle.desk_state.specs.Desk.{no_service, service_rule}
 use Rattle.mcs_state.specs.Codec.{desk_of}
-use borrow.Author.Rules.{rules}
 use Rattle.mcs_state.proofs.services_right.Given as goal
 
 abbrev pub invariant-loop-v : goal.invariant-loop-v

@@ -3,7 +3,6 @@ use mathlib.Core.Path.{refl}
 use borrow.Author.Tests.{eq-eqb, ne_eqb}
 use Rattle.ground.proofs.Cases.{past, here}
 use Rattle.mcs_state.specs.Codec.{turn_from}
-use borrow.Author.Rules.{rules}
 use Rattle.mcs_state.proofs.turn_from.Goals as goal
 
 pub returns-then-s : goal.returns-then-s

@@ -1,6 +1,5 @@
 -- `mcs_state::turn_of`: the turn at the front.
 use Rattle.mcs_state.specs.Codec.{desk_of}
-use borrow.Author.Rules.{rules}
 use Rattle.mcs_state.proofs.turn_of.Goals as goal
 
 pub returns : goal.returns

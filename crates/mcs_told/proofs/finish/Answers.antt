@@ -7,7 +7,6 @@ use Rattle.desk_replies.specs.Replies.{said_of}
 use Rattle.mcs_told.specs.declared.Told.{Told}
 use Rattle.mcs_told.specs.Calls.{told_after}
 use Rattle.mcs_told.proofs.Words.{track_as_said, offset_as_said}
-use borrow.Author.Rules.{rules}
 use Rattle.mcs_told.proofs.finish.Goals as goal
 
 pub returns-clause-value : goal.returns-clause-value

@@ -4,7 +4,6 @@ use Prim.Native.Nat.{ℕ}
 use Rattle.ground.specs.declared.Carried.{Carried}
 use Rattle.ground.specs.Refusals.{refused_with, carried_of}
 use Rattle.mcs_told.specs.Calls.{told_of}
-use borrow.Author.Rules.{rules}
 use Rattle.mcs_told.proofs.refused.Goals as goal
 
 back : (number : ℕ) {a b : Carried} → a ≡ b → told_of (refused_with number (carried_of b)) ≡ told_of (refused_with number (carried_of a))

@@ -1,14 +1,8 @@
 -- `mcs_told::tell`: after i turns the first i values are written.
-use Prim.Native.Nat.{ℕ, ◌≤◌, ◌<◌, ◌-◌, ◌+◌}
-use mathlib.Core.Path.{◌≡◌, refl, sym, ◌∙◌, ap}
-use mathlib.Core.List.{List, append-nil, ◌++◌}
-use native.Mathlib.Omega.{arith}
-use native.Mathlib.Numerals.{add-one}
-use native.Mathlib.Nat.{zero-add, le_antisymm}
-use borrow.Author.Rules.{rules}
-use lib.ListN.{length, take, get_or, set, length-set, drop_of_length-le}
-use lib.Seq.{paste, paste-zero, paste-suc}
-use Rattle.ground.proofs.Cases.{past, here}
+use Prim.Native.Nat.{◌≤◌, ◌-◌}
+use mathlib.Core.Path.{◌≡◌}
+use lib.ListN.{length}
+use lib.Seq.{paste}
 use Rattle.mcs_told.proofs.tell.Given as goal
 
 abbrev pub invariant-loop-i : goal.invariant-loop-i

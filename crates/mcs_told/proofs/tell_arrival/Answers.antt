@@ -2,7 +2,6 @@
 use mathlib.Core.Path.{refl, ◌∙◌}
 use Rattle.desk_goto.specs.Manual.{made_values}
 use Rattle.mcs_told.proofs.Words.{as_many}
-use borrow.Author.Rules.{rules}
 use Rattle.mcs_told.proofs.tell_arrival.Goals as goal
 
 pub returns-clause-made_after : goal.returns-clause-made_after

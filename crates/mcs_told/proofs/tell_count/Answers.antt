@@ -4,7 +4,6 @@ use Rattle.catalogue_objects.specs.declared.Answer.{Answer}
 use Rattle.catalogue_objects.specs.Objects.{said_of}
 use Rattle.mcs_told.specs.Calls.{words_after}
 use Rattle.mcs_told.proofs.Words.{one_count}
-use borrow.Author.Rules.{rules}
 use Rattle.mcs_told.proofs.tell_count.Goals as goal
 
 pub returns-in-Filled-clause-value : goal.returns-in-Filled-clause-value

@@ -4,7 +4,6 @@ use mathlib.Core.List.{[], ◌∷◌}
 use Prim.Native.Nat.{ℕ}
 use Rattle.mcs_told.specs.Calls.{told_after}
 use Rattle.mcs_told.proofs.Words.{as_many}
-use borrow.Author.Rules.{rules}
 use Rattle.mcs_told.proofs.tell_part.Goals as goal
 
 pub returns : goal.returns

@@ -1,11 +1,10 @@
 -- `mcs_told::tell_place`: the track by `tell`, and the offset, which is the last of what is carried.
-use mathlib.Core.Path.{◌≡◌, refl, ap, ◌∙◌}
+use mathlib.Core.Path.{◌≡◌, refl, ap}
 use mathlib.Core.List.{List, [], ◌∷◌}
 use Prim.Native.Nat.{ℕ}
 use native.Mathlib.Omega.{arith}
-use lib.ListN.{length, take, get_or, set}
+use lib.ListN.{length, take, set}
 use Rattle.ground.proofs.Cases.{past, here}
-use borrow.Author.Rules.{rules}
 -- one word written
 use Rattle.mcs_told.proofs.tell_place.Goals as goal
 

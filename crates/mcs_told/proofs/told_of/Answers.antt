@@ -5,7 +5,6 @@ use Rattle.ground.specs.Refusals.{granted}
 use Rattle.desk_replies.specs.declared.Answer.{Answer}
 use Rattle.desk_replies.specs.Replies.{said_of}
 use Rattle.mcs_told.specs.Calls.{told_of}
-use borrow.Author.Rules.{rules}
 -- what is told of the answer's arm is told of the answer
 use Rattle.mcs_told.proofs.told_of.Goals as goal
 

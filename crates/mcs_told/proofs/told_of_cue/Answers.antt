@@ -3,7 +3,6 @@ use mathlib.Core.Path.{◌≡◌, sym, ap, ◌∙◌}
 use Rattle.catalogue_cue.specs.declared.Cued.{Cued}
 use Rattle.catalogue_cue.specs.Sheet.{said_of}
 use Rattle.mcs_told.specs.Calls.{told_of}
-use borrow.Author.Rules.{rules}
 -- what is told of the answer's arm is told of the answer
 use Rattle.mcs_told.proofs.told_of_cue.Goals as goal
 

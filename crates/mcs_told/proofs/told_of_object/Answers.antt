@@ -3,7 +3,6 @@ use mathlib.Core.Path.{◌≡◌, sym, ap, ◌∙◌}
 use Rattle.catalogue_objects.specs.declared.Answer.{Answer}
 use Rattle.catalogue_objects.specs.Objects.{said_of}
 use Rattle.mcs_told.specs.Calls.{told_of}
-use borrow.Author.Rules.{rules}
 -- what is told of the answer's arm is told of the answer
 use Rattle.mcs_told.proofs.told_of_object.Goals as goal
 

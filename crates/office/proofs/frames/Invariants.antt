@@ -1,6 +1,5 @@
 -- `office::frames`: each frame takes at least twelve octets of what is left.
 use lib.ListN.{length}
-use borrow.Author.Rules.{rules}
 use Rattle.office.proofs.frames.Given as goal
 
 abbrev pub invariant-loop-left : goal.invariant-loop-left

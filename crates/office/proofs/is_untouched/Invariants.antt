@@ -1,7 +1,6 @@
 -- `office::is_untouched`: the index stays within the octets, and what is left of them falls.
 use Prim.Native.Nat.{◌≤◌, ◌-◌}
 use lib.ListN.{length}
-use borrow.Author.Rules.{rules}
 use Rattle.office.proofs.is_untouched.Given as goal
 
 abbrev pub invariant-loop-i : goal.invariant-loop-i

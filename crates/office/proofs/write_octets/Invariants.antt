@@ -1,7 +1,6 @@
 -- `office::write_octets`: the index stays within the octets, and what is left of them falls.
 use Prim.Native.Nat.{◌≤◌, ◌-◌}
 use lib.ListN.{length}
-use borrow.Author.Rules.{rules}
 use Rattle.office.proofs.write_octets.Given as goal
 
 abbrev pub invariant-loop-i : goal.invariant-loop-i

@@ -1,6 +1,5 @@
 -- `office::write_slots`: the slots that are left fall.
 use Prim.Native.Nat.{◌≤◌, ◌-◌}
-use borrow.Author.Rules.{rules}
 use Rattle.desk_slots.specs.Slots.{slot_count}
 use Rattle.office.proofs.write_slots.Given as goal
 

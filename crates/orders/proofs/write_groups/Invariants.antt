@@ -1,6 +1,5 @@
 -- `orders::write_groups`: a group number below the count is a word.
 use Prim.Native.Nat.{◌≤◌, ◌-◌}
-use borrow.Author.Rules.{rules}
 use Rattle.orders.proofs.write_groups.Given as goal
 
 abbrev pub invariant-loop-g : goal.invariant-loop-g

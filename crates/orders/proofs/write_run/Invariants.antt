@@ -1,5 +1,4 @@
 -- `orders::write_run`: each turn leaves one track less.
-use borrow.Author.Rules.{rules}
 use Rattle.orders.proofs.write_run.Given as goal
 
 abbrev pub invariant-loop-left : goal.invariant-loop-left

@@ -1,5 +1,5 @@
 -- `vectors::frames`: each frame takes at least two octets of what is left.
-use Rattle.std.proofs.Common.{length, rules}
+use Rattle.std.proofs.Common.{length}
 use Rattle.vectors.proofs.frames.Given as goal
 
 abbrev pub invariant-loop-left : goal.invariant-loop-left

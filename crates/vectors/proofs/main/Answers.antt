@@ -1,5 +1,5 @@
 -- `vectors::main`: the buffer's length is that of its zeros, by the law and not by counting; the read gives no more than that.
-use Rattle.std.proofs.Common.{ℕ, sym, rules}
+use Rattle.std.proofs.Common.{ℕ, sym}
 use lib.ListN.{length-replicate}
 use Rattle.vectors.proofs.main.Goals as goal
 

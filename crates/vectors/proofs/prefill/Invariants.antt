@@ -1,5 +1,5 @@
 -- `vectors::prefill`: the table keeps its length, and what is left of it falls.
-use Rattle.std.proofs.Common.{◌≡◌, ◌-◌, length, rules}
+use Rattle.std.proofs.Common.{◌≡◌, ◌-◌, length}
 use Rattle.vectors.proofs.prefill.Given as goal
 
 abbrev pub invariant-loop-i : goal.invariant-loop-i

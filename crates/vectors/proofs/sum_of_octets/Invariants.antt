@@ -1,5 +1,5 @@
 -- `vectors::sum_of_octets`: the index stays within the table, and what is left of it falls.
-use Rattle.std.proofs.Common.{◌-◌, ◌≤◌, length, rules}
+use Rattle.std.proofs.Common.{◌-◌, ◌≤◌, length}
 use Rattle.vectors.proofs.sum_of_octets.Given as goal
 
 abbrev pub invariant-loop-i : goal.invariant-loop-i
