@@ -3,11 +3,9 @@
 use Rattle.std.specs.Prelude.{Bool, true, ◌&&◌, ◌||◌, not, List, [], ◌∷◌, ℕ, ◌+◌, ◌*◌, eqb, leb, get_or, take}
 use Rattle.ground.specs.Cases.{pick}
 use Rattle.ground.specs.Lists.{part}
-use Rattle.ground.specs.Refusals.{Said, granted, refusal_of, Row, row_with, accepted}
+use Rattle.ground.specs.Refusals.{Row, row_with, accepted}
 use Rattle.ground.specs.Words.{half_at}
 use Rattle.card_block.specs.Sums.{sums_of}
-use Rattle.card_block.specs.declared.Judged.{Judged}
-use Rattle.card_block.specs.declared.Judged.TheVariants.{Fine, Refused}
 
 -- the size of a block (SCOPE 3.1); its head, which is octets 0 to 4; and the octets that are summed, 0 to 509, behind which the check octets stand (SCOPE 3.2)
 abbrev pub block_size : ℕ
@@ -95,8 +93,3 @@ block_rows number least last b =
 -- a block that breaks none of its rules
 unfoldable pub block_rule : ℕ → ℕ → Bool → List ℕ → Bool
 block_rule number least last b = accepted (block_rows number least last b)
-
--- the number of each answer, and the block that it carries (SCOPE 20.4)
-abbrev pub said_of : Judged → Said
-said_of Fine = granted []
-said_of (Refused r) = refusal_of r

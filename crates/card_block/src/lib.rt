@@ -2,9 +2,12 @@
 #![tactic(auto)]
 
 ghost use Rattle.std.specs.Prelude.{◌≡◌, ◌∷◌, [], ◌+◌, ◌*◌, ◌<◌, ◌≤◌, length};
-ghost use Rattle.ground.specs.Refusals.{refused_with, said_by};
+ghost use Rattle.ground.specs.Refusals.{said_by, done_said};
 ghost use Rattle.card_block.specs.Sums.{sum_of, running_sums, sums_of};
-ghost use Rattle.card_block.specs.Block.{block_size, head_size, summed, kind_of, count_of, record_size, most_records, records_end, all_zero, check_rule, number_rule, kind_rule, count_rule, full_rule, padding_rule, block_rows, said_of};
+ghost use Rattle.card_block.specs.Block.{block_size, head_size, summed, kind_of, count_of, record_size, most_records, records_end, all_zero, check_rule, number_rule, kind_rule, count_rule, full_rule, padding_rule, block_rows};
+
+use ground::Reason;
+use ground::Refusal;
 
 // The octets in a block, in its head, and in head and records; behind those stand the two check octets.
 pub const BLOCK: usize = 512;
@@ -16,13 +19,6 @@ const SUMMED: usize = 510;
 const RUNNING_SUM: usize = 511;
 
 const LAST_KIND: u8 = 4;
-
-// What is said of blocks: that they keep their rules, or the refusal that names a block and the rule that it breaks.
-#[derive(Clone, Copy)]
-pub enum Judged {
-    Fine,
-    Refused(ground::Refusal),
-}
 
 #[derive(Clone, Copy)]
 pub struct CheckSums {
@@ -182,36 +178,29 @@ fn full_right(b: &[u8], last: bool) -> bool
     last | (count == most)
 }
 
-fn refused(number: u32, block: usize) -> Judged
-    ensures { said_of result ≡ refused_with number (block ∷ []) }
-{
-    let r = ground::refuse_at(number, block);
-    Judged::Refused(r)
-}
-
 // What is said of a block: the first rule that it breaks, in the order of SCOPE 3.12. `number` is its place on the card, `least` the kind of the block before
 // it, 1 for the first block; `last` says whether it is the last of its kind.
-pub fn judge(b: &[u8], number: usize, least: u8, last: bool) -> Judged
+pub fn judge(b: &[u8], number: usize, least: u8, last: bool) -> Result<(), Refusal>
     requires { length b.now ≡ block_size }
-    ensures { said_of result ≡ said_by (block_rows number least last b.now) }
+    ensures { done_said result ≡ said_by (block_rows number least last b.now) }
 {
     if !check_right(b) {
-        return refused(ground::BAD_CHECK, number);
+        return Err(Reason::BadCheck.at(number));
     }
     if !number_right(b, number) {
-        return refused(ground::BAD_BLOCK_NUMBER, number);
+        return Err(Reason::BadBlockNumber.at(number));
     }
     if !kind_right(b, least) {
-        return refused(ground::BAD_KIND, number);
+        return Err(Reason::BadKind.at(number));
     }
     if !count_right(b) {
-        return refused(ground::BAD_COUNT, number);
+        return Err(Reason::BadCount.at(number));
     }
     if !full_right(b, last) {
-        return refused(ground::NOT_FULL, number);
+        return Err(Reason::NotFull.at(number));
     }
     if !padding_right(b) {
-        return refused(ground::BAD_PADDING, number);
+        return Err(Reason::BadPadding.at(number));
     }
-    Judged::Fine
+    Ok(())
 }

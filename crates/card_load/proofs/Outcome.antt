@@ -3,11 +3,13 @@ use mathlib.Core.List.{List}
 use Prim.Native.Nat.{ℕ}
 use contract.Lifetimes.{Lfts}
 use denote.Ref.{Bor, MutBor, at_last}
-use Rattle.card_load.specs.declared.Loaded.{Loaded}
+use Rattle.std.specs.Prelude.{Result}
+use Rattle.ground.specs.declared.Refusal.{Refusal}
+use Rattle.card_load.specs.declared.Counts.{Counts}
 use Rattle.card_load.proofs.load.Reads as load
 
 pub record Outcome : Type 0 where
-  pub answer : Loaded
+  pub answer : Result Counts Refusal
   pub groups : List ℕ
   pub tracks : List ℕ
   pub segments : List ℕ

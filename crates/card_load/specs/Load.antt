@@ -1,17 +1,19 @@
 -- What card load says (SCOPE 3.10 to 3.14): 210; or the lowest bad block and its reason; or 212; or else the four counts. It asks for no rule of SCOPE 4
 -- but the limits.
 -- Assumes nothing.
-use Rattle.std.specs.Prelude.{Bool, ◌&&◌, not, List, [], ◌∷◌, ◌++◌, ℕ, ◌/◌, leb}
-use Rattle.ground.specs.Refusals.{Said, granted, refusal_of, Row, row, said_through}
+use Rattle.std.specs.Prelude.{Bool, ◌&&◌, not, List, [], ◌∷◌, ◌++◌, ℕ, ◌/◌, leb, Result}
+use Rattle.ground.specs.Refusals.{Said, granted, answer_said, Row, row, said_through}
 use Rattle.ground.specs.Limits.{most_groups, most_tracks, most_segments, most_text, group_words, track_words}
 use Rattle.card_load.specs.Card.{length_rule, blocks_rows, blocks_of, record_count}
-use Rattle.card_load.specs.declared.Loaded.{Loaded}
-use Rattle.card_load.specs.declared.Loaded.TheVariants.{Done, Refused}
+use Rattle.ground.specs.declared.Refusal.{Refusal}
+use Rattle.card_load.specs.declared.Counts.{Counts}
 
 -- the number and the values of each answer (SCOPE 3.14, 20.4)
-abbrev pub said_of : Loaded → Said
-said_of (Done c) = granted (c.groups ∷ c.tracks ∷ c.segments ∷ c.text ∷ [])
-said_of (Refused r) = refusal_of r
+abbrev pub counts_of : Counts → List ℕ
+counts_of c = c.groups ∷ c.tracks ∷ c.segments ∷ c.text ∷ []
+
+abbrev pub said_of : Result Counts Refusal → Said
+said_of = answer_said counts_of
 
 -- a count is within its limit, and within the room of its table, which is in whole records (SCOPE 3.13)
 abbrev pub fits : ℕ → ℕ → ℕ → Bool

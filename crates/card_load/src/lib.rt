@@ -3,38 +3,26 @@
 
 ghost use Rattle.std.specs.Prelude.{◌≡◌, ◌∷◌, [], ◌+◌, ◌*◌, ◌<◌, ◌≤◌, length, drop};
 ghost use Rattle.std.proofs.Math.Seq.{paste};
-ghost use Rattle.ground.specs.Refusals.{refused_with, said_through, said_by};
+ghost use Rattle.ground.specs.Refusals.{said_through, said_by, done_said};
 ghost use Rattle.ground.specs.Lists.{filled, table_after};
 ghost use Rattle.ground.specs.Words.{words};
-ghost use Rattle.card_block.specs.Block.{block_size, said_of as judgedSaidOf};
+ghost use Rattle.card_block.specs.Block.{block_size};
 ghost use Rattle.card_load.specs.Card.{most_blocks, blocks, blocks_of, block_at, last_of_kind, blocks_rows, record_count, gather, octets, CountsFit};
 ghost use Rattle.card_load.specs.Load.{fits, room_row, counted, said_of, load_said};
 
-use card_block::Judged;
+use ground::Reason;
+use ground::Refusal;
 
 // The octets in the longest card (SCOPE 3.1).
 const MOST_CARD: usize = 65536;
 
 // How many records of each kind were loaded.
-#[derive(Clone, Copy)]
+#[derive(Clone, Copy, PartialEq, Eq)]
 pub struct Counts {
     pub groups: usize,
     pub tracks: usize,
     pub segments: usize,
     pub text: usize,
-}
-
-#[derive(Clone, Copy)]
-pub enum Loaded {
-    Done(Counts),
-    Refused(ground::Refusal),
-}
-
-fn refused(number: u32) -> Loaded
-    ensures { said_of result ≡ refused_with number [] }
-{
-    let r = ground::refuse(number);
-    Loaded::Refused(r)
 }
 
 // Whether block i of n is the last of its kind: the block behind it has another kind octet, or there is none (SCOPE 3.8).
@@ -52,26 +40,20 @@ fn last_of_kind(card: &[u8], n: usize, i: usize) -> bool
 }
 
 // What is said of the first n blocks. The rules are asked block by block, so that the lowest bad block is named (SCOPE 3.12).
-fn judge_blocks(card: &[u8], n: usize) -> Judged
+fn judge_blocks(card: &[u8], n: usize) -> Result<(), Refusal>
     requires { n * block_size ≤ length card.now }
-    ensures { judgedSaidOf result ≡ said_by (blocks_rows 0 1 (blocks n card.now)) }
+    ensures { done_said result ≡ said_by (blocks_rows 0 1 (blocks n card.now)) }
 {
-    let mut i: usize = 0;
     let mut least: u8 = 1;
-    while i < n {
+    for i in 0..n {
         let a = i * card_block::BLOCK;
         let e = a + card_block::BLOCK;
         let b = &card[a..e];
         let last = last_of_kind(card, n, i);
-        let j = card_block::judge(b, i, least, last);
-        match j {
-            Judged::Refused(r) => return Judged::Refused(r),
-            Judged::Fine => {}
-        }
+        card_block::judge(b, i, least, last)?;
         least = b[2];
-        i += 1;
     }
-    Judged::Fine
+    Ok(())
 }
 
 // How many records of a kind the first n blocks have.
@@ -179,7 +161,7 @@ fn count(
     tracks: usize,
     segments: usize,
     text: usize,
-) -> Loaded
+) -> Result<Counts, Refusal>
     requires block_size_in_bounds { n * block_size ≤ length card.now }
     requires n_le_most_blocks { n ≤ most_blocks }
     ensures { said_of result ≡ said_through (room_row (blocks n card.now) groups tracks segments text ∷ []) (counted (blocks n card.now)) }
@@ -199,28 +181,25 @@ fn count(
             segments: s,
             text: x,
         };
-        return Loaded::Done(counts);
+        return Ok(counts);
     }
-    refused(ground::NO_ROOM)
+    Err(Refusal::from(Reason::NoRoom))
 }
 
 // What loading a card into tables of these lengths answers. It writes nothing.
-fn survey(card: &[u8], groups: usize, tracks: usize, segments: usize, text: usize) -> Loaded
+fn survey(card: &[u8], groups: usize, tracks: usize, segments: usize, text: usize) -> Result<Counts, Refusal>
     ensures { said_of result ≡ load_said card.now groups tracks segments text }
 {
     let len = card.len();
     if len % card_block::BLOCK != 0 {
-        return refused(ground::BAD_CARD_LENGTH);
+        return Err(Refusal::from(Reason::BadCardLength));
     }
     if MOST_CARD < len {
-        return refused(ground::BAD_CARD_LENGTH);
+        return Err(Refusal::from(Reason::BadCardLength));
     }
     let n = len / card_block::BLOCK;
-    let j = judge_blocks(card, n);
-    match j {
-        Judged::Refused(r) => Loaded::Refused(r),
-        Judged::Fine => count(card, n, groups, tracks, segments, text),
-    }
+    judge_blocks(card, n)?;
+    count(card, n, groups, tracks, segments, text)
 }
 
 // Card load: fills the front of each lent table and answers the counts, or refuses and leaves the tables as they were.
@@ -230,23 +209,18 @@ pub fn load(
     tracks: &mut [u32],
     segments: &mut [u32],
     text: &mut [u8],
-) -> Loaded
+) -> Result<Counts, Refusal>
     ensures result_value { said_of result ≡ load_said card.now (length groups.old) (length tracks.old) (length segments.old) (length text.old) }
     ensures groups_after { groups.new ≡ table_after (said_of result) (gather words 1 (blocks_of card.now)) groups.old }
     ensures tracks_after { tracks.new ≡ table_after (said_of result) (gather words 2 (blocks_of card.now)) tracks.old }
     ensures segments_after { segments.new ≡ table_after (said_of result) (gather words 3 (blocks_of card.now)) segments.old }
     ensures text_after { text.new ≡ table_after (said_of result) (gather octets 4 (blocks_of card.now)) text.old }
 {
-    let v = survey(card, groups.len(), tracks.len(), segments.len(), text.len());
-    match v {
-        Loaded::Refused(r) => Loaded::Refused(r),
-        Loaded::Done(c) => {
-            let n = card.len() / card_block::BLOCK;
-            fill_words(groups, card, n, 1);
-            fill_words(tracks, card, n, 2);
-            fill_words(segments, card, n, 3);
-            fill_octets(text, card, n, 4);
-            Loaded::Done(c)
-        }
-    }
+    let counts = survey(card, groups.len(), tracks.len(), segments.len(), text.len())?;
+    let n = card.len() / card_block::BLOCK;
+    fill_words(groups, card, n, 1);
+    fill_words(tracks, card, n, 2);
+    fill_words(segments, card, n, 3);
+    fill_octets(text, card, n, 4);
+    Ok(counts)
 }

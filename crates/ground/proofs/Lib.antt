@@ -8,3 +8,4 @@ pub mod Sweep
 pub mod Filling
 pub mod Octets
 pub mod Laying
+pub mod Passed

@@ -1,7 +1,9 @@
 -- What a call says, and the table of refusals as a chain of rows. SCOPE 20.2: "Where several refusals apply, the first in this table is given."
 -- Assumes nothing.
-use Rattle.std.specs.Prelude.{Bool, true, false, ◌&&◌, not, List, [], ◌∷◌, ℕ, eqb}
+use Rattle.std.specs.Prelude.{Bool, true, false, ◌&&◌, not, List, [], ◌∷◌, ℕ, eqb, Result, Ok, Err}
 use Rattle.ground.specs.Cases.{pick}
+use Rattle.ground.specs.declared.Reason.{Reason}
+use Rattle.ground.specs.declared.Reason.TheVariants.{BadCatalogue, BadRenames, SmallOutput, BadState, NoClient, NoService, NotConnected, AlreadyConnected, BadMtu, NoCharacteristic, NoSlot, NotReadable, NotWritable, NotEncrypted, ValueChanged, BeyondEnd, BadLength, NotAllowed, TooManyResults, BadName, BadGroup, BadCardLength, BadCheck, BadBlockNumber, BadKind, BadCount, NotFull, BadPadding, NoRoom, NoCardRoom, BadEntries, NoObjectRoom, LongSheet, BadLine, NotRising, ManyStarts}
 use Rattle.ground.specs.declared.Carried.{Carried}
 use Rattle.ground.specs.declared.Carried.TheVariants.{Nothing, One, Two}
 use Rattle.ground.specs.declared.Refusal.{Refusal}
@@ -22,14 +24,65 @@ refused_with number values = record { is_granted = false; number = number; value
 abbrev pub refused : ℕ → Said
 refused number = refused_with number []
 
--- the number of a refusal, and the values that it carries (SCOPE 20.4)
+-- SCOPE 20.2: the number of a reason
+abbrev pub number_of : Reason → ℕ
+number_of BadCatalogue = 200
+number_of BadRenames = 224
+number_of SmallOutput = 205
+number_of BadState = 201
+number_of NoClient = 202
+number_of NoService = 219
+number_of NotConnected = 203
+number_of AlreadyConnected = 204
+number_of BadMtu = 206
+number_of NoCharacteristic = 0x01
+number_of NoSlot = 209
+number_of NotReadable = 0x02
+number_of NotWritable = 0x03
+number_of NotEncrypted = 0x0F
+number_of ValueChanged = 0x80
+number_of BeyondEnd = 0x07
+number_of BadLength = 0x0D
+number_of NotAllowed = 0x13
+number_of TooManyResults = 0x11
+number_of BadName = 207
+number_of BadGroup = 208
+number_of BadCardLength = 210
+number_of BadCheck = 211
+number_of BadBlockNumber = 215
+number_of BadKind = 216
+number_of BadCount = 217
+number_of NotFull = 214
+number_of BadPadding = 218
+number_of NoRoom = 212
+number_of NoCardRoom = 213
+number_of BadEntries = 222
+number_of NoObjectRoom = 223
+number_of LongSheet = 225
+number_of BadLine = 226
+number_of NotRising = 227
+number_of ManyStarts = 228
+
+-- the values that a refusal carries (SCOPE 20.4)
 abbrev pub carried_of : Carried → List ℕ
 carried_of Nothing = []
 carried_of (One a) = a ∷ []
 carried_of (Two a b) = a ∷ b ∷ []
 
 abbrev pub refusal_of : Refusal → Said
-refusal_of r = refused_with r.number (carried_of r.carried)
+refusal_of r = refused_with (number_of r.reason) (carried_of r.carried)
+
+-- what a call says that answers with a value or refuses: `values` are those of its answer (SCOPE 20.1)
+abbrev pub answer_said : {A : Type 0} → (A → List ℕ) → Result A Refusal → Said
+answer_said values (Ok a) = granted (values a)
+answer_said values (Err r) = refusal_of r
+
+-- of a call that answers nothing but that it is done, and of one that answers how many
+abbrev pub done_said : Result Unit Refusal → Said
+done_said = answer_said (λ _. [])
+
+abbrev pub count_said : Result ℕ Refusal → Said
+count_said = answer_said (λ n. n ∷ [])
 
 -- a row of the table: whether it applies to the call, its number, and what the refusal carries
 pub record Row : Type 0 where
@@ -75,12 +128,12 @@ keeping s said = leaves said s
 -- the numbers of the table of SCOPE 20.2, in its order
 abbrev pub table : List ℕ
 table =
-    200 ∷ 224 ∷ 205 ∷ 201 ∷ 202 ∷ 219 ∷ 203 ∷ 204 ∷ 206 ∷ 0x01 ∷ 209 ∷ 0x02 ∷ 0x03 ∷ 0x0F ∷ 0x80 ∷ 0x07 ∷ 0x0D ∷ 0x13 ∷ 0x11 ∷ 207 ∷ 208
-    ∷ 210 ∷ 211 ∷ 215 ∷ 216 ∷ 217 ∷ 214 ∷ 218 ∷ 212
-    ∷ 213
-    ∷ 222 ∷ 223
-    ∷ 225 ∷ 226 ∷ 227 ∷ 228
-    ∷ []
+    number_of BadCatalogue ∷ number_of BadRenames ∷ number_of SmallOutput ∷ number_of BadState ∷ number_of NoClient ∷ number_of NoService ∷
+    number_of NotConnected ∷ number_of AlreadyConnected ∷ number_of BadMtu ∷ number_of NoCharacteristic ∷ number_of NoSlot ∷ number_of NotReadable ∷
+    number_of NotWritable ∷ number_of NotEncrypted ∷ number_of ValueChanged ∷ number_of BeyondEnd ∷ number_of BadLength ∷ number_of NotAllowed ∷
+    number_of TooManyResults ∷ number_of BadName ∷ number_of BadGroup ∷ number_of BadCardLength ∷ number_of BadCheck ∷ number_of BadBlockNumber ∷
+    number_of BadKind ∷ number_of BadCount ∷ number_of NotFull ∷ number_of BadPadding ∷ number_of NoRoom ∷ number_of NoCardRoom ∷
+    number_of BadEntries ∷ number_of NoObjectRoom ∷ number_of LongSheet ∷ number_of BadLine ∷ number_of NotRising ∷ number_of ManyStarts ∷ []
 
 -- the rows have their numbers in the order of the table, and each number at most once
 abbrev pub in_order : List ℕ → List Row → Bool

@@ -4,7 +4,7 @@
 ghost use Rattle.std.specs.Prelude.{◌≡◌, ◌+◌, ◌<◌, ◌≤◌, length, get_or, ◌∷◌, []};
 ghost use Rattle.ground.specs.Cases.{has};
 ghost use Rattle.ground.specs.Lists.{laid};
-ghost use Rattle.ground.specs.Refusals.{refused, refused_with, refusal_of};
+ghost use Rattle.ground.specs.Refusals.{refused, refused_with, number_of, refusal_of};
 ghost use Rattle.ground.specs.Words.{half_of, half_at, word_of, word_at, octets_of_word, six_octets, six_at};
 
 pub const MOST_GROUPS: usize = 64;
@@ -21,120 +21,142 @@ pub const MOST_TITLE: usize = 128;
 
 pub const LEAST_OUTPUT: usize = 128;
 
-// The numbers of the refusals, in the order of the table of SCOPE 20.2.
-pub const BAD_CATALOGUE: u32 = 200;
+// Why a call is refused: the rows of the table of SCOPE 20.2, in its order.
+#[derive(Clone, Copy, PartialEq, Eq)]
+pub enum Reason {
+    BadCatalogue,
+    BadRenames,
+    SmallOutput,
+    BadState,
+    NoClient,
+    NoService,
+    NotConnected,
+    AlreadyConnected,
+    BadMtu,
+    NoCharacteristic,
+    NoSlot,
+    NotReadable,
+    NotWritable,
+    NotEncrypted,
+    ValueChanged,
+    BeyondEnd,
+    BadLength,
+    NotAllowed,
+    TooManyResults,
+    BadName,
+    BadGroup,
+    BadCardLength,
+    BadCheck,
+    BadBlockNumber,
+    BadKind,
+    BadCount,
+    NotFull,
+    BadPadding,
+    NoRoom,
+    NoCardRoom,
+    BadEntries,
+    NoObjectRoom,
+    LongSheet,
+    BadLine,
+    NotRising,
+    ManyStarts,
+}
 
-pub const BAD_RENAMES: u32 = 224;
+// The number of a reason (SCOPE 20.2).
+impl From<Reason> for u32 {
+    ghost from_gives = { λ reason number. number ≡ number_of reason };
 
-pub const SMALL_OUTPUT: u32 = 205;
-
-pub const BAD_STATE: u32 = 201;
-
-pub const NO_CLIENT: u32 = 202;
-
-pub const NO_SERVICE: u32 = 219;
-
-pub const NOT_CONNECTED: u32 = 203;
-
-pub const ALREADY_CONNECTED: u32 = 204;
-
-pub const BAD_MTU: u32 = 206;
-
-pub const NO_CHARACTERISTIC: u32 = 0x01;
-
-pub const NO_SLOT: u32 = 209;
-
-pub const NOT_READABLE: u32 = 0x02;
-
-pub const NOT_WRITABLE: u32 = 0x03;
-
-pub const NOT_ENCRYPTED: u32 = 0x0F;
-
-pub const VALUE_CHANGED: u32 = 0x80;
-
-pub const BEYOND_END: u32 = 0x07;
-
-pub const BAD_LENGTH: u32 = 0x0D;
-
-pub const NOT_ALLOWED: u32 = 0x13;
-
-pub const TOO_MANY_RESULTS: u32 = 0x11;
-
-pub const BAD_NAME: u32 = 207;
-
-pub const BAD_GROUP: u32 = 208;
-
-pub const BAD_CARD_LENGTH: u32 = 210;
-
-pub const BAD_CHECK: u32 = 211;
-
-pub const BAD_BLOCK_NUMBER: u32 = 215;
-
-pub const BAD_KIND: u32 = 216;
-
-pub const BAD_COUNT: u32 = 217;
-
-pub const NOT_FULL: u32 = 214;
-
-pub const BAD_PADDING: u32 = 218;
-
-pub const NO_ROOM: u32 = 212;
-
-pub const NO_CARD_ROOM: u32 = 213;
-
-pub const BAD_ENTRIES: u32 = 222;
-
-pub const NO_OBJECT_ROOM: u32 = 223;
-
-pub const LONG_SHEET: u32 = 225;
-
-pub const BAD_LINE: u32 = 226;
-
-pub const NOT_RISING: u32 = 227;
-
-pub const MANY_STARTS: u32 = 228;
+    fn from(reason: Reason) -> u32
+        ensures { result ≡ number_of reason }
+    {
+        match reason {
+            Reason::BadCatalogue => 200,
+            Reason::BadRenames => 224,
+            Reason::SmallOutput => 205,
+            Reason::BadState => 201,
+            Reason::NoClient => 202,
+            Reason::NoService => 219,
+            Reason::NotConnected => 203,
+            Reason::AlreadyConnected => 204,
+            Reason::BadMtu => 206,
+            Reason::NoCharacteristic => 0x01,
+            Reason::NoSlot => 209,
+            Reason::NotReadable => 0x02,
+            Reason::NotWritable => 0x03,
+            Reason::NotEncrypted => 0x0F,
+            Reason::ValueChanged => 0x80,
+            Reason::BeyondEnd => 0x07,
+            Reason::BadLength => 0x0D,
+            Reason::NotAllowed => 0x13,
+            Reason::TooManyResults => 0x11,
+            Reason::BadName => 207,
+            Reason::BadGroup => 208,
+            Reason::BadCardLength => 210,
+            Reason::BadCheck => 211,
+            Reason::BadBlockNumber => 215,
+            Reason::BadKind => 216,
+            Reason::BadCount => 217,
+            Reason::NotFull => 214,
+            Reason::BadPadding => 218,
+            Reason::NoRoom => 212,
+            Reason::NoCardRoom => 213,
+            Reason::BadEntries => 222,
+            Reason::NoObjectRoom => 223,
+            Reason::LongSheet => 225,
+            Reason::BadLine => 226,
+            Reason::NotRising => 227,
+            Reason::ManyStarts => 228,
+        }
+    }
+}
 
 // What a refusal carries besides its number (SCOPE 20.4).
-#[derive(Clone, Copy)]
+#[derive(Clone, Copy, PartialEq, Eq)]
 pub enum Carried {
     Nothing,
     One(usize),
     Two(usize, usize),
 }
 
-#[derive(Clone, Copy)]
+#[derive(Clone, Copy, PartialEq, Eq)]
 pub struct Refusal {
-    pub number: u32,
+    pub reason: Reason,
     pub carried: Carried,
 }
 
-// A refusal by its number alone.
-pub fn refuse(number: u32) -> Refusal
-    ensures { refusal_of result ≡ refused number }
-{
-    Refusal {
-        number: number,
-        carried: Carried::Nothing,
+// A refusal that carries nothing.
+impl From<Reason> for Refusal {
+    ghost from_gives = { λ reason refusal. refusal_of refusal ≡ refused (number_of reason) };
+
+    fn from(reason: Reason) -> Refusal
+        ensures { refusal_of result ≡ refused (number_of reason) }
+    {
+        Refusal {
+            reason: reason,
+            carried: Carried::Nothing,
+        }
     }
 }
 
-// A refusal that carries a number besides.
-pub fn refuse_at(number: u32, place: usize) -> Refusal
-    ensures { refusal_of result ≡ refused_with number (place ∷ []) }
-{
-    Refusal {
-        number: number,
-        carried: Carried::One(place),
+impl Reason {
+    // A refusal that carries a number besides.
+    pub fn at(self, place: usize) -> Refusal
+        ensures { refusal_of result ≡ refused_with (number_of self) (place ∷ []) }
+    {
+        Refusal {
+            reason: self,
+            carried: Carried::One(place),
+        }
     }
-}
 
-// A refusal that carries two numbers besides.
-pub fn refuse_with(number: u32, first: usize, second: usize) -> Refusal
-    ensures { refusal_of result ≡ refused_with number (first ∷ second ∷ []) }
-{
-    Refusal {
-        number: number,
-        carried: Carried::Two(first, second),
+    // A refusal that carries two numbers besides.
+    pub fn at_both(self, first: usize, second: usize) -> Refusal
+        ensures { refusal_of result ≡ refused_with (number_of self) (first ∷ second ∷ []) }
+    {
+        Refusal {
+            reason: self,
+            carried: Carried::Two(first, second),
+        }
     }
 }
 

@@ -1,10 +1,9 @@
 -- The check of a text (SCOPE 2.6): whether octets are UTF-8, and if not, where. `proofs/Law.antt` proves that it agrees with `Grammar.antt`, both ways.
 -- Assumes nothing.
-use Rattle.std.specs.Prelude.{Bool, ◌&&◌, List, [], ◌∷◌, ℕ, zero, suc, ◌+◌, ◌-◌, eqb, get_or}
+use Rattle.std.specs.Prelude.{Bool, ◌&&◌, List, [], ◌∷◌, ℕ, zero, suc, ◌+◌, ◌-◌, eqb, get_or, Result, Ok, Err}
 use Rattle.ground.specs.Cases.{pick, within}
 use Rattle.ground.specs.Refusals.{Said, granted, refused_with}
-use Rattle.text.specs.declared.Checked.{Checked}
-use Rattle.text.specs.declared.Checked.TheVariants.{Fine, BadAt}
+use Rattle.text.specs.declared.NotText.{NotText}
 
 -- an octet that continues a character
 abbrev pub is_tail : ℕ → Bool
@@ -28,24 +27,28 @@ char_of a b c d =
 abbrev pub char_length : List ℕ → ℕ
 char_length s = char_of (get_or s 0 0) (get_or s 1 0) (get_or s 2 0) (get_or s 3 0)
 
+-- no text, by the octet at an offset
+abbrev pub bad_at : ℕ → Result Unit NotText
+bad_at at = Err (record { at = at })
+
 -- The check goes character by character. `at` is the offset of the next octet, and `rest` says how many octets are still to come of the character before it.
-unfoldable pub text_from : ℕ → ℕ → List ℕ → Checked
-text_from at rest [] = Fine
+unfoldable pub text_from : ℕ → ℕ → List ℕ → Result Unit NotText
+text_from at rest [] = Ok tt
 text_from at zero (a ∷ s) =
-    pick (eqb (char_length (a ∷ s)) 0) (BadAt at) (text_from (at + 1) (char_length (a ∷ s) - 1) s)
+    pick (eqb (char_length (a ∷ s)) 0) (bad_at at) (text_from (at + 1) (char_length (a ∷ s) - 1) s)
 text_from at (suc rest) (a ∷ s) = text_from (at + 1) rest s
 
-unfoldable pub text_of : List ℕ → Checked
+unfoldable pub text_of : List ℕ → Result Unit NotText
 text_of s = text_from 0 0 s
 
 -- the number and the values of each answer: a text that is not UTF-8 is 207 and carries the offset (SCOPE 20.4)
-abbrev pub said_of : Checked → Said
-said_of Fine = granted []
-said_of (BadAt at) = refused_with 207 (at ∷ [])
+abbrev pub said_of : Result Unit NotText → Said
+said_of (Ok u) = granted []
+said_of (Err e) = refused_with 207 (e.at ∷ [])
 
 unfoldable pub text_said : List ℕ → Said
 text_said s = said_of (text_of s)
 
 -- the answer is that the text is right
-abbrev pub is_fine : Checked → Bool
+abbrev pub is_fine : Result Unit NotText → Bool
 is_fine checked = (said_of checked).is_granted

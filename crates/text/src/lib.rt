@@ -5,11 +5,10 @@ ghost use Rattle.std.specs.Prelude.{◌≡◌, true, ◌&&◌, ℕ, ◌+◌, ◌
 ghost use Rattle.ground.specs.Cases.{pick, within};
 ghost use Rattle.text.specs.Utf8.{is_tail, char_of, char_length, text_of, is_fine, said_of, text_said};
 
-#[derive(Clone, Copy)]
-pub enum Checked {
-    Fine,
-    // The offset of the first octet that does not start a whole valid character; all before it are whole valid characters.
-    BadAt(usize),
+// Why octets are not text: the offset of the first one that does not start a whole valid character. All before it are whole valid characters.
+#[derive(Clone, Copy, PartialEq, Eq)]
+pub struct NotText {
+    pub at: usize,
 }
 
 fn is_within(low: u8, high: u8, x: u8) -> bool
@@ -151,7 +150,7 @@ fn plain_from(s: &[u8]) -> usize
 }
 
 // Goes character by character, up to where all that is left is plain.
-fn scan(s: &[u8]) -> Checked
+fn scan(s: &[u8]) -> Result<(), NotText>
     ensures { result ≡ text_of s.now }
 {
     let end = plain_from(s);
@@ -159,22 +158,22 @@ fn scan(s: &[u8]) -> Checked
     while i < end {
         let n = char_at(s, i);
         if n == 0 {
-            return Checked::BadAt(i);
+            return Err(NotText { at: i });
         }
         i += n;
     }
-    Checked::Fine
+    Ok(())
 }
 
 // Whether s is UTF-8, and if not, where (SCOPE 2.6). That a long text is plain ASCII is found out by one loop; a short text is scanned at once.
-pub fn check(s: &[u8]) -> Checked
+pub fn check(s: &[u8]) -> Result<(), NotText>
     ensures { said_of result ≡ text_said s.now }
 {
     if s.len() < 32 {
         return scan(s);
     }
     if is_plain(s) {
-        return Checked::Fine;
+        return Ok(());
     }
     scan(s)
 }
@@ -182,9 +181,5 @@ pub fn check(s: &[u8]) -> Checked
 pub fn is_text(s: &[u8]) -> bool
     ensures { result ≡ is_fine (text_of s.now) }
 {
-    let c = check(s);
-    match c {
-        Checked::Fine => true,
-        Checked::BadAt(_) => false,
-    }
+    check(s).is_ok()
 }

@@ -52,4 +52,4 @@ returns c =
     c.within-b.ensures
     c.within-c.ensures
     c.within-d.ensures in
-    here _ (ap not (room_is ∙ c.if-a-b.false)) c.refused.ensures
+    here _ (ap not (room_is ∙ c.if-a-b.false)) c.from.ensures

@@ -1,176 +1,52 @@
--- `card_load::load`: a refusal comes before anything is lent, and after `Done` each table is filled by its own call.
-use mathlib.Core.Path.{◌≡◌, refl, sym, ap, ◌∙◌}
-use lib.ListN.{length}
+-- `card_load::load`: a refusal comes before anything is lent, and after counts are answered each table is filled by its own call.
+use mathlib.Core.Path.{◌≡◌, sym, ap, ◌∙◌}
+use Prim.Native.Nat.{ℕ}
+use mathlib.Core.List.{List}
+use Rattle.std.specs.Prelude.{Result, Ok}
 use Rattle.ground.specs.Refusals.{Said}
-use Rattle.card_load.specs.declared.Loaded.{Loaded}
-use Rattle.card_load.specs.declared.Loaded.TheVariants.{Done}
+use Rattle.ground.specs.declared.Refusal.{Refusal}
+use Rattle.card_load.specs.declared.Counts.{Counts}
 use Rattle.card_load.specs.Load.{said_of, load_said}
 use Rattle.card_load.proofs.Sound.{Sound, sound}
--- an answer of the survey says what the survey says
 use Rattle.card_load.proofs.load.Goals as goal
 
-answered : {v r : Loaded} {said : Said} → said_of v ≡ said → v ≡ r → said_of r ≡ said
+-- an answer of the survey says what the survey says
+answered : {v r : Result Counts Refusal} {said : Said} → said_of v ≡ said → v ≡ r → said_of r ≡ said
 answered e q = sym (ap said_of q) ∙ e
 
-pub fill_words-requires-clause-block_size_in_bounds : goal.fill_words-requires-clause-block_size_in_bounds
-fill_words-requires-clause-block_size_in_bounds c =
-    let done_said : let a = c.args in
-    said_of (Done c.in-Done.c)
-    ≡ load_said a.card.now (length a.groups.now) (length a.tracks.now) (length a.segments.now) (length a.text.now) = answered c.survey-v.ensures c.in-Done.is in
-    let good : let a = c.args in
-    Sound a.card.now (length a.groups.now) (length a.tracks.now) (length a.segments.now) (length a.text.now) = sound _ _ _ _ _ _ (done_said) in
-    let z = good in z.long
+-- where it has counts, the card is sound
+module _ {v : Result Counts Refusal} {counts : Counts} {card : List ℕ} {groups tracks segments text : ℕ} where
+  is_sound : said_of v ≡ load_said card groups tracks segments text → v ≡ Ok counts → Sound card groups tracks segments text
+  is_sound e q = sound _ _ _ _ _ _ (answered e q)
 
 pub fill_words-requires-clause-counts_fit : goal.fill_words-requires-clause-counts_fit
 fill_words-requires-clause-counts_fit c =
-    let done_said : let a = c.args in
-    said_of (Done c.in-Done.c)
-    ≡ load_said a.card.now (length a.groups.now) (length a.tracks.now) (length a.segments.now) (length a.text.now) = answered c.survey-v.ensures c.in-Done.is in
-    let good : let a = c.args in
-    Sound a.card.now (length a.groups.now) (length a.tracks.now) (length a.segments.now) (length a.text.now) = sound _ _ _ _ _ _ (done_said) in
-    let z = good in z.fit
+    (is_sound c.survey.ensures c.in_ok-counts.was).fit
 
 pub fill_words-requires-clause-card_in_bounds : goal.fill_words-requires-clause-card_in_bounds
 fill_words-requires-clause-card_in_bounds c =
-    let done_said : let a = c.args in
-    said_of (Done c.in-Done.c)
-    ≡ load_said a.card.now (length a.groups.now) (length a.tracks.now) (length a.segments.now) (length a.text.now) = answered c.survey-v.ensures c.in-Done.is in
-    let good : let a = c.args in
-    Sound a.card.now (length a.groups.now) (length a.tracks.now) (length a.segments.now) (length a.text.now) = sound _ _ _ _ _ _ (done_said) in
-    let z = good in z.groups_room
+    (is_sound c.survey.ensures c.in_ok-counts.was).groups_room
 
-pub fill_words-requires-in-Done-clause-block_size_in_bounds : goal.fill_words-requires-in-Done-clause-block_size_in_bounds
-fill_words-requires-in-Done-clause-block_size_in_bounds c =
-    let done_said : let a = c.args in
-    said_of (Done c.in-Done.c)
-    ≡ load_said a.card.now (length a.groups.now) (length a.tracks.now) (length a.segments.now) (length a.text.now) = answered c.survey-v.ensures c.in-Done.is in
-    let good : let a = c.args in
-    Sound a.card.now (length a.groups.now) (length a.tracks.now) (length a.segments.now) (length a.text.now) = sound _ _ _ _ _ _ (done_said) in
-    let z = good in z.long
+pub fill_words-requires-2-clause-counts_fit : goal.fill_words-requires-2-clause-counts_fit
+fill_words-requires-2-clause-counts_fit c =
+    (is_sound c.survey.ensures c.in_ok-counts.was).fit
 
-pub fill_words-requires-in-Done-clause-counts_fit : goal.fill_words-requires-in-Done-clause-counts_fit
-fill_words-requires-in-Done-clause-counts_fit c =
-    let done_said : let a = c.args in
-    said_of (Done c.in-Done.c)
-    ≡ load_said a.card.now (length a.groups.now) (length a.tracks.now) (length a.segments.now) (length a.text.now) = answered c.survey-v.ensures c.in-Done.is in
-    let good : let a = c.args in
-    Sound a.card.now (length a.groups.now) (length a.tracks.now) (length a.segments.now) (length a.text.now) = sound _ _ _ _ _ _ (done_said) in
-    let z = good in z.fit
+pub fill_words-requires-2-clause-card_in_bounds : goal.fill_words-requires-2-clause-card_in_bounds
+fill_words-requires-2-clause-card_in_bounds c =
+    (is_sound c.survey.ensures c.in_ok-counts.was).tracks_room
 
-pub fill_words-requires-in-Done-clause-card_in_bounds : goal.fill_words-requires-in-Done-clause-card_in_bounds
-fill_words-requires-in-Done-clause-card_in_bounds c =
-    let done_said : let a = c.args in
-    said_of (Done c.in-Done.c)
-    ≡ load_said a.card.now (length a.groups.now) (length a.tracks.now) (length a.segments.now) (length a.text.now) = answered c.survey-v.ensures c.in-Done.is in
-    let good : let a = c.args in
-    Sound a.card.now (length a.groups.now) (length a.tracks.now) (length a.segments.now) (length a.text.now) = sound _ _ _ _ _ _ (done_said) in
-    let z = good in z.tracks_room
+pub fill_words-requires-3-clause-counts_fit : goal.fill_words-requires-3-clause-counts_fit
+fill_words-requires-3-clause-counts_fit c =
+    (is_sound c.survey.ensures c.in_ok-counts.was).fit
 
-pub fill_words-requires-in-Done-2-clause-block_size_in_bounds : goal.fill_words-requires-in-Done-2-clause-block_size_in_bounds
-fill_words-requires-in-Done-2-clause-block_size_in_bounds c =
-    let done_said : let a = c.args in
-    said_of (Done c.in-Done.c)
-    ≡ load_said a.card.now (length a.groups.now) (length a.tracks.now) (length a.segments.now) (length a.text.now) = answered c.survey-v.ensures c.in-Done.is in
-    let good : let a = c.args in
-    Sound a.card.now (length a.groups.now) (length a.tracks.now) (length a.segments.now) (length a.text.now) = sound _ _ _ _ _ _ (done_said) in
-    let z = good in z.long
-
-pub fill_words-requires-in-Done-2-clause-counts_fit : goal.fill_words-requires-in-Done-2-clause-counts_fit
-fill_words-requires-in-Done-2-clause-counts_fit c =
-    let done_said : let a = c.args in
-    said_of (Done c.in-Done.c)
-    ≡ load_said a.card.now (length a.groups.now) (length a.tracks.now) (length a.segments.now) (length a.text.now) = answered c.survey-v.ensures c.in-Done.is in
-    let good : let a = c.args in
-    Sound a.card.now (length a.groups.now) (length a.tracks.now) (length a.segments.now) (length a.text.now) = sound _ _ _ _ _ _ (done_said) in
-    let z = good in z.fit
-
-pub fill_words-requires-in-Done-2-clause-card_in_bounds : goal.fill_words-requires-in-Done-2-clause-card_in_bounds
-fill_words-requires-in-Done-2-clause-card_in_bounds c =
-    let done_said : let a = c.args in
-    said_of (Done c.in-Done.c)
-    ≡ load_said a.card.now (length a.groups.now) (length a.tracks.now) (length a.segments.now) (length a.text.now) = answered c.survey-v.ensures c.in-Done.is in
-    let good : let a = c.args in
-    Sound a.card.now (length a.groups.now) (length a.tracks.now) (length a.segments.now) (length a.text.now) = sound _ _ _ _ _ _ (done_said) in
-    let z = good in z.segments_room
-
-pub fill_octets-requires-clause-block_size_in_bounds : goal.fill_octets-requires-clause-block_size_in_bounds
-fill_octets-requires-clause-block_size_in_bounds c =
-    let done_said : let a = c.args in
-    said_of (Done c.in-Done.c)
-    ≡ load_said a.card.now (length a.groups.now) (length a.tracks.now) (length a.segments.now) (length a.text.now) = answered c.survey-v.ensures c.in-Done.is in
-    let good : let a = c.args in
-    Sound a.card.now (length a.groups.now) (length a.tracks.now) (length a.segments.now) (length a.text.now) = sound _ _ _ _ _ _ (done_said) in
-    let z = good in z.long
+pub fill_words-requires-3-clause-card_in_bounds : goal.fill_words-requires-3-clause-card_in_bounds
+fill_words-requires-3-clause-card_in_bounds c =
+    (is_sound c.survey.ensures c.in_ok-counts.was).segments_room
 
 pub fill_octets-requires-clause-counts_fit : goal.fill_octets-requires-clause-counts_fit
 fill_octets-requires-clause-counts_fit c =
-    let done_said : let a = c.args in
-    said_of (Done c.in-Done.c)
-    ≡ load_said a.card.now (length a.groups.now) (length a.tracks.now) (length a.segments.now) (length a.text.now) = answered c.survey-v.ensures c.in-Done.is in
-    let good : let a = c.args in
-    Sound a.card.now (length a.groups.now) (length a.tracks.now) (length a.segments.now) (length a.text.now) = sound _ _ _ _ _ _ (done_said) in
-    let z = good in z.fit
+    (is_sound c.survey.ensures c.in_ok-counts.was).fit
 
 pub fill_octets-requires-clause-card_in_bounds : goal.fill_octets-requires-clause-card_in_bounds
 fill_octets-requires-clause-card_in_bounds c =
-    let done_said : let a = c.args in
-    said_of (Done c.in-Done.c)
-    ≡ load_said a.card.now (length a.groups.now) (length a.tracks.now) (length a.segments.now) (length a.text.now) = answered c.survey-v.ensures c.in-Done.is in
-    let good : let a = c.args in
-    Sound a.card.now (length a.groups.now) (length a.tracks.now) (length a.segments.now) (length a.text.now) = sound _ _ _ _ _ _ (done_said) in
-    let z = good in z.text_room
-
-pub returns-in-Refused-clause-result_value : goal.returns-in-Refused-clause-result_value
-returns-in-Refused-clause-result_value c =
-    answered c.survey-v.ensures c.in-Refused.is
-
-pub returns-in-Refused-clause-groups_after : goal.returns-in-Refused-clause-groups_after
-returns-in-Refused-clause-groups_after c =
-    refl
-
-pub returns-in-Refused-clause-tracks_after : goal.returns-in-Refused-clause-tracks_after
-returns-in-Refused-clause-tracks_after c =
-    refl
-
-pub returns-in-Refused-clause-segments_after : goal.returns-in-Refused-clause-segments_after
-returns-in-Refused-clause-segments_after c =
-    refl
-
-pub returns-in-Refused-clause-text_after : goal.returns-in-Refused-clause-text_after
-returns-in-Refused-clause-text_after c =
-    refl
-
-pub returns-in-Done-clause-result_value : goal.returns-in-Done-clause-result_value
-returns-in-Done-clause-result_value c =
-    let done_said : let a = c.args in
-    said_of (Done c.in-Done.c)
-    ≡ load_said a.card.now (length a.groups.now) (length a.tracks.now) (length a.segments.now) (length a.text.now) = answered c.survey-v.ensures c.in-Done.is in
-    done_said
-
-pub returns-in-Done-clause-groups_after : goal.returns-in-Done-clause-groups_after
-returns-in-Done-clause-groups_after c =
-    let done_said : let a = c.args in
-    said_of (Done c.in-Done.c)
-    ≡ load_said a.card.now (length a.groups.now) (length a.tracks.now) (length a.segments.now) (length a.text.now) = answered c.survey-v.ensures c.in-Done.is in
-    c.fill_words.ensures
-
-pub returns-in-Done-clause-tracks_after : goal.returns-in-Done-clause-tracks_after
-returns-in-Done-clause-tracks_after c =
-    let done_said : let a = c.args in
-    said_of (Done c.in-Done.c)
-    ≡ load_said a.card.now (length a.groups.now) (length a.tracks.now) (length a.segments.now) (length a.text.now) = answered c.survey-v.ensures c.in-Done.is in
-    c.fill_words-in-Done.ensures
-
-pub returns-in-Done-clause-segments_after : goal.returns-in-Done-clause-segments_after
-returns-in-Done-clause-segments_after c =
-    let done_said : let a = c.args in
-    said_of (Done c.in-Done.c)
-    ≡ load_said a.card.now (length a.groups.now) (length a.tracks.now) (length a.segments.now) (length a.text.now) = answered c.survey-v.ensures c.in-Done.is in
-    c.fill_words-in-Done-2.ensures
-
-pub returns-in-Done-clause-text_after : goal.returns-in-Done-clause-text_after
-returns-in-Done-clause-text_after c =
-    let done_said : let a = c.args in
-    said_of (Done c.in-Done.c)
-    ≡ load_said a.card.now (length a.groups.now) (length a.tracks.now) (length a.segments.now) (length a.text.now) = answered c.survey-v.ensures c.in-Done.is in
-    c.fill_octets.ensures
+    (is_sound c.survey.ensures c.in_ok-counts.was).text_room

@@ -1,15 +1,17 @@
--- `text::is_text`: each arm knows which of the two answers `check` gave.
-use mathlib.Core.Path.{sym, ap, ◌∙◌}
+-- `text::is_text`: an answer that is `Ok` is the one that is granted.
+use mathlib.Core.Path.{◌≡◌, refl, ap, ◌∙◌}
+use Rattle.std.specs.Prelude.{Result, Ok, Err}
+use Rattle.core.specs.Result.{is_ok}
 use Rattle.ground.specs.Refusals.{Said}
-use Rattle.text.specs.Utf8.{said_of, text_said}
+use Rattle.text.specs.declared.NotText.{NotText}
+use Rattle.text.specs.Utf8.{text_said, is_fine}
 use Rattle.text.proofs.is_text.Goals as goal
 
-pub returns-in-Fine : goal.returns-in-Fine
-unfolding text_said
-returns-in-Fine c =
-    ap (λ (said : Said). said.is_granted) (sym (ap said_of c.in-Fine.is) ∙ c.check-c.ensures)
+fine_if_ok : (r : Result Unit NotText) → is_ok r ≡ is_fine r
+fine_if_ok (Ok u) = refl
+fine_if_ok (Err e) = refl
 
-pub returns-in-BadAt : goal.returns-in-BadAt
+pub returns : goal.returns
 unfolding text_said
-returns-in-BadAt c =
-    ap (λ (said : Said). said.is_granted) (sym (ap said_of c.in-BadAt.is) ∙ c.check-c.ensures)
+returns c =
+    c.is_ok.ensures.value ∙ fine_if_ok c.check.result ∙ ap (λ (said : Said). said.is_granted) c.check.ensures
