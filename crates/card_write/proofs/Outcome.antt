@@ -3,11 +3,12 @@ use mathlib.Core.List.{List}
 use Prim.Native.Nat.{ℕ}
 use contract.Lifetimes.{Lfts}
 use denote.Ref.{Bor, MutBor, at_last}
-use Rattle.card_write.specs.declared.Written.{Written}
+use Rattle.std.specs.Prelude.{Result}
+use Rattle.ground.specs.declared.Refusal.{Refusal}
 use Rattle.card_write.proofs.write.Reads as write
 
 pub record Outcome : Type 0 where
-  pub answer : Written
+  pub answer : Result ℕ Refusal
   pub card : List ℕ
 
 -- the outcome meets the contract

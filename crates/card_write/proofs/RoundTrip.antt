@@ -12,7 +12,7 @@ use denote.Ref.{Bor, MutBor}
 use lib.Dec.{ltb}
 use lib.ListN.{length, get_or, take, drop}
 use lib.Seq.{take_at}
-use Rattle.ground.specs.Refusals.{Said, granted, Row, said_through}
+use Rattle.ground.specs.Refusals.{Said, granted, count_said, Row, said_through}
 use Rattle.ground.specs.Lists.{filled, table_after}
 use Rattle.ground.specs.Words.{words}
 use Rattle.ground.proofs.Octets.{octs_of}
@@ -20,16 +20,15 @@ use Rattle.ground.proofs.Rows.{NoneApplies, kept, parted, of_none, through}
 use Rattle.card_block.specs.Block.{record_size}
 use Rattle.card_block.proofs.Records.{records_words, records_octets}
 use Rattle.card_load.specs.declared.Counts.{Counts}
-use Rattle.card_load.specs.declared.Loaded.TheVariants.{Done as LoadDone}
 use Rattle.card_load.specs.Card.{length_rule, blocks_of, blocks_rows, blocks_rule, record_count, gather, octets, CountsFit}
 use Rattle.card_load.specs.Load.{said_of as loadSaidOf, load_rows, load_said}
 use Rattle.card_load.proofs.Lengths.{counts_fit, gather_length}
 use Rattle.catalogue_tables.specs.Tables.{Tables, tables, group_count, track_count}
 use Rattle.catalogue_check.specs.Catalogue.{Right}
 use Rattle.catalogue_check.proofs.Laws.{passed, is_right}
-use Rattle.card_write.specs.declared.Written.TheVariants.{Done}
+use Rattle.std.specs.Prelude.{Ok}
 use Rattle.card_write.specs.Card.{blocks_taken, card_of, FullButLast}
-use Rattle.card_write.specs.Write.{said_of, write_rows, write_said}
+use Rattle.card_write.specs.Write.{write_rows, write_said}
 use Rattle.card_write.proofs.Answers.{right_sized}
 use Rattle.card_write.proofs.Loading.{card_length, blocks_read, card_loads}
 use Rattle.card_write.proofs.Full.{blocks_full}
@@ -55,13 +54,13 @@ times_one n = omega arith
 
 -- a write that was granted
 module _ (κs : Lfts 5) (groups tracks segments text : Bor (List ℕ)) (card : MutBor (List ℕ)) (o : write.Outcome) (m : write.Meets κs groups tracks segments text card o)
-    (blocks : ℕ) (done : o.answer ≡ Done blocks) where
+    (blocks : ℕ) (done : o.answer ≡ Ok blocks) where
   abbrev k : Tables
   k = tables groups.now tracks.now segments.now text.now
 
   told : NoneApplies (write_rows k (length card.now)) × ((blocks ∷ []) ≡ (blocks_taken k ∷ []))
   unfolding write_said
-  told = granted_behind (write_rows k (length card.now)) (blocks ∷ []) (blocks_taken k ∷ []) (sym (ap said_of done) ∙ m.0)
+  told = granted_behind (write_rows k (length card.now)) (blocks ∷ []) (blocks_taken k ∷ []) (sym (ap count_said done) ∙ m.0)
 
   right : Right k
   right = is_right k (not-false _ told.0.0)
@@ -71,7 +70,7 @@ module _ (κs : Lfts 5) (groups tracks segments text : Bor (List ℕ)) (card : M
   written_front =
       let n : blocks ≡ blocks_taken k = ap (λ (v : List ℕ). get_or v 0 0) told.1 in
       let l : length (card_of k) ≡ blocks * 512 = card_length k _ _ _ _ (right_sized k right) ∙ ap (λ (x : ℕ). x * 512) (sym n) in
-      ap (take (blocks * 512)) (filled_is {found = card_of k} card.now (ap said_of done) refl m.1) ∙ front_is (card_of k) card.now (blocks * 512) l
+      ap (take (blocks * 512)) (filled_is {found = card_of k} card.now (ap count_said done) refl m.1) ∙ front_is (card_of k) card.now (blocks * 512) l
 
   -- every block of it but the last of its kind is full
   pub written_full : FullButLast (blocks_of (take (blocks * 512) o.card))
@@ -104,7 +103,7 @@ module _ (κs : Lfts 5) (groups tracks segments text : Bor (List ℕ)) (card : M
 
 -- a load that was granted, of a card of octets
 module _ (ls : Lfts 5) (lent : Bor (List ℕ)) (gs ts ss xs : MutBor (List ℕ)) (p : load.Outcome) (m : load.Meets ls lent gs ts ss xs p)
-    (c : Counts) (done : p.answer ≡ LoadDone c)
+    (c : Counts) (done : p.answer ≡ Ok c)
     (octet : (i : ℕ) → get_or lent.now i 0 < 256) where
   abbrev bs : List (List ℕ)
   bs = blocks_of lent.now
@@ -178,7 +177,7 @@ module _ (ls : Lfts 5) (lent : Bor (List ℕ)) (gs ts ss xs : MutBor (List ℕ))
       → segments.now ≡ take c.segments p.segments → text.now ≡ take c.text p.text
       → Right (tables groups.now tracks.now segments.now text.now)
       → length lent.now ≤ length card.now
-      → (said_of o.answer ≡ granted (length lent.now / 512 ∷ [])) × (o.card ≡ filled lent.now card.now)
+      → (count_said o.answer ≡ granted (length lent.now / 512 ∷ [])) × (o.card ≡ filled lent.now card.now)
   unfolding write_said
   write_of_load κs groups tracks segments text card o q eg et es ex right room =
       let k = tables groups.now tracks.now segments.now text.now in
@@ -187,7 +186,7 @@ module _ (ls : Lfts 5) (lent : Bor (List ℕ)) (gs ts ss xs : MutBor (List ℕ))
       let l : blocks_taken k * 512 ≡ length lent.now = sym (card_length k _ _ _ _ (right_sized k right)) ∙ ap length same in
       let n : blocks_taken k ≡ length lent.now / 512 = omega arith in
       let enough : ltb (length card.now) (blocks_taken k * 512) ≡ false = (let h : blocks_taken k * 512 ≤ length card.now = omega arith in le-ltb _ _ h) in
-      let s : said_of o.answer ≡ granted (length lent.now / 512 ∷ []) =
+      let s : count_said o.answer ≡ granted (length lent.now / 512 ∷ []) =
       q.0
       ∙ sym (through (λ s. s) (write_rows k (length card.now)) (ap not (passed k right), (enough, tt)) refl)
       ∙ ap (λ (x : ℕ). granted (x ∷ [])) n in

@@ -1,18 +1,11 @@
 -- What card write says (SCOPE 3.15, 3.17): 200, then 213, or else how many blocks there are.
 -- Assumes nothing.
 use Rattle.std.specs.Prelude.{List, [], ◌∷◌, ℕ, ◌*◌, ltb}
-use Rattle.ground.specs.Refusals.{Said, granted, refusal_of, Row, row, said_through}
+use Rattle.ground.specs.Refusals.{Said, granted, Row, row, said_through}
 use Rattle.card_block.specs.Block.{block_size}
 use Rattle.catalogue_tables.specs.Tables.{Tables}
 use Rattle.catalogue_check.specs.Catalogue.{catalogue_row}
 use Rattle.card_write.specs.Card.{blocks_taken}
-use Rattle.card_write.specs.declared.Written.{Written}
-use Rattle.card_write.specs.declared.Written.TheVariants.{Done, Refused}
-
--- the number and the values of each answer (SCOPE 3.15, 20.4)
-abbrev pub said_of : Written → Said
-said_of (Done blocks) = granted (blocks ∷ [])
-said_of (Refused r) = refusal_of r
 
 -- SCOPE 3.17: 213 "exactly when the blocks have more octets than are lent"
 abbrev pub room_row : Tables → ℕ → Row

@@ -2,15 +2,16 @@
 #![tactic(auto)]
 
 ghost use Rattle.std.specs.Prelude.{◌≡◌, [], ◌∷◌, min, ◌+◌, ◌*◌, ◌<◌, ◌≤◌, length};
-ghost use Rattle.ground.specs.Refusals.{granted, said_through};
+ghost use Rattle.ground.specs.Refusals.{granted, said_through, count_said};
 ghost use Rattle.ground.specs.Lists.{laid, table_after};
 ghost use Rattle.ground.specs.Limits.{most_groups, most_tracks, most_segments, most_text, group_words, track_words};
 ghost use Rattle.card_block.specs.Block.{block_size};
 ghost use Rattle.catalogue_tables.specs.Tables.{tables};
 ghost use Rattle.card_write.specs.Card.{words_take, octets_take, word_blocks, text_blocks, joined, blocks_taken, card_of};
-ghost use Rattle.card_write.specs.Write.{said_of, room_row, write_said};
+ghost use Rattle.card_write.specs.Write.{room_row, write_said};
 
-use catalogue_check::Catalogue;
+use ground::Reason;
+use ground::Refusal;
 
 // The words in a full block of records, and the octets in a full block of text (SCOPE 3.3).
 const FULL_WORDS: usize = 126;
@@ -64,13 +65,6 @@ fn write_text(card: &mut [u8], first: usize, src: &[u8])
     }
 }
 
-#[derive(Clone, Copy)]
-pub enum Written {
-    // How many blocks there are.
-    Done(usize),
-    Refused(ground::Refusal),
-}
-
 // Card write, of tables that are within the limits.
 fn write_tables(
     groups: &[u32],
@@ -78,13 +72,13 @@ fn write_tables(
     segments: &[u32],
     text: &[u8],
     card: &mut [u8],
-) -> Written
+) -> Result<usize, Refusal>
     requires groups_len_bound { length groups.now ≤ most_groups * group_words }
     requires tracks_len_bound { length tracks.now ≤ most_tracks * track_words }
     requires segments_len_bound { length segments.now ≤ most_segments }
     requires text_len_bound { length text.now ≤ most_text }
-    ensures result_value { said_of result ≡ said_through (room_row (tables groups.now tracks.now segments.now text.now) (length card.old) ∷ []) (granted (blocks_taken (tables groups.now tracks.now segments.now text.now) ∷ [])) }
-    ensures card_after { card.new ≡ table_after (said_of result) (card_of (tables groups.now tracks.now segments.now text.now)) card.old }
+    ensures result_value { count_said result ≡ said_through (room_row (tables groups.now tracks.now segments.now text.now) (length card.old) ∷ []) (granted (blocks_taken (tables groups.now tracks.now segments.now text.now) ∷ [])) }
+    ensures card_after { card.new ≡ table_after (count_said result) (card_of (tables groups.now tracks.now segments.now text.now)) card.old }
 {
     let g = (groups.len() + 125) / FULL_WORDS;
     let t = (tracks.len() + 125) / FULL_WORDS;
@@ -92,14 +86,13 @@ fn write_tables(
     let x = (text.len() + 504) / FULL_TEXT;
     let n = g + t + s + x;
     if card.len() < n * card_block::BLOCK {
-        let r = ground::refuse(ground::NO_CARD_ROOM);
-        return Written::Refused(r);
+        return Err(Refusal::from(Reason::NoCardRoom));
     }
     write_words(card, 0, 1, 3, groups);
     write_words(card, g, 2, 6, tracks);
     write_words(card, g + t, 3, 1, segments);
     write_text(card, g + t + s, text);
-    Written::Done(n)
+    Ok(n)
 }
 
 // Card write: the card of a catalogue over the front of the lent one, and how many blocks it has; or a refusal, and then the lent card is as it was.
@@ -109,13 +102,10 @@ pub fn write(
     segments: &[u32],
     text: &[u8],
     card: &mut [u8],
-) -> Written
-    ensures result_value { said_of result ≡ write_said (tables groups.now tracks.now segments.now text.now) (length card.old) }
-    ensures card_after { card.new ≡ table_after (said_of result) (card_of (tables groups.now tracks.now segments.now text.now)) card.old }
+) -> Result<usize, Refusal>
+    ensures result_value { count_said result ≡ write_said (tables groups.now tracks.now segments.now text.now) (length card.old) }
+    ensures card_after { card.new ≡ table_after (count_said result) (card_of (tables groups.now tracks.now segments.now text.now)) card.old }
 {
-    let c = catalogue_check::check(groups, tracks, segments, text);
-    match c {
-        Catalogue::Refused(r) => Written::Refused(r),
-        Catalogue::Fine => write_tables(groups, tracks, segments, text, card),
-    }
+    catalogue_check::check(groups, tracks, segments, text)?;
+    write_tables(groups, tracks, segments, text, card)
 }

@@ -18,7 +18,7 @@ use Rattle.ground.proofs.Bounded.{all_at}
 use Rattle.ground.proofs.Cases.{and_left, and_right, clash, true_or}
 use Rattle.text.specs.Grammar.{Text}
 use Rattle.text.specs.Utf8.{text_of}
-use Rattle.text.specs.declared.Checked.TheVariants.{Fine}
+use Rattle.std.specs.Prelude.{Ok}
 use Rattle.text.proofs.Law.{only_fine, fine_is_text}
 use Rattle.catalogue_tables.specs.Tables.{Tables, group_count, track_count, parent_of, first_track_of, tracks_in, duration_of, is_unknown, end_by, end_of, first_segment_of, segments_in, title_offset_of, title_length_of, starts_of, title_of}
 use Rattle.catalogue_rules.specs.Rules.{sizes_rule, parents_rule, track_runs_rule, segment_runs_rule, durations_rule, starts_rule, titles_placed_rule, titles_text_rule, bad_title}
@@ -195,7 +195,7 @@ module _ (k : Tables) (right : Right k) where
     pub title_short : length (title_of k.tracks k.text t) ≤ most_title
     title_short = omega (arith, title_length, rule.titles_short k.tracks (length k.text) (kept k right).placed t exists)
 
-    pub title_fine : text_of (title_of k.tracks k.text t) ≡ Fine
+    pub title_fine : text_of (title_of k.tracks k.text t) ≡ Ok tt
     unfolding titles_text_rule
     title_fine = only_fine _ (all_at _ (track_count k.tracks) (utf8 k right) t exists)
 

@@ -2,11 +2,9 @@
 -- Assumes nothing.
 use Rattle.std.specs.Prelude.{◌≡◌, Bool, ◌&&◌, not, List, [], ◌∷◌, ℕ, length}
 use Rattle.ground.specs.Cases.{pick}
-use Rattle.ground.specs.Refusals.{Said, granted, refusal_of, Row, row_with, said_by}
+use Rattle.ground.specs.Refusals.{Said, granted, Row, row_with, said_by}
 use Rattle.catalogue_tables.specs.Tables.{Tables, track_count}
 use Rattle.catalogue_rules.specs.Rules.{sizes_rule, parents_rule, track_runs_rule, segment_runs_rule, durations_rule, starts_rule, titles_placed_rule, titles_text_rule, bad_title}
-use Rattle.catalogue_check.specs.declared.Catalogue.{Catalogue}
-use Rattle.catalogue_check.specs.declared.Catalogue.TheVariants.{Fine, Refused}
 
 -- every rule of SCOPE 4.2 to 4.11: all but that titles are UTF-8
 unfoldable pub plain_rule : Tables → Bool
@@ -32,11 +30,7 @@ catalogue_carries k = pick (plain_rule k) (bad_title k.tracks k.text) []
 abbrev pub catalogue_row : Tables → Row
 catalogue_row k = row_with 200 (catalogue_carries k) (not (catalogue_rule k))
 
--- the number and the values of each answer (SCOPE 20.4), and what the check says
-abbrev pub said_of : Catalogue → Said
-said_of Fine = granted []
-said_of (Refused r) = refusal_of r
-
+-- what the check says
 unfoldable pub check_said : Tables → Said
 check_said k = said_by (catalogue_row k ∷ [])
 

@@ -1,14 +1,13 @@
 -- The rules of a catalogue (SCOPE 4.2 to 4.12), a function for each; and which title is not UTF-8, and where (SCOPE 4.14). Sums here are of natural numbers,
 -- and so cannot wrap (SCOPE 2.2).
 -- Assumes nothing.
-use Rattle.std.specs.Prelude.{Bool, ◌&&◌, ◌||◌, List, [], ◌∷◌, ℕ, zero, suc, ◌+◌, ◌-◌, ◌/◌, ◌%◌, ◌<◌, ◌≤◌, eqb, ltb, leb, length, get_or}
+use Rattle.std.specs.Prelude.{Bool, ◌&&◌, ◌||◌, List, [], ◌∷◌, ℕ, zero, suc, ◌+◌, ◌-◌, ◌/◌, ◌%◌, ◌<◌, ◌≤◌, eqb, ltb, leb, length, get_or, Result, Ok, Err}
 use Rattle.ground.specs.Cases.{pick}
 use Rattle.ground.specs.Limits.{most_groups, most_tracks, most_segments, most_text, group_words, track_words, most_duration, most_title}
 use Rattle.ground.specs.Lists.{all_below, sum_below}
 use Rattle.text.specs.Utf8.{text_of, text_said, is_fine}
 use Rattle.catalogue_tables.specs.Tables.{group_count, track_count, parent_of, first_track_of, tracks_in, duration_of, is_running, end_of, first_segment_of, segments_in, title_offset_of, title_length_of, starts_of, title_of}
-use Rattle.catalogue_rules.specs.declared.Titles.{Titles}
-use Rattle.catalogue_rules.specs.declared.Titles.TheVariants.{AllText, BadAt}
+use Rattle.catalogue_rules.specs.declared.BadTitle.{BadTitle}
 
 -- SCOPE 4.4: "No table ends inside a record", and the limits of SCOPE 4.2; of tables of these lengths
 unfoldable pub sizes_rule : ℕ → ℕ → ℕ → ℕ → Bool
@@ -82,9 +81,9 @@ abbrev pub bad_title : List ℕ → List ℕ → List ℕ
 bad_title tracks text = bad_title_from tracks text (track_count tracks) 0
 
 -- the values of each answer about the titles
-abbrev pub titles_of : Titles → List ℕ
-titles_of AllText = []
-titles_of (BadAt track offset) = track ∷ offset ∷ []
+abbrev pub titles_of : Result Unit BadTitle → List ℕ
+titles_of (Ok u) = []
+titles_of (Err title) = title.track ∷ title.offset ∷ []
 
 -- each run of segments, and each title, lies within its table
 abbrev pub RunsInside : List ℕ → ℕ → Type 0

@@ -1,18 +1,30 @@
 // The rules of a catalogue, a function for each (SCOPE 4.2 to 4.12). The loops are never left early: they become vector code, or at least have no branches.
 #![tactic(auto)]
 
-ghost use Rattle.std.specs.Prelude.{◌≡◌, ◌&&◌, ◌∷◌, ℕ, ◌+◌, ◌*◌, ◌<◌, ◌≤◌, length};
-ghost use Rattle.ground.specs.Cases.{pick};
-ghost use Rattle.text.specs.Utf8.{said_of as textSaidOf};
+ghost use Rattle.std.specs.Prelude.{◌≡◌, ◌&&◌, ◌∷◌, [], ℕ, ◌+◌, ◌*◌, ◌<◌, ◌≤◌, length};
+ghost use Rattle.ground.specs.Refusals.{refused_with, refusal_of};
 ghost use Rattle.catalogue_tables.specs.Tables.{word_in, track_count};
 ghost use Rattle.catalogue_rules.specs.Rules.{sizes_rule, parent_right, parents_rule, follow, segment_runs_rule, durations_rule, rise_rule, starts_right, starts_rule, titles_placed_rule, bad_title, titles_of, RunsInside, TitlesInside};
 
-// What is said of all titles.
-#[derive(Clone, Copy)]
-pub enum Titles {
-    AllText,
-    // The lowest track whose title is not UTF-8, and the offset of the octet where it is not.
-    BadAt(usize, usize),
+use ground::Reason;
+use ground::Refusal;
+
+// A title that is not UTF-8: the lowest such track, and the offset of the octet where its title is not.
+#[derive(Clone, Copy, PartialEq, Eq)]
+pub struct BadTitle {
+    pub track: usize,
+    pub offset: usize,
+}
+
+// It is refused as a catalogue that breaks a rule, and carries where (SCOPE 4.14).
+impl From<BadTitle> for Refusal {
+    ghost from_gives = { λ title refusal. refusal_of refusal ≡ refused_with 200 (title.track ∷ title.offset ∷ []) };
+
+    fn from(title: BadTitle) -> Refusal
+        ensures { refusal_of result ≡ refused_with 200 (title.track ∷ title.offset ∷ []) }
+    {
+        Reason::BadCatalogue.at_both(title.track, title.offset)
+    }
 }
 
 pub fn sizes_right(groups: usize, tracks: usize, segments: usize, text: usize) -> bool
@@ -153,35 +165,27 @@ pub fn starts_right(tracks: &[u32], segments: &[u32]) -> bool
     good
 }
 
-// What is said of several titles, from what is said of the lowest one and of those behind it.
-fn with_title(behind: Titles, track: usize, title: text::Checked) -> Titles
-    ensures { titles_of result ≡ pick (textSaidOf title).is_granted (titles_of behind) (track ∷ (textSaidOf title).values) }
-{
-    match title {
-        text::Checked::Fine => behind,
-        text::Checked::BadAt(offset) => Titles::BadAt(track, offset),
-    }
-}
-
-// Whether all titles are UTF-8, or else the lowest track whose title is not, and where it is not (SCOPE 4.12, 4.14). Going from the last track to the first,
-// the one that is kept is the lowest. Where all of the text is plain, so is every title, and none is looked at by itself.
-pub fn titles_text(tracks: &[u32], text: &[u8]) -> Titles
+// Whether all titles are UTF-8, or else the lowest track whose title is not, and where it is not (SCOPE 4.12, 4.14). Where all of the text is plain, so is every
+// title, and none is looked at by itself.
+pub fn titles_text(tracks: &[u32], text: &[u8]) -> Result<(), BadTitle>
     requires { TitlesInside tracks.now (length text.now) }
     ensures { titles_of result ≡ bad_title tracks.now text.now }
 {
     if text::is_plain(text) {
-        return Titles::AllText;
+        return Ok(());
     }
-    let mut found = Titles::AllText;
-    let mut i = tracks.len() / catalogue_tables::TRACK_WORDS;
-    while 0 < i {
-        i -= 1;
-        let base = i * catalogue_tables::TRACK_WORDS;
+    for track in 0..tracks.len() / catalogue_tables::TRACK_WORDS {
+        let base = track * catalogue_tables::TRACK_WORDS;
         let offset = ground::wide_word(tracks[base + catalogue_tables::TITLE_OFFSET_AT]);
         let len = ground::wide_word(tracks[base + catalogue_tables::TITLE_LENGTH_AT]);
         let end = offset + len;
-        let title = text::check(&text[offset..end]);
-        found = with_title(found, i, title);
+        match text::check(&text[offset..end]) {
+            Ok(()) => {}
+            Err(bad) => return Err(BadTitle {
+                track: track,
+                offset: bad.at,
+            }),
+        }
     }
-    found
+    Ok(())
 }

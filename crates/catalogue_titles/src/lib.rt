@@ -2,10 +2,10 @@
 #![tactic(auto)]
 
 ghost use Rattle.std.specs.Prelude.{◌≡◌, ℕ, ◌*◌, eqb, length, get_or};
+ghost use Rattle.ground.specs.Refusals.{done_said};
 ghost use Rattle.ground.specs.Cases.{pick};
 ghost use Rattle.ground.specs.Limits.{rename_words};
 ghost use Rattle.ground.specs.Lists.{all_below};
-ghost use Rattle.catalogue_check.specs.Catalogue.{said_of};
 ghost use Rattle.catalogue_titles.specs.Titles.{entry_rule, entries_rule, renames_rule, part_of, front, octets_at, Inside, IsPart};
 ghost use Rattle.catalogue_titles.specs.Lent.{lending, lent_said};
 
@@ -100,7 +100,7 @@ pub fn check(
     renames: &[u32],
     office: &[u8],
 ) -> Catalogue
-    ensures { said_of result ≡ lent_said (lending groups.now tracks.now segments.now text.now renames.now office.now) }
+    ensures { done_said result ≡ lent_said (lending groups.now tracks.now segments.now text.now renames.now office.now) }
 {
     let c = catalogue_check::check(groups, tracks, segments, text);
     match c {

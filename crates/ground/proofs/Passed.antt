@@ -13,3 +13,9 @@ pub passed_on : {A : Type 0} (values : A → List ℕ) (r : Result A Refusal) (e
 passed_on values r e handed known =
     let p = err_from_is_err_and r handed in
     ap (answer_said values) p.1 ∙ ap refusal_of p.2 ∙ known
+
+-- where `?` makes the refusal of another error
+pub turned_into : {A : Type 0} (values : A → List ℕ) (r : Result A Refusal) (said : Said) → IsErrAnd r (λ x. refusal_of x ≡ said) → answer_said values r ≡ said
+turned_into values r said handed =
+    let p = err_from_is_err_and r handed in
+    ap (answer_said values) p.1 ∙ p.2

@@ -7,8 +7,7 @@ ghost use Rattle.catalogue_titles.specs.Titles.{part_values};
 ghost use Rattle.desk_replies.specs.Replies.{said_of};
 ghost use Rattle.desk_goto.specs.Manual.{made_values, place_values};
 ghost use Rattle.card_load.specs.Load.{said_of as loadSaidOf};
-ghost use Rattle.card_write.specs.Write.{said_of as writeSaidOf};
-ghost use Rattle.ground.specs.Refusals.{refusal_of, granted as grantedWith};
+ghost use Rattle.ground.specs.Refusals.{refusal_of, granted as grantedWith, count_said};
 ghost use Rattle.catalogue_cue.specs.Sheet.{said_of as cueSaidOf};
 ghost use Rattle.catalogue_objects.specs.Objects.{said_of as objectSaidOf};
 ghost use Rattle.mcs_told.specs.Calls.{AllWords, told_of, told_after, words_after, track_after, offset_after};
@@ -123,7 +122,7 @@ pub fn told_of_load(l: Loaded) -> Told
 }
 
 pub fn told_of_write(w: Written) -> Told
-    ensures { result ≡ told_of (writeSaidOf w) }
+    ensures { result ≡ told_of (count_said w) }
 {
     match w {
         Written::Done(blocks) => granted(blocks, 0, 0, 0),

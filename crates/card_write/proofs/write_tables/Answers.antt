@@ -10,7 +10,7 @@ use Rattle.card_write.proofs.write_tables.Goals as goal
 
 pub returns-then-card-n-clause-result_value : goal.returns-then-card-n-clause-result_value
 returns-then-card-n-clause-result_value c =
-    c.refuse-r.ensures ∙ here _ (lt-ltb _ _ c.if-card-n.true) refl
+    c.from.ensures ∙ here _ (lt-ltb _ _ c.if-card-n.true) refl
 
 pub returns-then-card-n-clause-card_after : goal.returns-then-card-n-clause-card_after
 returns-then-card-n-clause-card_after c =

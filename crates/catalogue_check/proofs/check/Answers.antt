@@ -4,16 +4,16 @@ use mathlib.Core.Bool.{true, false}
 use mathlib.Core.List.{[], ◌∷◌}
 use Prim.Native.Nat.{ℕ}
 use Rattle.ground.specs.Refusals.{granted, refused, refused_with}
+use Rattle.ground.proofs.Passed.{turned_into}
 use Rattle.catalogue_tables.specs.Tables.{Tables, tables}
-use Rattle.catalogue_rules.specs.declared.Titles.{Titles}
 use Rattle.catalogue_rules.specs.Rules.{bad_title, titles_of}
 use Rattle.catalogue_rules.proofs.Checked.{titles_inside}
 use Rattle.catalogue_rules.proofs.BadTitles.{text_is, text_not}
 use Rattle.catalogue_check.specs.Catalogue.{plain_rule, catalogue_rule, catalogue_carries, check_said}
 use Rattle.catalogue_check.proofs.Laws.{plain_kept}
--- what the check says, by the first that fails
 use Rattle.catalogue_check.proofs.check.Goals as goal
 
+-- what the check says, by the first that fails
 module _ (k : Tables) where
   says_plain : plain_rule k ≡ false → refused 200 ≡ check_said k
   unfolding check_said catalogue_rule catalogue_carries
@@ -29,28 +29,21 @@ module _ (k : Tables) where
 
 pub returns-then-not-plain_right : goal.returns-then-not-plain_right
 returns-then-not-plain_right c =
-    let lent : Tables = tables c.args.groups.now c.args.tracks.now c.args.segments.now c.args.text.now in
-    c.refuse-r.ensures ∙ says_plain (lent) (sym c.plain_right.ensures ∙ c.if-not-plain_right.true)
+    let a = c.args in
+    c.from.ensures ∙ says_plain (tables a.groups.now a.tracks.now a.segments.now a.text.now) (sym c.plain_right.ensures ∙ c.if-not-plain_right.true)
 
-pub titles_text-titles-requires : goal.titles_text-titles-requires
-titles_text-titles-requires c =
-    let lent : Tables = tables c.args.groups.now c.args.tracks.now c.args.segments.now c.args.text.now in
-    let plain_holds : plain_rule (lent) ≡ true = sym c.plain_right.ensures ∙ c.if-not-plain_right.false in
-    titles_inside _ _ (plain_kept (lent) (plain_holds)).placed
+pub titles_text-requires : goal.titles_text-requires
+titles_text-requires c =
+    let a = c.args in
+    titles_inside _ _ (plain_kept (tables a.groups.now a.tracks.now a.segments.now a.text.now) (sym c.plain_right.ensures ∙ c.if-not-plain_right.false)).placed
 
-pub returns-in-AllText : goal.returns-in-AllText
-returns-in-AllText c =
-    let lent : Tables = tables c.args.groups.now c.args.tracks.now c.args.segments.now c.args.text.now in
-    let plain_holds : plain_rule (lent) ≡ true = sym c.plain_right.ensures ∙ c.if-not-plain_right.false in
-    let told : (a : Titles) → c.titles_text-titles.result ≡ a
-    → let k = lent in bad_title k.tracks k.text ≡ titles_of a = λ a e. sym c.titles_text-titles.ensures ∙ ap titles_of e in
-    says_fine (lent) (plain_holds) (told _ c.in-AllText.is)
+pub returns-in_err-titles_text : goal.returns-in_err-titles_text
+returns-in_err-titles_text c =
+    let a = c.args in
+    turned_into _ _ _ c.from_residual.ensures.1
+    ∙ says_title (tables a.groups.now a.tracks.now a.segments.now a.text.now) (sym c.plain_right.ensures ∙ c.if-not-plain_right.false) (sym c.in_err-titles_text.ensures)
 
-pub returns-in-BadAt : goal.returns-in-BadAt
-returns-in-BadAt c =
-    let lent : Tables = tables c.args.groups.now c.args.tracks.now c.args.segments.now c.args.text.now in
-    let plain_holds : plain_rule (lent) ≡ true = sym c.plain_right.ensures ∙ c.if-not-plain_right.false in
-    let told : (a : Titles) → c.titles_text-titles.result ≡ a
-    → let k = lent in bad_title k.tracks k.text ≡ titles_of a = λ a e. sym c.titles_text-titles.ensures ∙ ap titles_of e in
-    c.refuse_with-r.ensures
-    ∙ says_title (lent) (plain_holds) (told _ c.in-BadAt.is)
+pub returns : goal.returns
+returns c =
+    let a = c.args in
+    says_fine (tables a.groups.now a.tracks.now a.segments.now a.text.now) (sym c.plain_right.ensures ∙ c.if-not-plain_right.false) (sym c.in_ok-titles_text.ensures)

@@ -1,65 +1,52 @@
--- `catalogue_rules::titles_text`: what is kept is what is said of the titles from the track i on.
-use mathlib.Core.Path.{◌≡◌, sym, ap, ◌∙◌}
-use mathlib.Core.List.{List, ◌∷◌}
+-- `catalogue_rules::titles_text`: what is told of the titles from `track` on is what is told of all.
+use mathlib.Core.Path.{◌≡◌, refl, sym, ap, ◌∙◌}
+use mathlib.Core.Bool.{true, false}
+use mathlib.Core.List.{List, [], ◌∷◌}
 use Prim.Native.Nat.{ℕ, suc, ◌+◌, ◌-◌, ◌<◌}
 use native.Mathlib.Omega.{arith}
-use Rattle.ground.specs.Cases.{pick}
+use Rattle.ground.specs.Refusals.{Said}
 use Rattle.text.specs.Utf8.{said_of, text_said}
 use Rattle.catalogue_tables.specs.Tables.{track_count, title_of}
-use Rattle.catalogue_rules.specs.Rules.{bad_title_from, titles_of}
+use Rattle.catalogue_rules.specs.Rules.{bad_title_from, bad_title}
 use Rattle.catalogue_rules.proofs.Runs.{run_part}
 use Rattle.catalogue_rules.proofs.BadTitles.{plain_text}
-use borrow.Author.Rules.{rules}
 use Rattle.catalogue_rules.proofs.titles_text.Goals as goal
 
--- one title more, with the next lower number
-lower : (tracks text : List ℕ) (n i : ℕ) → i < n
-    → bad_title_from tracks text (n - i) i
-    ≡ pick (text_said (title_of tracks text i)).is_granted (bad_title_from tracks text (n - (i + 1)) (i + 1)) (i ∷ (text_said (title_of tracks text i)).values)
-unfolding bad_title_from
-lower tracks text n i h =
-    let e : n - i ≡ suc (n - (i + 1)) = omega arith in
-    let s : suc i ≡ i + 1 = omega arith in
-    ap (λ (m : ℕ). bad_title_from tracks text m i) e
-    ∙ ap (λ (j : ℕ). pick (text_said (title_of tracks text i)).is_granted (bad_title_from tracks text (n - (i + 1)) j) (i ∷ (text_said (title_of tracks text i)).values)) s
+-- the title of track i is asked, and then those behind it
+module _ (tracks text : List ℕ) (n i : ℕ) (h : i < n) {said : Said} (e : said ≡ text_said (title_of tracks text i)) where
+  pub goes_on : said.is_granted ≡ true → bad_title_from tracks text (n - (i + 1)) (i + 1) ≡ bad_title_from tracks text (n - i) i
+  unfolding bad_title_from
+  goes_on fine =
+      let m : n - i ≡ suc (n - (i + 1)) = omega arith in
+      let f : (text_said (title_of tracks text i)).is_granted ≡ true = ap (λ (s : Said). s.is_granted) (sym e) ∙ fine in
+      let s : i + 1 ≡ suc i = omega arith in
+      rw (m, f, s)
+
+  pub stops : said.is_granted ≡ false → i ∷ said.values ≡ bad_title_from tracks text (n - i) i
+  unfolding bad_title_from
+  stops bad =
+      let m : n - i ≡ suc (n - (i + 1)) = omega arith in
+      let f : (text_said (title_of tracks text i)).is_granted ≡ false = ap (λ (s : Said). s.is_granted) (sym e) ∙ bad in
+      rw (m, f, ← e)
 
 pub returns-then-is_plain : goal.returns-then-is_plain
 returns-then-is_plain c =
     sym (plain_text _ _ (c.is_plain.ensures c.if-is_plain.true))
 
-pub loop-i-init : goal.loop-i-init
-unfolding bad_title_from
-loop-i-init c =
-    let a = c.args in
-    let n = track_count a.tracks.now in
-    let z : n - n ≡ 0 = omega arith in
-    (search rules, sym (ap (λ (m : ℕ). bad_title_from a.tracks.now a.text.now m n) z))
-
-pub slice_bounds-check-end : goal.slice_bounds-check-end
-slice_bounds-check-end c =
-    omega (arith, c.requires (c.loop-i.i - 1) (omega arith))
-
-pub loop-i-preserved : goal.loop-i-preserved
+pub returns-in-Err : goal.returns-in-Err
 unfolding title_of
-loop-i-preserved c =
-    let a = c.args in
-    let tracks = a.tracks.now in
-    let text = a.text.now in
-    let n = track_count tracks in
-    let i = c.loop-i.i - 1 in
-    let e : c.loop-i.i ≡ i + 1 = omega arith in
-    let part = run_part text c.wide_word-offset.result c.wide_word-len.result c.wide_word-offset.ensures.0 c.wide_word-len.ensures.0 in
-    let said : said_of c.check-title.result ≡ text_said (title_of tracks text i) = c.check-title.ensures ∙ ap text_said part in
-    let behind : titles_of c.loop-i.found ≡ bad_title_from tracks text (n - (i + 1)) (i + 1) = c.loop-i.invariant.1 ∙ ap (λ (j : ℕ). bad_title_from tracks text (n - j) j) e in (
-      search rules,
-      c.with_title-found.ensures
-          ∙ (λ k. pick (said k).is_granted (behind k) (i ∷ (said k).values))
-          ∙ sym (lower tracks text n i (omega arith)),
-    )
+returns-in-Err c =
+    let part = run_part c.args.text.now c.wide_word-offset.result c.wide_word-len.result c.wide_word-offset.ensures.0 c.wide_word-len.ensures.0 in
+    stops _ _ _ c.loop-track.track c.loop-track-test.true (c.in-Err.ensures ∙ ap text_said part) refl ∙ c.loop-track.invariant
+
+pub loop-track-preserved : goal.loop-track-preserved
+unfolding title_of
+loop-track-preserved c =
+    let part = run_part c.args.text.now c.wide_word-offset.result c.wide_word-len.result c.wide_word-offset.ensures.0 c.wide_word-len.ensures.0 in
+    goes_on _ _ _ c.loop-track.track c.loop-track-test.true (c.in-Ok.ensures ∙ ap text_said part) refl ∙ c.loop-track.invariant
 
 pub returns : goal.returns
+unfolding bad_title_from
 returns c =
-    let a = c.args in
-    let z : c.loop-i.i ≡ 0 = omega arith in
-    let e : track_count a.tracks.now - c.loop-i.i ≡ track_count a.tracks.now = omega arith in
-    c.loop-i.invariant.1 ∙ (λ k. bad_title_from a.tracks.now a.text.now (e k) (z k))
+    let e : track_count c.args.tracks.now - c.loop-track.track ≡ 0 = omega arith in
+    sym (ap (λ (n : ℕ). bad_title_from c.args.tracks.now c.args.text.now n c.loop-track.track) e) ∙ c.loop-track.invariant

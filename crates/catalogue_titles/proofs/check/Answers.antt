@@ -2,10 +2,10 @@
 use mathlib.Core.Path.{◌≡◌, refl, sym, ap, ◌∙◌}
 use mathlib.Core.Bool.{true, false}
 use mathlib.Core.List.{[], ◌∷◌}
-use Rattle.ground.specs.Refusals.{Said, granted, refused}
+use Rattle.ground.specs.Refusals.{Said, granted, refused, done_said}
 use Rattle.ground.proofs.Rows.{more}
 use Rattle.catalogue_check.specs.declared.Catalogue.{Catalogue}
-use Rattle.catalogue_check.specs.Catalogue.{catalogue_row, said_of, check_said}
+use Rattle.catalogue_check.specs.Catalogue.{catalogue_row, check_said}
 use Rattle.catalogue_check.proofs.Laws.{passed}
 use Rattle.catalogue_titles.specs.Titles.{renames_rule}
 use Rattle.catalogue_titles.specs.Lent.{Lent, lending, catalogue_of, renames_row, lent_said}
@@ -30,20 +30,20 @@ pub returns-then-renames_right : goal.returns-then-renames_right
 returns-then-renames_right c =
     let lent : Lent = lending c.args.groups.now c.args.tracks.now c.args.segments.now c.args.text.now c.args.renames.now c.args.office.now in
     let told : (a : Catalogue) → c.check-c.result ≡ a
-    → said_of a ≡ check_said (catalogue_of (lent)) = λ a e. sym (ap said_of e) ∙ c.check-c.ensures in
+    → done_said a ≡ check_said (catalogue_of (lent)) = λ a e. sym (ap done_said e) ∙ c.check-c.ensures in
     says_fine (lent) (told _ c.in-Fine.is) (sym c.renames_right.ensures ∙ c.if-renames_right.true)
 
 pub returns-in-Refused : goal.returns-in-Refused
 returns-in-Refused c =
     let lent : Lent = lending c.args.groups.now c.args.tracks.now c.args.segments.now c.args.text.now c.args.renames.now c.args.office.now in
     let told : (a : Catalogue) → c.check-c.result ≡ a
-    → said_of a ≡ check_said (catalogue_of (lent)) = λ a e. sym (ap said_of e) ∙ c.check-c.ensures in
+    → done_said a ≡ check_said (catalogue_of (lent)) = λ a e. sym (ap done_said e) ∙ c.check-c.ensures in
     says_catalogue (lent) refl (told _ c.in-Refused.is)
 
 pub returns-else-renames_right : goal.returns-else-renames_right
 returns-else-renames_right c =
     let lent : Lent = lending c.args.groups.now c.args.tracks.now c.args.segments.now c.args.text.now c.args.renames.now c.args.office.now in
     let told : (a : Catalogue) → c.check-c.result ≡ a
-    → said_of a ≡ check_said (catalogue_of (lent)) = λ a e. sym (ap said_of e) ∙ c.check-c.ensures in
+    → done_said a ≡ check_said (catalogue_of (lent)) = λ a e. sym (ap done_said e) ∙ c.check-c.ensures in
     c.refuse-r.ensures
     ∙ says_renames (lent) (told _ c.in-Fine.is) (sym c.renames_right.ensures ∙ c.if-renames_right.false)
