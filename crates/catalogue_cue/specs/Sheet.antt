@@ -4,11 +4,9 @@ use Rattle.std.specs.Prelude.{Bool, true, false, not, ◌&&◌, ◌||◌, List, 
 use Prim.Native.Char.{code}
 use Prim.Native.String.{String, [] as empty, ◌∷◌ as ◌then◌}
 use Rattle.ground.specs.Cases.{pick, within}
-use Rattle.ground.specs.Refusals.{Said, granted, refusal_of, Row, row, row_with, said_through}
+use Rattle.ground.specs.Refusals.{Said, granted, Row, row, row_with, said_through}
 use Rattle.catalogue_cue.specs.declared.Line.{Line}
 use Rattle.catalogue_cue.specs.declared.Line.TheVariants.{Start, Passed, NotUnderstood}
-use Rattle.catalogue_cue.specs.declared.Cued.{Cued}
-use Rattle.catalogue_cue.specs.declared.Cued.TheVariants.{Done, Refused}
 
 -- SCOPE 6.2: "A sheet has at most 65,536 octets."
 abbrev pub most_sheet : ℕ
@@ -138,8 +136,3 @@ cue_rows sheet room =
 -- what reading a sheet into a table with so much room says: a refusal, or how many starts there are (SCOPE 6.1)
 unfoldable pub cue_said : List ℕ → ℕ → Said
 cue_said sheet room = said_through (cue_rows sheet room) (granted (length (starts_of (sheet_lines sheet)) ∷ []))
-
--- the number and the values of each answer (SCOPE 6.1, 20.4)
-abbrev pub said_of : Cued → Said
-said_of (Done count) = granted (count ∷ [])
-said_of (Refused r) = refusal_of r

@@ -3,9 +3,13 @@
 
 ghost use Rattle.std.specs.Prelude.{◌≡◌, true, not, [], ◌∷◌, map, ◌+◌, ◌-◌, ◌<◌, ◌≤◌, length, get_or};
 ghost use Rattle.std.proofs.Math.Seq.{paste};
+ghost use Rattle.ground.specs.Refusals.{count_said};
 ghost use Rattle.ground.specs.Lists.{filled, table_after, all_below};
-ghost use Rattle.catalogue_cue.specs.Sheet.{octets, begins, is_digit, digits_at, number_at, hundredths, is_start, start_of, is_other_index, is_passed, line_of, sheet_lines, starts_of, cue_said, said_of};
+ghost use Rattle.catalogue_cue.specs.Sheet.{octets, begins, is_digit, digits_at, number_at, hundredths, is_start, start_of, is_other_index, is_passed, line_of, sheet_lines, starts_of, cue_said};
 ghost use Rattle.catalogue_cue.specs.Scan.{is_it, is_lf, ahead_end, Passes, CutAt, StartLine, NoStartLine, lines_from, ReadAt, looks_start, AllUnderstood, rises, weighed_of};
+
+use ground::Reason;
+use ground::Refusal;
 
 // What a line gives (SCOPE 6.5 to 6.8).
 #[derive(Clone, Copy)]
@@ -13,13 +17,6 @@ pub enum Line {
     Start(u32),
     Passed,
     NotUnderstood,
-}
-
-#[derive(Clone, Copy)]
-pub enum Cued {
-    // The sheet is read, and has so many starts.
-    Done(usize),
-    Refused(ground::Refusal),
 }
 
 // Where the octets of a line end, and where the next line starts.
@@ -440,12 +437,11 @@ fn weigh(line: Line, count: usize, last: u32) -> Weighed
 }
 
 // What reading a sheet into a table of so many words answers (SCOPE 6.10). It writes nothing.
-fn survey(sheet: &[u8], room: usize) -> Cued
-    ensures { said_of result ≡ cue_said sheet.now room }
+fn survey(sheet: &[u8], room: usize) -> Result<usize, Refusal>
+    ensures { count_said result ≡ cue_said sheet.now room }
 {
     if MOST_SHEET < sheet.len() {
-        let r = ground::refuse(ground::LONG_SHEET);
-        return Cued::Refused(r);
+        return Err(Refusal::from(Reason::LongSheet));
     }
     let mut at: usize = 0;
     let mut number: usize = 1;
@@ -456,12 +452,10 @@ fn survey(sheet: &[u8], room: usize) -> Cued
         let line = read.line;
         let w = weigh(line, count, last);
         if w.fault == 1 {
-            let r = ground::refuse_at(ground::BAD_LINE, number);
-            return Cued::Refused(r);
+            return Err(Reason::BadLine.at(number));
         }
         if w.fault == 2 {
-            let r = ground::refuse_at(ground::NOT_RISING, number);
-            return Cued::Refused(r);
+            return Err(Reason::NotRising.at(number));
         }
         count = w.count;
         last = w.last;
@@ -469,10 +463,9 @@ fn survey(sheet: &[u8], room: usize) -> Cued
         number += 1;
     }
     if room < count {
-        let r = ground::refuse(ground::MANY_STARTS);
-        return Cued::Refused(r);
+        return Err(Refusal::from(Reason::ManyStarts));
     }
-    Cued::Done(count)
+    Ok(count)
 }
 
 // Writes the start that a line gives, if it gives one, at the place n, and says which place is the next one then.
@@ -509,16 +502,11 @@ fn fill(sheet: &[u8], starts: &mut [u32], count: usize)
 }
 
 // Reads a cue sheet: fills the front of the table with its starts and answers their number, or refuses and leaves the table as it was.
-pub fn read(sheet: &[u8], starts: &mut [u32]) -> Cued
-    ensures result_value { said_of result ≡ cue_said sheet.now (length starts.old) }
-    ensures starts_after { starts.new ≡ table_after (said_of result) (starts_of (sheet_lines sheet.now)) starts.old }
+pub fn read(sheet: &[u8], starts: &mut [u32]) -> Result<usize, Refusal>
+    ensures result_value { count_said result ≡ cue_said sheet.now (length starts.old) }
+    ensures starts_after { starts.new ≡ table_after (count_said result) (starts_of (sheet_lines sheet.now)) starts.old }
 {
-    let answer = survey(sheet, starts.len());
-    match answer {
-        Cued::Done(count) => {
-            fill(sheet, starts, count);
-            Cued::Done(count)
-        }
-        Cued::Refused(r) => Cued::Refused(r),
-    }
+    let count = survey(sheet, starts.len())?;
+    fill(sheet, starts, count);
+    Ok(count)
 }

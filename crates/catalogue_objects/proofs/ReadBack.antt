@@ -12,7 +12,7 @@ use lib.Dec.{ltb}
 use lib.ListN.{length, get_or, take, drop}
 use lib.Seq.{take_at}
 use Rattle.ground.specs.Lists.{filled, table_after}
-use Rattle.ground.specs.Refusals.{Said, granted, Row}
+use Rattle.ground.specs.Refusals.{Said, granted, Row, count_said}
 use Rattle.ground.proofs.Cases.{and_left}
 use Rattle.ground.proofs.Rows.{NoneApplies, kept, through}
 use Rattle.catalogue_tables.specs.Tables.{Tables, tables, track_count, segments_in, starts_of}
@@ -25,7 +25,7 @@ use Rattle.catalogue_objects.specs.declared.Answer.TheVariants.{Filled}
 use Rattle.catalogue_objects.specs.declared.Kind.{Kind}
 use Rattle.catalogue_objects.specs.declared.Kind.TheVariants.{Group, Segments}
 use Rattle.catalogue_objects.specs.Entries.{members_of, all_octets}
-use Rattle.catalogue_objects.specs.Objects.{said_of, group_octets, segments_octets, has_group, has_segments, write_rows, write_said}
+use Rattle.catalogue_objects.specs.Objects.{group_octets, segments_octets, has_group, has_segments, write_rows, write_said}
 use Rattle.catalogue_objects.specs.Reading.{width_of, Entries, entries_of, read_said}
 use Rattle.catalogue_objects.proofs.Answers.{all_read}
 use Rattle.catalogue_objects.proofs.RoundTrip.{whole, member_words, right_group_read, right_segments_read}
@@ -54,13 +54,13 @@ module _ (k : Tables) (there : Bool) (octets old new : List ℕ) (n : ℕ) (said
 
 -- a read of whole entries into words that have room
 reads_whole : (kind : Kind) (s old : List ℕ) (count : ℕ) (words : List ℕ) → entries_of kind s ≡ whole count words → count * width_of kind ≤ length old
-    → (a : Answer) (new : List ℕ) → said_of a ≡ read_said kind s (length old) → new ≡ table_after (said_of a) (entries_of kind s).words old
+    → (a : Answer) (new : List ℕ) → count_said a ≡ read_said kind s (length old) → new ≡ table_after (count_said a) (entries_of kind s).words old
     → (a ≡ Filled count) × (new ≡ filled words old)
 reads_whole kind s old count words is room a new said left =
     let many = ap (λ (e : Entries). e.count) is in
     let fits = rw (sym many) at room in
     let all = all_read kind s old (ap (λ (e : Entries). e.whole) is) fits count (sym many) _ refl in
-    let same : said_of a ≡ granted (count ∷ []) = said ∙ sym all.0 in
+    let same : count_said a ≡ granted (count ∷ []) = said ∙ sym all.0 in
     (said_settles a (Filled count) same, left ∙ (λ i. table_after (same i) (is i).words old))
 
 module _ (κs : Lfts 5) (groups tracks segments text : Bor (List ℕ)) (out : MutBor (List ℕ)) (n : ℕ) (new : List ℕ) (κs' : Lfts 2) (octets : Bor (List ℕ)) (words : MutBor (List ℕ)) (lent : octets.now ≡ take n new)

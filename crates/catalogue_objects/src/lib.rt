@@ -3,12 +3,12 @@
 
 ghost use Rattle.std.specs.Prelude.{◌≡◌, true, ◌∷◌, [], map, ◌+◌, ◌*◌, ◌<◌, ◌≤◌, ltb, length, drop};
 ghost use Rattle.ground.specs.Limits.{most_groups, most_tracks, most_segments};
-ghost use Rattle.ground.specs.Refusals.{granted, refused, row, said_through};
+ghost use Rattle.ground.specs.Refusals.{granted, refused, row, said_through, count_said};
 ghost use Rattle.ground.specs.Lists.{span, laid, filled, table_after};
 ghost use Rattle.catalogue_tables.specs.Tables.{tables, group_count, first_track_of, tracks_in};
 ghost use Rattle.catalogue_objects.specs.declared.Kind.TheVariants.{Group};
 ghost use Rattle.catalogue_objects.specs.Entries.{track_member, group_member, is_child, children_of, nameless, member_octets, label_octets, all_octets};
-ghost use Rattle.catalogue_objects.specs.Objects.{said_of, group_octets, segments_octets, has_group, has_segments, write_said};
+ghost use Rattle.catalogue_objects.specs.Objects.{group_octets, segments_octets, has_group, has_segments, write_said};
 ghost use Rattle.catalogue_objects.specs.Reading.{label_head, label_sound, size_of, is_entry, words_of, width_of, entries_of, read_said};
 
 // The types of a Group object's entries (SCOPE 7.2; the standard, Table 4.3).
@@ -29,7 +29,7 @@ pub enum Answer {
 }
 
 fn refuse(number: u32) -> Answer
-    ensures { said_of result ≡ refused number }
+    ensures { count_said result ≡ refused number }
 {
     let r = ground::refuse(number);
     Answer::Refused(r)
@@ -109,8 +109,8 @@ fn put_tracks(out: &mut [u8], at: usize, first: u32, count: u32)
 fn fill_group(groups: &[u32], g: catalogue_tables::GroupNo, out: &mut [u8]) -> Answer
     requires groups_bound { group_count groups.now ≤ most_groups }
     requires g_bound { first_track_of groups.now g.0 + tracks_in groups.now g.0 ≤ most_tracks }
-    ensures result_value { said_of result ≡ said_through (row 223 (ltb (length out.old) (length (group_octets groups.now g.0))) ∷ []) (granted (length (group_octets groups.now g.0) ∷ [])) }
-    ensures out_after { out.new ≡ table_after (said_of result) (group_octets groups.now g.0) out.old }
+    ensures result_value { count_said result ≡ said_through (row 223 (ltb (length out.old) (length (group_octets groups.now g.0))) ∷ []) (granted (length (group_octets groups.now g.0) ∷ [])) }
+    ensures out_after { out.new ≡ table_after (count_said result) (group_octets groups.now g.0) out.old }
 {
     let children = count_children(groups, g);
     let first = catalogue_tables::first_track(groups, g);
@@ -134,8 +134,8 @@ pub fn write_group(
     g: catalogue_tables::GroupNo,
     out: &mut [u8],
 ) -> Answer
-    ensures result_value { said_of result ≡ write_said (tables groups.now tracks.now segments.now text.now) (has_group (tables groups.now tracks.now segments.now text.now) g.0) (group_octets groups.now g.0) (length out.old) }
-    ensures out_after { out.new ≡ table_after (said_of result) (group_octets groups.now g.0) out.old }
+    ensures result_value { count_said result ≡ write_said (tables groups.now tracks.now segments.now text.now) (has_group (tables groups.now tracks.now segments.now text.now) g.0) (group_octets groups.now g.0) (length out.old) }
+    ensures out_after { out.new ≡ table_after (count_said result) (group_octets groups.now g.0) out.old }
 {
     let c = catalogue_check::check(groups, tracks, segments, text);
     match c {
@@ -179,8 +179,8 @@ pub fn write_segments(
     t: catalogue_tables::TrackNo,
     out: &mut [u8],
 ) -> Answer
-    ensures result_value { said_of result ≡ write_said (tables groups.now tracks.now segments.now text.now) (has_segments (tables groups.now tracks.now segments.now text.now) t.0) (segments_octets tracks.now segments.now t.0) (length out.old) }
-    ensures out_after { out.new ≡ table_after (said_of result) (segments_octets tracks.now segments.now t.0) out.old }
+    ensures result_value { count_said result ≡ write_said (tables groups.now tracks.now segments.now text.now) (has_segments (tables groups.now tracks.now segments.now text.now) t.0) (segments_octets tracks.now segments.now t.0) (length out.old) }
+    ensures out_after { out.new ≡ table_after (count_said result) (segments_octets tracks.now segments.now t.0) out.old }
 {
     let c = catalogue_check::check(groups, tracks, segments, text);
     match c {
@@ -200,8 +200,8 @@ pub fn write_segments(
 // Writes the Track Segments object of segments with these starts, where there is room.
 fn fill_segments(starts: &[u32], out: &mut [u8]) -> Answer
     requires { length starts.now ≤ most_segments }
-    ensures result_value { said_of result ≡ said_through (row 223 (ltb (length out.old) (length (all_octets label_octets (map nameless starts.now)))) ∷ []) (granted (length (all_octets label_octets (map nameless starts.now)) ∷ [])) }
-    ensures out_after { out.new ≡ table_after (said_of result) (all_octets label_octets (map nameless starts.now)) out.old }
+    ensures result_value { count_said result ≡ said_through (row 223 (ltb (length out.old) (length (all_octets label_octets (map nameless starts.now)))) ∷ []) (granted (length (all_octets label_octets (map nameless starts.now)) ∷ [])) }
+    ensures out_after { out.new ≡ table_after (count_said result) (all_octets label_octets (map nameless starts.now)) out.old }
 {
     let size = starts.len() * LABEL;
     if out.len() < size {
@@ -379,8 +379,8 @@ fn put_entries(octets: &[u8], kind: Kind, out: &mut [u32])
 // Reads octets as an object: its entries' words go over the front of out, and the answer is how many entries there are;
 // or it refuses, and out is as it was (SCOPE 7.6, 7.7).
 pub fn read(octets: &[u8], kind: Kind, out: &mut [u32]) -> Answer
-    ensures result_value { said_of result ≡ read_said kind octets.now (length out.old) }
-    ensures out_after { out.new ≡ table_after (said_of result) (entries_of kind octets.now).words out.old }
+    ensures result_value { count_said result ≡ read_said kind octets.now (length out.old) }
+    ensures out_after { out.new ≡ table_after (count_said result) (entries_of kind octets.now).words out.old }
 {
     let s = look_over(octets, kind);
     if !s.whole {

@@ -9,7 +9,8 @@ ghost use Rattle.ground.specs.Lists.{all_below};
 ghost use Rattle.catalogue_titles.specs.Titles.{entry_rule, entries_rule, renames_rule, part_of, front, octets_at, Inside, IsPart};
 ghost use Rattle.catalogue_titles.specs.Lent.{lending, lent_said};
 
-use catalogue_check::Catalogue;
+use ground::Reason;
+use ground::Refusal;
 use catalogue_tables::TrackNo;
 
 // The words of an entry, and the place of each in it (SCOPE 5.1).
@@ -99,20 +100,14 @@ pub fn check(
     text: &[u8],
     renames: &[u32],
     office: &[u8],
-) -> Catalogue
+) -> Result<(), Refusal>
     ensures { done_said result ≡ lent_said (lending groups.now tracks.now segments.now text.now renames.now office.now) }
 {
-    let c = catalogue_check::check(groups, tracks, segments, text);
-    match c {
-        Catalogue::Refused(r) => Catalogue::Refused(r),
-        Catalogue::Fine => {
-            if renames_right(tracks, renames, office) {
-                return Catalogue::Fine;
-            }
-            let r = ground::refuse(ground::BAD_RENAMES);
-            Catalogue::Refused(r)
-        }
+    catalogue_check::check(groups, tracks, segments, text)?;
+    if !renames_right(tracks, renames, office) {
+        return Err(Refusal::from(Reason::BadRenames));
     }
+    Ok(())
 }
 
 // The empty front of the card's text (SCOPE 5.7).

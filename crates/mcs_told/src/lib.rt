@@ -8,8 +8,6 @@ ghost use Rattle.desk_replies.specs.Replies.{said_of};
 ghost use Rattle.desk_goto.specs.Manual.{made_values, place_values};
 ghost use Rattle.card_load.specs.Load.{said_of as loadSaidOf};
 ghost use Rattle.ground.specs.Refusals.{refusal_of, granted as grantedWith, count_said};
-ghost use Rattle.catalogue_cue.specs.Sheet.{said_of as cueSaidOf};
-ghost use Rattle.catalogue_objects.specs.Objects.{said_of as objectSaidOf};
 ghost use Rattle.mcs_told.specs.Calls.{AllWords, told_of, told_after, words_after, track_after, offset_after};
 
 use card_load::Loaded;
@@ -131,7 +129,7 @@ pub fn told_of_write(w: Written) -> Told
 }
 
 pub fn told_of_cue(c: Cued) -> Told
-    ensures { result ≡ told_of (cueSaidOf c) }
+    ensures { result ≡ told_of (count_said c) }
 {
     match c {
         Cued::Done(count) => granted(count, 0, 0, 0),
@@ -140,7 +138,7 @@ pub fn told_of_cue(c: Cued) -> Told
 }
 
 pub fn told_of_object(a: catalogue_objects::Answer) -> Told
-    ensures { result ≡ told_of (objectSaidOf a) }
+    ensures { result ≡ told_of (count_said a) }
 {
     match a {
         catalogue_objects::Answer::Filled(n) => granted(n, 0, 0, 0),
@@ -151,8 +149,8 @@ pub fn told_of_object(a: catalogue_objects::Answer) -> Told
 // The number of an object that was read, and its entries counted: octets may be so many that their entries are more than a word of 32 bits counts.
 pub fn tell_count(a: catalogue_objects::Answer, count: &mut [usize]) -> u32
     requires { len count.old ≡ 1 }
-    ensures value { result ≡ (objectSaidOf a).number }
-    ensures count_after { count.new ≡ words_after (objectSaidOf a) count.old }
+    ensures value { result ≡ (count_said a).number }
+    ensures count_after { count.new ≡ words_after (count_said a) count.old }
 {
     match a {
         catalogue_objects::Answer::Filled(n) => {

@@ -1,50 +1,31 @@
--- `catalogue_cue::read`: a refusal comes before anything is written, and after `Done` the table is filled.
+-- `catalogue_cue::read`: a refusal comes before anything is written, and after a count the table is filled.
 use native.Mathlib.Omega.{arith}
+use Prim.Native.Nat.{ℕ}
+use mathlib.Core.List.{List}
 use lib.ListN.{length, get_or}
-use mathlib.Core.Path.{◌≡◌, refl, sym, ap, ◌∙◌}
-use Rattle.ground.specs.Refusals.{Said}
-use Rattle.catalogue_cue.specs.declared.Cued.{Cued}
-use Rattle.catalogue_cue.specs.Sheet.{said_of}
-use Rattle.catalogue_cue.proofs.Accepted.{accepted}
--- an answer of the survey says what the survey says
+use mathlib.Core.Path.{◌≡◌, sym, ap, ◌∙◌}
+use Rattle.std.specs.Prelude.{Ok}
+use Rattle.ground.specs.Refusals.{Said, count_said}
+use Rattle.catalogue_cue.specs.Sheet.{cue_said, sheet_lines, starts_of}
+use Rattle.catalogue_cue.proofs.Accepted.{Accepted, accepted}
 use Rattle.catalogue_cue.proofs.read.Goals as goal
 
-answered : {v r : Cued} {said : Said} → said_of v ≡ said → v ≡ r → said_of r ≡ said
-answered e q = sym (ap said_of q) ∙ e
+-- a sheet that is counted is accepted, and has as many starts
+module _ (sheet : List ℕ) (room count : ℕ) (said : count_said (Ok count) ≡ cue_said sheet room) where
+  granted : Accepted sheet room
+  granted = accepted sheet room (sym (ap (λ (s : Said). s.is_granted) said))
+
+  counted : count ≡ length (starts_of (sheet_lines sheet))
+  counted = ap (λ (s : Said). get_or s.values 0 0) (said ∙ granted.said)
 
 pub fill-requires-clause-count_value : goal.fill-requires-clause-count_value
 fill-requires-clause-count_value c =
-    let a = c.args in
-    let said = answered c.survey-answer.ensures c.in-Done.is in
-    let granted = accepted a.sheet.now (length a.starts.now) (sym (ap (λ (s : Said). s.is_granted) said)) in
-    let count = ap (λ (s : Said). get_or s.values 0 0) (said ∙ granted.said) in count
+    counted _ _ _ c.in_ok-count.ensures
 
 pub fill-requires-clause-count_in_bounds : goal.fill-requires-clause-count_in_bounds
 fill-requires-clause-count_in_bounds c =
-    let a = c.args in
-    let said = answered c.survey-answer.ensures c.in-Done.is in
-    let granted = accepted a.sheet.now (length a.starts.now) (sym (ap (λ (s : Said). s.is_granted) said)) in
-    let count = ap (λ (s : Said). get_or s.values 0 0) (said ∙ granted.said) in omega (arith, count, granted.fits)
+    omega (arith, counted _ _ _ c.in_ok-count.ensures, (granted _ _ _ c.in_ok-count.ensures).fits)
 
 pub fill-requires-clause-all_understood : goal.fill-requires-clause-all_understood
 fill-requires-clause-all_understood c =
-    let a = c.args in
-    let said = answered c.survey-answer.ensures c.in-Done.is in
-    let granted = accepted a.sheet.now (length a.starts.now) (sym (ap (λ (s : Said). s.is_granted) said)) in
-    let count = ap (λ (s : Said). get_or s.values 0 0) (said ∙ granted.said) in granted.understood
-
-pub returns-in-Done-clause-result_value : goal.returns-in-Done-clause-result_value
-returns-in-Done-clause-result_value c =
-    answered c.survey-answer.ensures c.in-Done.is
-
-pub returns-in-Done-clause-starts_after : goal.returns-in-Done-clause-starts_after
-returns-in-Done-clause-starts_after c =
-    c.fill.ensures
-
-pub returns-in-Refused-clause-result_value : goal.returns-in-Refused-clause-result_value
-returns-in-Refused-clause-result_value c =
-    answered c.survey-answer.ensures c.in-Refused.is
-
-pub returns-in-Refused-clause-starts_after : goal.returns-in-Refused-clause-starts_after
-returns-in-Refused-clause-starts_after c =
-    refl
+    (granted _ _ _ c.in_ok-count.ensures).understood

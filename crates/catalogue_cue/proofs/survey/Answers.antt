@@ -18,7 +18,7 @@ use Rattle.catalogue_cue.proofs.survey.Goals as goal
 
 pub returns-then-sheet-gt-MOST_SHEET : goal.returns-then-sheet-gt-MOST_SHEET
 returns-then-sheet-gt-MOST_SHEET c =
-    here _ (lt-ltb _ _ c.if-sheet-gt-MOST_SHEET.true) c.refuse-r.ensures ∙ sym (cue_said_lem _ _)
+    here _ (lt-ltb _ _ c.if-sheet-gt-MOST_SHEET.true) c.from.ensures ∙ sym (cue_said_lem _ _)
 
 pub loop-at-init : goal.loop-at-init
 loop-at-init c =
@@ -31,7 +31,7 @@ returns-then-w-eq1 c =
     Turned a.sheet.now (behind_of a.sheet.now a.room) c.loop-at.number c.loop-at.count c.read_line-read.result.next c.weigh-w.result = let a = c.args in
     turned a.sheet.now (behind_of a.sheet.now a.room) c.loop-at.at c.loop-at.number c.loop-at.count c.loop-at.last c.loop-at.invariant.3
     c.read_line-read.result.line c.read_line-read.result.next c.read_line-read.ensures.gives c.weigh-w.result c.weigh-w.ensures in
-    past _ (small) (c.refuse_at-r.ensures ∙ (turn).bad c.if-w-eq1.true) ∙ sym (cue_said_lem _ _)
+    past _ (small) (c.at.ensures ∙ (turn).bad c.if-w-eq1.true) ∙ sym (cue_said_lem _ _)
 
 pub returns-then-w-eq2 : goal.returns-then-w-eq2
 returns-then-w-eq2 c =
@@ -40,7 +40,7 @@ returns-then-w-eq2 c =
     Turned a.sheet.now (behind_of a.sheet.now a.room) c.loop-at.number c.loop-at.count c.read_line-read.result.next c.weigh-w.result = let a = c.args in
     turned a.sheet.now (behind_of a.sheet.now a.room) c.loop-at.at c.loop-at.number c.loop-at.count c.loop-at.last c.loop-at.invariant.3
     c.read_line-read.result.line c.read_line-read.result.next c.read_line-read.ensures.gives c.weigh-w.result c.weigh-w.ensures in
-    past _ (small) (c.refuse_at-r-then-w-eq2.ensures ∙ (turn).fallen c.if-w-eq2.true) ∙ sym (cue_said_lem _ _)
+    past _ (small) (c.at-then-w-eq2.ensures ∙ (turn).fallen c.if-w-eq2.true) ∙ sym (cue_said_lem _ _)
 
 pub loop-at-smaller : goal.loop-at-smaller
 loop-at-smaller c =
@@ -67,7 +67,7 @@ returns-then-room-count c =
       all_counted a.sheet.now behind c.loop-at.at c.loop-at.number c.loop-at.count c.loop-at.last c.loop-at.invariant.3 c.loop-at-test.false,
     ) in
     let ended = end in
-    past _ (small) (here _ (lt-ltb _ _ (rw ended.1 at c.if-room-count.true)) c.refuse-r-then-room-count.ensures ∙ sym ended.0) ∙ sym (cue_said_lem _ _)
+    past _ (small) (here _ (lt-ltb _ _ (rw ended.1 at c.if-room-count.true)) c.from-then-room-count.ensures ∙ sym ended.0) ∙ sym (cue_said_lem _ _)
 
 pub returns : goal.returns
 returns c =
