@@ -126,12 +126,11 @@ fn past_no_lf(sheet: &[u8], at: usize, width: usize) -> usize
     ensures { Passes is_lf sheet.now at result }
 {
     let mut i = at;
-    while width <= sheet.len() - i {
-        let e = i + width;
-        if !no_lf(&sheet[i..e]) {
+    for piece in sheet[at..].chunks_exact(width) {
+        if !no_lf(piece) {
             return i;
         }
-        i = e;
+        i += width;
     }
     i
 }
