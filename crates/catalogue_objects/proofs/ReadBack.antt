@@ -59,8 +59,7 @@ reads_whole : (kind : Kind) (s old : List ℕ) (count : ℕ) (words : List ℕ) 
 reads_whole kind s old count words is room a new said left =
     let many = ap (λ (e : Entries). e.count) is in
     let fits = rw (sym many) at room in
-    let all = all_read kind s old (ap (λ (e : Entries). e.whole) is) fits count (sym many) _ refl in
-    let same : said_of a ≡ granted (count ∷ []) = said ∙ sym all.0 in
+    let same : said_of a ≡ granted (count ∷ []) = said ∙ sym (all_read kind s (length old) (ap (λ (e : Entries). e.whole) is) fits count (sym many)) in
     (said_settles a (Filled count) same, left ∙ (λ i. table_after (same i) (is i).words old))
 
 module _ (κs : Lfts 5) (groups tracks segments text : Bor (List ℕ)) (out : MutBor (List ℕ)) (n : ℕ) (new : List ℕ) (κs' : Lfts 2) (octets : Bor (List ℕ)) (words : MutBor (List ℕ)) (lent : octets.now ≡ take n new)

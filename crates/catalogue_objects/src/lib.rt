@@ -9,7 +9,7 @@ ghost use Rattle.catalogue_tables.specs.Tables.{tables, group_count, first_track
 ghost use Rattle.catalogue_objects.specs.declared.Kind.TheVariants.{Group};
 ghost use Rattle.catalogue_objects.specs.Entries.{track_member, group_member, is_child, children_of, nameless, member_octets, label_octets, all_octets};
 ghost use Rattle.catalogue_objects.specs.Objects.{said_of, group_octets, segments_octets, has_group, has_segments, write_said};
-ghost use Rattle.catalogue_objects.specs.Reading.{label_head, label_sound, size_of, is_entry, words_of, width_of, entries_of, read_said};
+ghost use Rattle.catalogue_objects.specs.Reading.{label_head, label_sound, size_of, is_entry, words_of, width_of, entries_of, CountsEntries, read_said};
 
 // The types of a Group object's entries (SCOPE 7.2; the standard, Table 4.3).
 const TRACK: u8 = 0;
@@ -63,12 +63,10 @@ fn count_children(groups: &[u32], g: catalogue_tables::GroupNo) -> usize
     ensures { (result ≡ length (children_of groups.now g.0)) × (result ≤ most_groups) }
 {
     let mut n: usize = 0;
-    let mut h: usize = 0;
-    while h < catalogue_tables::group_count(groups) {
+    for h in 0..catalogue_tables::group_count(groups) {
         if is_child(groups, g, h as u32) {
             n += 1;
         }
-        h += 1;
     }
     n
 }
@@ -80,14 +78,12 @@ fn put_children(out: &mut [u8], groups: &[u32], g: catalogue_tables::GroupNo)
     ensures { out.new ≡ filled (all_octets member_octets (map group_member (children_of groups.now g.0))) out.old }
 {
     let mut n: usize = 0;
-    let mut h: usize = 0;
-    while h < catalogue_tables::group_count(groups) {
+    for h in 0..catalogue_tables::group_count(groups) {
         if is_child(groups, g, h as u32) {
             let object = catalogue_tables::group_object(catalogue_tables::GroupNo(h as u32));
             put_member(out, n * MEMBER, GROUP, object);
             n += 1;
         }
-        h += 1;
     }
 }
 
@@ -97,11 +93,9 @@ fn put_tracks(out: &mut [u8], at: usize, first: u32, count: u32)
     requires count_in_bounds { at + count * 7 ≤ length out.old }
     ensures { out.new ≡ laid out.old at (all_octets member_octets (map track_member (span first count))) }
 {
-    let mut i: u32 = 0;
-    while i < count {
+    for i in 0..count {
         let object = catalogue_tables::track_object(catalogue_tables::TrackNo(first + i));
         put_member(out, at + ground::wide_word(i) * MEMBER, TRACK, object);
-        i += 1;
     }
 }
 
@@ -163,10 +157,8 @@ fn put_labels(out: &mut [u8], starts: &[u32])
     requires { length starts.now * 5 ≤ length out.old }
     ensures { out.new ≡ filled (all_octets label_octets (map nameless starts.now)) out.old }
 {
-    let mut i: usize = 0;
-    while i < starts.len() {
-        put_label(out, i * LABEL, starts[i]);
-        i += 1;
+    for (i, start) in starts.iter().enumerate() {
+        put_label(out, i * LABEL, *start);
     }
 }
 
@@ -294,65 +286,43 @@ fn width_of(kind: Kind) -> usize
     }
 }
 
-// Whether octets are whole entries, and how many.
-#[derive(Clone, Copy)]
-struct Overview {
-    whole: bool,
-    count: usize,
-}
-
-// For a Group object. Its entries all have the same length, so that the end of none has to be looked for.
-fn members_over(octets: &[u8]) -> Overview
-    ensures { (result.whole ≡ (entries_of Group octets.now).whole) × (result.whole ≡ true → result.count ≡ (entries_of Group octets.now).count) × (result.count ≤ length octets.now) }
+// How many entries a Group object's octets are, or none where they are not whole entries. Its entries all have the same length, so that the end of none has to
+// be looked for.
+fn members_over(octets: &[u8]) -> Option<usize>
+    ensures { CountsEntries Group octets.now result }
 {
     let n = octets.len() / MEMBER;
-    let mut i: usize = 0;
-    while i < n {
+    for i in 0..n {
         let at = i * MEMBER;
         if GROUP < octets[at] {
-            return Overview {
-                whole: false,
-                count: 0,
-            };
+            return None;
         }
-        i += 1;
     }
     if octets.len() % MEMBER != 0 {
-        return Overview {
-            whole: false,
-            count: 0,
-        };
+        return None;
     }
-    Overview {
-        whole: true,
-        count: n,
-    }
+    Some(n)
 }
 
-// For either kind, entry by entry.
-fn entries_over(octets: &[u8], kind: Kind) -> Overview
-    ensures { (result.whole ≡ (entries_of kind octets.now).whole) × (result.whole ≡ true → result.count ≡ (entries_of kind octets.now).count) × (result.count ≤ length octets.now) }
+// The same for either kind, entry by entry.
+fn entries_over(octets: &[u8], kind: Kind) -> Option<usize>
+    ensures { CountsEntries kind octets.now result }
 {
     let mut at: usize = 0;
     let mut count: usize = 0;
+    // Stays a while: a step is as long as its entry, which only the entry itself says.
     while at < octets.len() {
         if !is_entry(octets, at, kind) {
-            return Overview {
-                whole: false,
-                count: 0,
-            };
+            return None;
         }
         at += size_at(octets, at, kind);
         count += 1;
     }
-    Overview {
-        whole: true,
-        count: count,
-    }
+    Some(count)
 }
 
-fn look_over(octets: &[u8], kind: Kind) -> Overview
-    ensures { (result.whole ≡ (entries_of kind octets.now).whole) × (result.whole ≡ true → result.count ≡ (entries_of kind octets.now).count) × (result.count ≤ length octets.now) }
+fn look_over(octets: &[u8], kind: Kind) -> Option<usize>
+    ensures { CountsEntries kind octets.now result }
 {
     match kind {
         Kind::Group => members_over(octets),
@@ -369,6 +339,7 @@ fn put_entries(octets: &[u8], kind: Kind, out: &mut [u32])
     let width = width_of(kind);
     let mut at: usize = 0;
     let mut to: usize = 0;
+    // Stays a while: a step is as long as its entry, which only the entry itself says.
     while at < octets.len() {
         put_entry(octets, at, kind, out, to);
         at += size_at(octets, at, kind);
@@ -382,14 +353,13 @@ pub fn read(octets: &[u8], kind: Kind, out: &mut [u32]) -> Answer
     ensures result_value { said_of result ≡ read_said kind octets.now (length out.old) }
     ensures out_after { out.new ≡ table_after (said_of result) (entries_of kind octets.now).words out.old }
 {
-    let s = look_over(octets, kind);
-    if !s.whole {
+    let Some(count) = look_over(octets, kind) else {
         return refuse(ground::BAD_ENTRIES);
-    }
+    };
     let width = width_of(kind);
-    if out.len() / width < s.count {
+    if out.len() / width < count {
         return refuse(ground::NO_OBJECT_ROOM);
     }
     put_entries(octets, kind, out);
-    Answer::Filled(s.count)
+    Answer::Filled(count)
 }
