@@ -1,5 +1,4 @@
--- What the calls say, and what they leave in what is lent: by the room, by what the catalogue check says, by whether the object is there, and by what the
--- octets are. Assumes nothing.
+-- What the calls say: by the room, by what the catalogue check says, by whether the object is there, and by what the octets are. Assumes nothing.
 use mathlib.Core.Path.{◌≡◌, sym, ap, ◌∙◌}
 use mathlib.Core.Bool.{Bool, true, false, not}
 use mathlib.Core.List.{List, [], ◌∷◌}
@@ -8,12 +7,13 @@ use native.Mathlib.Omega.{arith}
 use borrow.Author.Tests.{lt-ltb, le-ltb}
 use lib.Dec.{ltb}
 use lib.ListN.{length}
-use Rattle.ground.specs.Lists.{filled, table_after}
 use Rattle.ground.specs.Refusals.{Said, granted, refused, row, said_through}
 use Rattle.ground.proofs.Cases.{past, here}
 use Rattle.ground.proofs.Rows.{shut}
 use Rattle.catalogue_tables.specs.Tables.{Tables}
-use Rattle.catalogue_check.specs.Catalogue.{catalogue_row, check_said, Right}
+use Rattle.catalogue_check.specs.declared.Catalogue.{Catalogue}
+use Rattle.catalogue_check.specs.declared.Catalogue.TheVariants.{Fine}
+use Rattle.catalogue_check.specs.Catalogue.{catalogue_row, said_of, check_said, Right}
 use Rattle.catalogue_check.proofs.Laws.{passed}
 use Rattle.catalogue_objects.specs.declared.Kind.{Kind}
 use Rattle.catalogue_objects.specs.declared.Kind.TheVariants.{Group, Segments}
@@ -24,17 +24,16 @@ use Rattle.catalogue_objects.specs.Reading.{width_of, entries_of, read_said}
 abbrev pub room_said : List ℕ → ℕ → Said
 room_said octets room = said_through (row 223 (ltb room (length octets)) ∷ []) (granted (length octets ∷ []))
 
--- a refusal leaves what is lent as it was
-pub left_alone : (number : ℕ) (front old : List ℕ) (said : Said) → said ≡ refused number → old ≡ table_after said front old
-left_alone number front old said e = sym (ap (λ (s : Said). table_after s front old) e)
+module _ (octets : List ℕ) (room : ℕ) where
+  pub no_room : room < length octets → (said : Said) → said ≡ refused 223 → said ≡ room_said octets room
+  no_room h said e = here _ (lt-ltb _ _ h) e
 
-module _ (octets old : List ℕ) where
-  pub no_room : length old < length octets → (said : Said) → said ≡ refused 223 → (said ≡ room_said octets (length old)) × (old ≡ table_after said octets old)
-  no_room h said e = (here _ (lt-ltb _ _ h) e, left_alone 223 octets old said e)
+  pub has_room : (n : ℕ) → n ≡ length octets → length octets ≤ room → granted (n ∷ []) ≡ room_said octets room
+  has_room n e h = past _ (le-ltb _ _ h) (ap (λ (m : ℕ). granted (m ∷ [])) e)
 
-  pub has_room : (n : ℕ) → n ≡ length octets → length octets ≤ length old → (new : List ℕ) → new ≡ filled octets old
-      → (granted (n ∷ []) ≡ room_said octets (length old)) × (new ≡ table_after (granted (n ∷ [])) octets old)
-  has_room n e h new f = (past _ (le-ltb _ _ h) (ap (λ (m : ℕ). granted (m ∷ [])) e), f)
+-- the catalogue passed its check
+pub passes : (k : Tables) {a : Catalogue} → said_of a ≡ check_said k → a ≡ Fine → Right k
+passes k e is = sym e ∙ ap said_of is
 
 module _ (k : Tables) (there : Bool) (octets : List ℕ) (room : ℕ) where
   -- 200: nothing behind it is asked
