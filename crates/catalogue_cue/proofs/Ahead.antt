@@ -1,13 +1,13 @@
 -- `ahead`, how many octets stand ahead of the first that passes a test, as loops find it. Assumes nothing.
-use mathlib.Core.Path.{◌≡◌, refl, ◌∙◌}
+use mathlib.Core.Path.{◌≡◌, refl, sym, ap, ◌∙◌}
 use mathlib.Core.Bool.{Bool, true, false}
-use mathlib.Core.List.{List, [], ◌∷◌}
+use mathlib.Core.List.{List, [], ◌∷◌, ◌++◌}
 use Prim.Native.Nat.{ℕ, zero, suc, ◌+◌, ◌-◌, ◌<◌, ◌≤◌, zero-le, suc-le-suc}
 use native.Mathlib.Numerals.{add-one}
 use native.Mathlib.Omega.{arith}
 use borrow.Author.Tests.{ne_eqb}
-use lib.ListN.{length, get_or, drop, drop_of_length-le}
-use lib.Seq.{drop-cons}
+use lib.ListN.{length, get_or, drop, drop_of_length-le, length-append, length-drop, get_or-append}
+use lib.Seq.{drop-cons, drop-drop, drop-append_seam, get_or-drop}
 use Rattle.ground.specs.Cases.{pick}
 use Rattle.catalogue_cue.specs.Sheet.{space, unspaced}
 use Rattle.catalogue_cue.specs.Scan.{ahead, ahead_end, Passes}
@@ -79,6 +79,17 @@ module _ (test : ℕ → Bool) where
           → pick t zero (suc (ahead test s)) < suc (length s) → test (get_or (x ∷ s) (pick t zero (suc (ahead test s))) 0) ≡ true
       by true e f k = e
       by false e f k = f (omega arith)
+
+-- a piece of n octets that stands at a place, with the rest behind it
+module _ (s piece rest : List ℕ) (i n : ℕ) (splits : drop i s ≡ piece ++ rest) (long : length piece ≡ n) where
+  pub piece_within : i ≤ length s → i + n ≤ length s
+  piece_within h = omega (arith, ap length splits, length-append piece rest, length-drop i s, long)
+
+  pub piece_at : (j : ℕ) → j < n → get_or s (i + j) 0 ≡ get_or piece j 0
+  piece_at j h = sym (get_or-drop i s j 0) ∙ ap (λ (l : List ℕ). get_or l j 0) splits ∙ get_or-append piece rest 0 j (rw long h)
+
+  pub piece_behind : rest ≡ drop (i + n) s
+  piece_behind = sym (drop-append_seam piece rest) ∙ (λ k. drop (long k) (sym splits k)) ∙ drop-drop n i s
 
 -- a line that begins with no space
 pub unspaced_same : (s : List ℕ) → (get_or s 0 0 ≡ space → ⊥) → unspaced s ≡ s

@@ -1,42 +1,28 @@
--- Words at the front of a line: a loop's turn, and what the first octet tells. Assumes nothing.
-use mathlib.Core.Path.{◌≡◌, refl, sym, ◌∙◌}
+-- Words at the front of a line, and what the first octet tells. Assumes nothing.
+use mathlib.Core.Path.{◌≡◌, refl, sym}
 use mathlib.Core.Bool.{Bool, true, false, ◌&&◌, ◌||◌}
 use mathlib.Core.List.{List, [], ◌∷◌}
-use Prim.Native.Nat.{ℕ, ◌+◌, ◌<◌, ◌≤◌}
-use native.Mathlib.Numerals.{add-one}
+use Prim.Native.Nat.{ℕ}
 use native.Mathlib.Omega.{arith}
-use borrow.Author.Tests.{eq-eqb, ne_eqb}
+use borrow.Author.Tests.{ne_eqb}
 use lib.Dec.{eqb}
-use lib.ListN.{length, get_or, drop, drop_of_length-le}
-use lib.Seq.{drop-cons}
+use Rattle.std.specs.Prelude.{nat_eq}
+use Rattle.std.specs.List.{starts_with}
+use Rattle.std.proofs.lemmas.Cmp.{nat_eq_equiv}
+use lib.ListN.{length, get_or}
 use Rattle.ground.specs.Cases.{pick}
-use Rattle.ground.proofs.Cases.{and_fails}
 use Rattle.catalogue_cue.specs.Sheet.{octets, begins, is_other_index, is_passed}
 
-pub begins_short : (word line : List ℕ) → length line < length word → begins word line ≡ false
+-- `starts_with` at octets is `begins`
+pub starts_begins : (word line : List ℕ) → starts_with nat_eq line word ≡ begins word line
 unfolding begins
-begins_short [] line h = absurd (omega arith)
-begins_short (w ∷ word) [] h = refl
-begins_short (w ∷ word) (x ∷ line) h = and_fails (eqb x w) (begins_short word line (omega arith))
-
-module _ (word line : List ℕ) (i : ℕ) where
-  step : i < length word → length word ≤ length line → begins (drop i word) (drop i line) ≡ (eqb (get_or line i 0) (get_or word i 0) && begins (drop (i + 1) word) (drop (i + 1) line))
-  unfolding begins
-  step h k = let l : i < length line = omega arith in rw (add-one, drop-cons word i 0, drop-cons line i 0)
-
-  pub begins_goes : i < length word → length word ≤ length line → get_or line i 0 ≡ get_or word i 0 → begins (drop (i + 1) word) (drop (i + 1) line) ≡ begins (drop i word) (drop i line)
-  begins_goes h k e = sym (step h k ∙ rw (eq-eqb _ _ e))
-
-  pub begins_stops : i < length word → length word ≤ length line → (get_or line i 0 ≡ get_or word i 0 → ⊥) → begins (drop i word) (drop i line) ≡ false
-  begins_stops h k e = step h k ∙ rw (ne_eqb _ _ e)
-
-  pub begins_ends : length word ≤ i → begins (drop i word) (drop i line) ≡ true
-  unfolding begins
-  begins_ends h = rw (drop_of_length-le word h)
+starts_begins [] line = refl
+starts_begins (w ∷ word) [] = refl
+starts_begins (w ∷ word) (x ∷ line) = λ i. nat_eq_equiv.symm w x i && starts_begins word line i
 
 -- what the first octet leaves of the words that are passed over
-abbrev pub passed_by_lem : ℕ → List ℕ → Bool
-passed_by_lem first line =
+abbrev pub left_by : ℕ → List ℕ → Bool
+left_by first line =
     eqb (length line) 0
     || pick (eqb first 73) (is_other_index line) false
     || pick (eqb first 82) (begins (octets "REM") line) false
@@ -69,7 +55,7 @@ module _ (line : List ℕ) (first : ℕ) (e : get_or line 0 0 ≡ first) where
       by true f = refl
       by false f = rw (other 73 (octets "NDEX ") f)
 
-  pub passed_by : is_passed line ≡ passed_by_lem first line
+  pub passed_by : is_passed line ≡ left_by first line
   unfolding is_passed
   passed_by =
       λ i.

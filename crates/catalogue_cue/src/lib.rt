@@ -96,14 +96,13 @@ fn first_from(s: &[u8], at: usize, x: u8, equal: bool) -> usize
     requires { at ≤ length s.now }
     ensures { (result ≡ ahead_end (is_it x equal) s.now at) × (result ≤ length s.now) }
 {
-    let mut i = by_fours(s, at, x, equal);
-    while i < s.len() {
+    let from = by_fours(s, at, x, equal);
+    for i in from..s.len() {
         if is_it(s[i], x, equal) {
             return i;
         }
-        i += 1;
     }
-    i
+    s.len()
 }
 
 // Whether no octet is an LF. The loop is never left early, so that it becomes vector code.
@@ -111,10 +110,8 @@ fn no_lf(s: &[u8]) -> bool
     ensures { result ≡ all_below (length s.now) (λ i. not (is_lf (get_or s.now i 0))) }
 {
     let mut good = true;
-    let mut i: usize = 0;
-    while i < s.len() {
-        good = good & (s[i] != LF);
-        i += 1;
+    for octet in s {
+        good = good & (*octet != LF);
     }
     good
 }
@@ -126,12 +123,11 @@ fn past_no_lf(sheet: &[u8], at: usize, width: usize) -> usize
     ensures { Passes is_lf sheet.now at result }
 {
     let mut i = at;
-    while width <= sheet.len() - i {
-        let e = i + width;
-        if !no_lf(&sheet[i..e]) {
+    for piece in sheet[at..].chunks_exact(width) {
+        if !no_lf(piece) {
             return i;
         }
-        i = e;
+        i += width;
     }
     i
 }
@@ -171,17 +167,7 @@ fn line_at(sheet: &[u8], at: usize) -> Cut
 fn begins_with(line: &[u8], word: &[u8]) -> bool
     ensures { result ≡ begins word.now line.now }
 {
-    if line.len() < word.len() {
-        return false;
-    }
-    let mut i: usize = 0;
-    while i < word.len() {
-        if line[i] != word[i] {
-            return false;
-        }
-        i += 1;
-    }
-    true
+    line.starts_with(word)
 }
 
 fn is_digit(x: u8) -> bool

@@ -1,5 +1,4 @@
--- What the calls say, and what they leave in what is lent: by the room, by what the catalogue check says, by whether the object is there, and by what the
--- octets are. Assumes nothing.
+-- What the calls say: by the room, by what the catalogue check says, by whether the object is there, and by what the octets are. Assumes nothing.
 use mathlib.Core.Path.{◌≡◌, sym, ap, ◌∙◌}
 use mathlib.Core.Bool.{Bool, true, false, not}
 use mathlib.Core.List.{List, [], ◌∷◌}
@@ -8,7 +7,6 @@ use native.Mathlib.Omega.{arith}
 use borrow.Author.Tests.{lt-ltb, le-ltb}
 use lib.Dec.{ltb}
 use lib.ListN.{length}
-use Rattle.ground.specs.Lists.{filled, table_after}
 use Rattle.ground.specs.Refusals.{Said, granted, refused, row, said_through}
 use Rattle.ground.proofs.Cases.{past, here}
 use Rattle.ground.proofs.Rows.{shut}
@@ -18,23 +16,18 @@ use Rattle.catalogue_check.proofs.Laws.{passed}
 use Rattle.catalogue_objects.specs.declared.Kind.{Kind}
 use Rattle.catalogue_objects.specs.declared.Kind.TheVariants.{Group, Segments}
 use Rattle.catalogue_objects.specs.Objects.{write_rows, write_said}
-use Rattle.catalogue_objects.specs.Reading.{width_of, Entries, entries_of, read_said}
+use Rattle.catalogue_objects.specs.Reading.{width_of, entries_of, read_said}
 
 -- what is said by the room alone
 abbrev pub room_said : List ℕ → ℕ → Said
 room_said octets room = said_through (row 223 (ltb room (length octets)) ∷ []) (granted (length octets ∷ []))
 
--- a refusal leaves what is lent as it was
-pub left_alone : (number : ℕ) (front old : List ℕ) (said : Said) → said ≡ refused number → old ≡ table_after said front old
-left_alone number front old said e = sym (ap (λ (s : Said). table_after s front old) e)
+module _ (octets : List ℕ) (room : ℕ) where
+  pub no_room : room < length octets → (said : Said) → said ≡ refused 223 → said ≡ room_said octets room
+  no_room h said e = here _ (lt-ltb _ _ h) e
 
-module _ (octets old : List ℕ) where
-  pub no_room : length old < length octets → (said : Said) → said ≡ refused 223 → (said ≡ room_said octets (length old)) × (old ≡ table_after said octets old)
-  no_room h said e = (here _ (lt-ltb _ _ h) e, left_alone 223 octets old said e)
-
-  pub has_room : (n : ℕ) → n ≡ length octets → length octets ≤ length old → (new : List ℕ) → new ≡ filled octets old
-      → (granted (n ∷ []) ≡ room_said octets (length old)) × (new ≡ table_after (granted (n ∷ [])) octets old)
-  has_room n e h new f = (past _ (le-ltb _ _ h) (ap (λ (m : ℕ). granted (m ∷ [])) e), f)
+  pub has_room : (n : ℕ) → n ≡ length octets → length octets ≤ room → granted (n ∷ []) ≡ room_said octets room
+  has_room n e h = past _ (le-ltb _ _ h) (ap (λ (m : ℕ). granted (m ∷ [])) e)
 
 module _ (k : Tables) (there : Bool) (octets : List ℕ) (room : ℕ) where
   -- 200: nothing behind it is asked
@@ -59,27 +52,17 @@ pub too_few_words : (kind : Kind) (room count width : ℕ) → width ≡ width_o
 too_few_words Group room count width e h = let three = rw e at h in omega arith
 too_few_words Segments room count width e h = let one = rw e at h in omega arith
 
-pub enough_words : (kind : Kind) (room count width : ℕ) → width ≡ width_of kind → count ≤ room / width → count * width_of kind ≤ room
-enough_words Group room count width e h = let three = rw e at h in omega arith
-enough_words Segments room count width e h = let one = rw e at h in omega arith
-
--- what a call that reads says, and what it leaves in the lent words: 222, 223, or the words of all entries
-module _ (kind : Kind) (octets old : List ℕ) where
-  abbrev entries : Entries
-  entries = entries_of kind octets
-
-  abbrev Told : Said → List ℕ → Type 0
-  Told said new = (said ≡ read_said kind octets (length old)) × (new ≡ table_after said entries.words old)
-
-  pub bad_entries : entries.whole ≡ false → (said : Said) → said ≡ refused 222 → Told said old
+-- what a call that reads says: 222, 223, or how many entries there are
+module _ (kind : Kind) (octets : List ℕ) (room : ℕ) where
+  pub bad_entries : (entries_of kind octets).whole ≡ false → (said : Said) → said ≡ refused 222 → said ≡ read_said kind octets room
   unfolding read_said
-  bad_entries w said e = (here _ (ap not w) e, left_alone 222 entries.words old said e)
+  bad_entries w said e = here _ (ap not w) e
 
-  module _ (w : entries.whole ≡ true) where
-    pub no_words : length old < entries.count * width_of kind → (said : Said) → said ≡ refused 223 → Told said old
+  module _ (w : (entries_of kind octets).whole ≡ true) where
+    pub no_words : room < (entries_of kind octets).count * width_of kind → (said : Said) → said ≡ refused 223 → said ≡ read_said kind octets room
     unfolding read_said
-    no_words h said e = (past _ (ap not w) (here _ (lt-ltb _ _ h) e), left_alone 223 entries.words old said e)
+    no_words h said e = past _ (ap not w) (here _ (lt-ltb _ _ h) e)
 
-    pub all_read : entries.count * width_of kind ≤ length old → (n : ℕ) → n ≡ entries.count → (new : List ℕ) → new ≡ filled entries.words old → Told (granted (n ∷ [])) new
+    pub all_read : (entries_of kind octets).count * width_of kind ≤ room → (n : ℕ) → n ≡ (entries_of kind octets).count → granted (n ∷ []) ≡ read_said kind octets room
     unfolding read_said
-    all_read h n e new f = (past _ (ap not w) (past _ (le-ltb _ _ h) (ap (λ (m : ℕ). granted (m ∷ [])) e)), f)
+    all_read h n e = past _ (ap not w) (past _ (le-ltb _ _ h) (ap (λ (m : ℕ). granted (m ∷ [])) e))

@@ -1,17 +1,10 @@
 -- The objects of a catalogue as they are written, and what the calls that write them say (SCOPE 7.5).
 -- Assumes nothing.
 use Rattle.std.specs.Prelude.{Bool, ◌&&◌, not, List, [], ◌∷◌, ℕ, ltb, length}
-use Rattle.ground.specs.Refusals.{Said, granted, refusal_of, Row, row, said_through}
+use Rattle.ground.specs.Refusals.{Said, granted, Row, row, said_through}
 use Rattle.catalogue_tables.specs.Tables.{Tables, group_count, track_count, segments_in}
 use Rattle.catalogue_check.specs.Catalogue.{catalogue_row}
 use Rattle.catalogue_objects.specs.Entries.{members_of, member_octets, labels_of, label_octets, all_octets}
-use Rattle.catalogue_objects.specs.declared.Answer.{Answer}
-use Rattle.catalogue_objects.specs.declared.Answer.TheVariants.{Filled, Refused}
-
--- the number and the values of each answer: how many octets were written (SCOPE 7.5), or how many entries were read (SCOPE 7.6)
-abbrev pub said_of : Answer → Said
-said_of (Filled n) = granted (n ∷ [])
-said_of (Refused r) = refusal_of r
 
 -- the octets of a group's Group object (SCOPE 7.3), and of a track's Track Segments object (SCOPE 7.4)
 unfoldable pub group_octets : List ℕ → ℕ → List ℕ

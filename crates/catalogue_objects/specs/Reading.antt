@@ -1,6 +1,6 @@
 -- Objects that are read back (SCOPE 7.6 to 7.8): entries out of octets, one behind the other.
 -- Assumes nothing.
-use Rattle.std.specs.Prelude.{Bool, true, false, ◌&&◌, not, List, [], ◌∷◌, ◌++◌, ℕ, zero, suc, ◌+◌, ◌*◌, eqb, ltb, leb, length, get_or, drop}
+use Rattle.std.specs.Prelude.{◌≡◌, Option, MatchOption, Bool, true, false, ◌&&◌, not, List, [], ◌∷◌, ◌++◌, ℕ, zero, suc, ◌+◌, ◌*◌, eqb, ltb, leb, length, get_or, drop}
 use Rattle.ground.specs.Cases.{pick}
 use Rattle.ground.specs.Lists.{part}
 use Rattle.ground.specs.Refusals.{Said, granted, Row, row, said_through}
@@ -67,6 +67,10 @@ entries_in kind (suc n) s =
 
 unfoldable pub entries_of : Kind → List ℕ → Entries
 entries_of kind s = entries_in kind (length s) s
+
+-- how many whole entries octets are, or none where they are not whole entries
+abbrev pub CountsEntries : Kind → List ℕ → Option ℕ → Type 0
+CountsEntries kind s r = MatchOption r ((entries_of kind s).whole ≡ false) (λ n. ((entries_of kind s).whole ≡ true) × (n ≡ (entries_of kind s).count))
 
 -- SCOPE 7.7: "Octets that are not whole entries are refused with 222"; "Then 223 is given where the entries have more words than there is room for."
 abbrev pub read_rows : Kind → List ℕ → ℕ → List Row

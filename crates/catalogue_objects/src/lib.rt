@@ -9,7 +9,10 @@ ghost use Rattle.catalogue_tables.specs.Tables.{tables, group_count, first_track
 ghost use Rattle.catalogue_objects.specs.declared.Kind.TheVariants.{Group};
 ghost use Rattle.catalogue_objects.specs.Entries.{track_member, group_member, is_child, children_of, nameless, member_octets, label_octets, all_octets};
 ghost use Rattle.catalogue_objects.specs.Objects.{group_octets, segments_octets, has_group, has_segments, write_said};
-ghost use Rattle.catalogue_objects.specs.Reading.{label_head, label_sound, size_of, is_entry, words_of, width_of, entries_of, read_said};
+ghost use Rattle.catalogue_objects.specs.Reading.{label_head, label_sound, size_of, is_entry, words_of, width_of, entries_of, CountsEntries, read_said};
+
+use ground::Reason;
+use ground::Refusal;
 
 // The types of a Group object's entries (SCOPE 7.2; the standard, Table 4.3).
 const TRACK: u8 = 0;
@@ -20,20 +23,6 @@ const GROUP: u8 = 1;
 const MEMBER: usize = 7;
 
 const LABEL: usize = 5;
-
-#[derive(Clone, Copy)]
-pub enum Answer {
-    // How many octets were written, or entries read.
-    Filled(usize),
-    Refused(ground::Refusal),
-}
-
-fn refuse(number: u32) -> Answer
-    ensures { count_said result ≡ refused number }
-{
-    let r = ground::refuse(number);
-    Answer::Refused(r)
-}
 
 // Writes an entry of a Group object over out, from a place on (SCOPE 7.2).
 fn put_member(out: &mut [u8], at: usize, kind: u8, object: usize)
@@ -63,12 +52,10 @@ fn count_children(groups: &[u32], g: catalogue_tables::GroupNo) -> usize
     ensures { (result ≡ length (children_of groups.now g.0)) × (result ≤ most_groups) }
 {
     let mut n: usize = 0;
-    let mut h: usize = 0;
-    while h < catalogue_tables::group_count(groups) {
+    for h in 0..catalogue_tables::group_count(groups) {
         if is_child(groups, g, h as u32) {
             n += 1;
         }
-        h += 1;
     }
     n
 }
@@ -80,14 +67,12 @@ fn put_children(out: &mut [u8], groups: &[u32], g: catalogue_tables::GroupNo)
     ensures { out.new ≡ filled (all_octets member_octets (map group_member (children_of groups.now g.0))) out.old }
 {
     let mut n: usize = 0;
-    let mut h: usize = 0;
-    while h < catalogue_tables::group_count(groups) {
+    for h in 0..catalogue_tables::group_count(groups) {
         if is_child(groups, g, h as u32) {
             let object = catalogue_tables::group_object(catalogue_tables::GroupNo(h as u32));
             put_member(out, n * MEMBER, GROUP, object);
             n += 1;
         }
-        h += 1;
     }
 }
 
@@ -97,16 +82,14 @@ fn put_tracks(out: &mut [u8], at: usize, first: u32, count: u32)
     requires count_in_bounds { at + count * 7 ≤ length out.old }
     ensures { out.new ≡ laid out.old at (all_octets member_octets (map track_member (span first count))) }
 {
-    let mut i: u32 = 0;
-    while i < count {
+    for i in 0..count {
         let object = catalogue_tables::track_object(catalogue_tables::TrackNo(first + i));
         put_member(out, at + ground::wide_word(i) * MEMBER, TRACK, object);
-        i += 1;
     }
 }
 
 // Writes the Group object of a group of a right catalogue (SCOPE 7.3).
-fn fill_group(groups: &[u32], g: catalogue_tables::GroupNo, out: &mut [u8]) -> Answer
+fn fill_group(groups: &[u32], g: catalogue_tables::GroupNo, out: &mut [u8]) -> Result<usize, Refusal>
     requires groups_bound { group_count groups.now ≤ most_groups }
     requires g_bound { first_track_of groups.now g.0 + tracks_in groups.now g.0 ≤ most_tracks }
     ensures result_value { count_said result ≡ said_through (row 223 (ltb (length out.old) (length (group_octets groups.now g.0))) ∷ []) (granted (length (group_octets groups.now g.0) ∷ [])) }
@@ -118,11 +101,11 @@ fn fill_group(groups: &[u32], g: catalogue_tables::GroupNo, out: &mut [u8]) -> A
     let at = children * MEMBER;
     let n = at + ground::wide_word(count) * MEMBER;
     if out.len() < n {
-        return refuse(ground::NO_OBJECT_ROOM);
+        return Err(Refusal::from(Reason::NoObjectRoom));
     }
     put_children(out, groups, g);
     put_tracks(out, at, first.0, count);
-    Answer::Filled(n)
+    Ok(n)
 }
 
 // Writes the Group object of a group over the front of out, and answers how many octets it has; or refuses and leaves out as it was (SCOPE 7.5).
@@ -133,20 +116,15 @@ pub fn write_group(
     text: &[u8],
     g: catalogue_tables::GroupNo,
     out: &mut [u8],
-) -> Answer
+) -> Result<usize, Refusal>
     ensures result_value { count_said result ≡ write_said (tables groups.now tracks.now segments.now text.now) (has_group (tables groups.now tracks.now segments.now text.now) g.0) (group_octets groups.now g.0) (length out.old) }
     ensures out_after { out.new ≡ table_after (count_said result) (group_octets groups.now g.0) out.old }
 {
-    let c = catalogue_check::check(groups, tracks, segments, text);
-    match c {
-        catalogue_check::Catalogue::Refused(r) => Answer::Refused(r),
-        catalogue_check::Catalogue::Fine => {
-            if catalogue_tables::group_count(groups) <= ground::wide_word(g.0) {
-                return refuse(ground::NOT_ALLOWED);
-            }
-            fill_group(groups, g, out)
-        }
+    catalogue_check::check(groups, tracks, segments, text)?;
+    if catalogue_tables::group_count(groups) <= ground::wide_word(g.0) {
+        return Err(Refusal::from(Reason::NotAllowed));
     }
+    fill_group(groups, g, out)
 }
 
 // Writes a label without a name over out, from a place on (SCOPE 7.4).
@@ -163,10 +141,8 @@ fn put_labels(out: &mut [u8], starts: &[u32])
     requires { length starts.now * 5 ≤ length out.old }
     ensures { out.new ≡ filled (all_octets label_octets (map nameless starts.now)) out.old }
 {
-    let mut i: usize = 0;
-    while i < starts.len() {
-        put_label(out, i * LABEL, starts[i]);
-        i += 1;
+    for (i, start) in starts.iter().enumerate() {
+        put_label(out, i * LABEL, *start);
     }
 }
 
@@ -178,37 +154,32 @@ pub fn write_segments(
     text: &[u8],
     t: catalogue_tables::TrackNo,
     out: &mut [u8],
-) -> Answer
+) -> Result<usize, Refusal>
     ensures result_value { count_said result ≡ write_said (tables groups.now tracks.now segments.now text.now) (has_segments (tables groups.now tracks.now segments.now text.now) t.0) (segments_octets tracks.now segments.now t.0) (length out.old) }
     ensures out_after { out.new ≡ table_after (count_said result) (segments_octets tracks.now segments.now t.0) out.old }
 {
-    let c = catalogue_check::check(groups, tracks, segments, text);
-    match c {
-        catalogue_check::Catalogue::Refused(r) => Answer::Refused(r),
-        catalogue_check::Catalogue::Fine => {
-            let there = ground::wide_word(t.0) < catalogue_tables::track_count(tracks);
-            let cut = 0 < catalogue_tables::segments_in(tracks, t);
-            if !(there & cut) {
-                return refuse(ground::NOT_ALLOWED);
-            }
-            let starts = catalogue_tables::starts(tracks, segments, t);
-            fill_segments(starts, out)
-        }
+    catalogue_check::check(groups, tracks, segments, text)?;
+    let there = ground::wide_word(t.0) < catalogue_tables::track_count(tracks);
+    let cut = 0 < catalogue_tables::segments_in(tracks, t);
+    if !(there & cut) {
+        return Err(Refusal::from(Reason::NotAllowed));
     }
+    let starts = catalogue_tables::starts(tracks, segments, t);
+    fill_segments(starts, out)
 }
 
 // Writes the Track Segments object of segments with these starts, where there is room.
-fn fill_segments(starts: &[u32], out: &mut [u8]) -> Answer
+fn fill_segments(starts: &[u32], out: &mut [u8]) -> Result<usize, Refusal>
     requires { length starts.now ≤ most_segments }
     ensures result_value { count_said result ≡ said_through (row 223 (ltb (length out.old) (length (all_octets label_octets (map nameless starts.now)))) ∷ []) (granted (length (all_octets label_octets (map nameless starts.now)) ∷ [])) }
     ensures out_after { out.new ≡ table_after (count_said result) (all_octets label_octets (map nameless starts.now)) out.old }
 {
     let size = starts.len() * LABEL;
     if out.len() < size {
-        return refuse(ground::NO_OBJECT_ROOM);
+        return Err(Refusal::from(Reason::NoObjectRoom));
     }
     put_labels(out, starts);
-    Answer::Filled(size)
+    Ok(size)
 }
 
 // Which object octets are read as.
@@ -294,65 +265,43 @@ fn width_of(kind: Kind) -> usize
     }
 }
 
-// Whether octets are whole entries, and how many.
-#[derive(Clone, Copy)]
-struct Overview {
-    whole: bool,
-    count: usize,
-}
-
-// For a Group object. Its entries all have the same length, so that the end of none has to be looked for.
-fn members_over(octets: &[u8]) -> Overview
-    ensures { (result.whole ≡ (entries_of Group octets.now).whole) × (result.whole ≡ true → result.count ≡ (entries_of Group octets.now).count) × (result.count ≤ length octets.now) }
+// How many entries a Group object's octets are, or none where they are not whole entries. Its entries all have the same length, so that the end of none has to
+// be looked for.
+fn members_over(octets: &[u8]) -> Option<usize>
+    ensures { CountsEntries Group octets.now result }
 {
     let n = octets.len() / MEMBER;
-    let mut i: usize = 0;
-    while i < n {
+    for i in 0..n {
         let at = i * MEMBER;
         if GROUP < octets[at] {
-            return Overview {
-                whole: false,
-                count: 0,
-            };
+            return None;
         }
-        i += 1;
     }
     if octets.len() % MEMBER != 0 {
-        return Overview {
-            whole: false,
-            count: 0,
-        };
+        return None;
     }
-    Overview {
-        whole: true,
-        count: n,
-    }
+    Some(n)
 }
 
-// For either kind, entry by entry.
-fn entries_over(octets: &[u8], kind: Kind) -> Overview
-    ensures { (result.whole ≡ (entries_of kind octets.now).whole) × (result.whole ≡ true → result.count ≡ (entries_of kind octets.now).count) × (result.count ≤ length octets.now) }
+// The same for either kind, entry by entry.
+fn entries_over(octets: &[u8], kind: Kind) -> Option<usize>
+    ensures { CountsEntries kind octets.now result }
 {
     let mut at: usize = 0;
     let mut count: usize = 0;
+    // Stays a while: a step is as long as its entry, which only the entry itself says.
     while at < octets.len() {
         if !is_entry(octets, at, kind) {
-            return Overview {
-                whole: false,
-                count: 0,
-            };
+            return None;
         }
         at += size_at(octets, at, kind);
         count += 1;
     }
-    Overview {
-        whole: true,
-        count: count,
-    }
+    Some(count)
 }
 
-fn look_over(octets: &[u8], kind: Kind) -> Overview
-    ensures { (result.whole ≡ (entries_of kind octets.now).whole) × (result.whole ≡ true → result.count ≡ (entries_of kind octets.now).count) × (result.count ≤ length octets.now) }
+fn look_over(octets: &[u8], kind: Kind) -> Option<usize>
+    ensures { CountsEntries kind octets.now result }
 {
     match kind {
         Kind::Group => members_over(octets),
@@ -369,6 +318,7 @@ fn put_entries(octets: &[u8], kind: Kind, out: &mut [u32])
     let width = width_of(kind);
     let mut at: usize = 0;
     let mut to: usize = 0;
+    // Stays a while: a step is as long as its entry, which only the entry itself says.
     while at < octets.len() {
         put_entry(octets, at, kind, out, to);
         at += size_at(octets, at, kind);
@@ -378,18 +328,17 @@ fn put_entries(octets: &[u8], kind: Kind, out: &mut [u32])
 
 // Reads octets as an object: its entries' words go over the front of out, and the answer is how many entries there are;
 // or it refuses, and out is as it was (SCOPE 7.6, 7.7).
-pub fn read(octets: &[u8], kind: Kind, out: &mut [u32]) -> Answer
+pub fn read(octets: &[u8], kind: Kind, out: &mut [u32]) -> Result<usize, Refusal>
     ensures result_value { count_said result ≡ read_said kind octets.now (length out.old) }
     ensures out_after { out.new ≡ table_after (count_said result) (entries_of kind octets.now).words out.old }
 {
-    let s = look_over(octets, kind);
-    if !s.whole {
-        return refuse(ground::BAD_ENTRIES);
-    }
+    let Some(count) = look_over(octets, kind) else {
+        return Err(Refusal::from(Reason::BadEntries));
+    };
     let width = width_of(kind);
-    if out.len() / width < s.count {
-        return refuse(ground::NO_OBJECT_ROOM);
+    if out.len() / width < count {
+        return Err(Refusal::from(Reason::NoObjectRoom));
     }
     put_entries(octets, kind, out);
-    Answer::Filled(s.count)
+    Ok(count)
 }

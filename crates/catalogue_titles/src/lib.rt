@@ -53,14 +53,12 @@ fn entries_right(count: usize, renames: &[u32], office: &[u8]) -> bool
     ensures { result ≡ entries_rule count renames.now office.now }
 {
     let mut good = true;
-    let mut i: usize = 0;
-    while i < count {
+    for i in 0..count {
         let base = i * RENAME_WORDS;
         let offset = renames[base + RENAME_OFFSET_AT];
         let len = renames[base + RENAME_LENGTH_AT];
         let right = entry_right(offset, len, office);
         good = good & right;
-        i += 1;
     }
     good
 }
@@ -70,10 +68,8 @@ fn all_zero(words: &[u32]) -> bool
     ensures { result ≡ all_below (length words.now) (λ (i : ℕ). eqb (get_or words.now i 0) 0) }
 {
     let mut good = true;
-    let mut i: usize = 0;
-    while i < words.len() {
-        good = good & (words[i] == 0);
-        i += 1;
+    for word in words {
+        good = good & (*word == 0);
     }
     good
 }

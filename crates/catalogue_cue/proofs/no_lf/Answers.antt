@@ -1,20 +1,14 @@
 -- `catalogue_cue::no_lf`: none of the octets so far is one.
 use mathlib.Core.Path.{refl}
-use Prim.Native.Nat.{◌-◌}
 use Rattle.ground.specs.Lists.{all_below}
-use Rattle.ground.proofs.Bounded.{all_turn, all_end}
-use borrow.Author.Rules.{rules}
+use Rattle.ground.proofs.Bounded.{all_turn}
 use Rattle.catalogue_cue.proofs.no_lf.Goals as goal
 
-pub loop-i-init : goal.loop-i-init
+pub loop-octet-init : goal.loop-octet-init
 unfolding all_below
-loop-i-init c =
-    (search rules, refl)
+loop-octet-init c =
+    refl
 
-pub loop-i-preserved : goal.loop-i-preserved
-loop-i-preserved c =
-    (search rules, all_turn _ _ _ _ c.loop-i.invariant.1 refl)
-
-pub returns : goal.returns
-returns c =
-    all_end _ c.loop-i.invariant.0 c.loop-i-test.false c.loop-i.invariant.1
+pub loop-octet-preserved : goal.loop-octet-preserved
+loop-octet-preserved c =
+    all_turn _ _ _ _ c.loop-octet.invariant refl

@@ -1,45 +1,34 @@
 -- `catalogue_objects::count_children`: what is counted and what is left to count make up all of them.
-use mathlib.Core.Path.{◌≡◌, refl, sym, ap, ◌∙◌}
-use mathlib.Core.List.{List}
-use Prim.Native.Nat.{ℕ, ◌+◌, ◌-◌}
+use mathlib.Core.Path.{sym, ap, ◌∙◌}
+use Prim.Native.Nat.{◌<◌}
 use native.Mathlib.Omega.{arith}
 use lib.ListN.{length}
-use Rattle.ground.specs.Lists.{span, those}
-use Rattle.catalogue_tables.specs.Tables.{group_count}
-use Rattle.catalogue_objects.specs.Entries.{is_child, children_of}
-use Rattle.catalogue_objects.proofs.Spans.{span_shuts, those_taken, those_passed}
 use borrow.Author.Rules.{rules}
+use Rattle.catalogue_tables.specs.Tables.{group_count}
+use Rattle.catalogue_objects.proofs.Left.{children_all, child_taken, child_passed, children_none}
 use Rattle.catalogue_objects.proofs.count_children.Goals as goal
 use Rattle.catalogue_objects.proofs.count_children.Goals.{then-is_child, else-is_child}
 
 pub loop-h-init : goal.loop-h-init
-unfolding children_of
 loop-h-init c =
-    let a = c.args in
-    let groups = a.groups.now in
-    let all : group_count groups - 0 ≡ group_count groups = omega arith in
-    (search rules, search rules, omega (arith, ap (λ (n : ℕ). length (those (is_child groups a.g.0) (span 0 n))) all))
+    record { few = search rules; total = omega (arith, ap length (children_all c.args.groups.now c.args.g.0)) }
 
 pub loop-h-preserved : goal.loop-h-preserved
 loop-h-preserved c =
-    let a = c.args in
-    let groups = a.groups.now in
-    let test = is_child groups a.g.0 in
+    let groups = c.args.groups.now in
+    let g = c.args.g.0 in
     let h = c.loop-h.h in
-    let n = group_count groups in
-    let left : n - h ≡ n - (h + 1) + 1 = omega (arith, c.group_count.ensures) in
+    let inv = c.loop-h.invariant in
+    let below : h < group_count groups = omega (arith, c.group_count-h-end.ensures) in
     elim c.if-is_child.branch [
       | then-is_child w ↦
-          let e = those_taken test h (n - h) (h + 1) (n - (h + 1)) left refl (sym c.is_child.ensures ∙ w.if-is_child.true) in
-          (omega arith, omega (arith, w.n-is), omega (arith, w.n-is, ap length e, c.loop-h.invariant.2))
+          let e = child_taken groups g h below (sym c.is_child.ensures ∙ w.if-is_child.true) in
+          record { few = omega (arith, w.n-is, inv.few); total = omega (arith, w.n-is, ap length e, inv.total) }
       | else-is_child w ↦
-          let e = those_passed test h (n - h) (h + 1) (n - (h + 1)) left refl (sym c.is_child.ensures ∙ w.if-is_child.false) in
-          (omega arith, omega (arith, w.n-is), omega (arith, w.n-is, ap length e, c.loop-h.invariant.2))
+          let e = child_passed groups g h below (sym c.is_child.ensures ∙ w.if-is_child.false) in
+          record { few = omega (arith, w.n-is, inv.few); total = omega (arith, w.n-is, ap length e, inv.total) }
     ]
 
 pub returns : goal.returns
 returns c =
-    let a = c.args in
-    let groups = a.groups.now in
-    let none : group_count groups - c.loop-h.h ≡ 0 = omega (arith, c.group_count.ensures) in
-    (omega (arith, c.loop-h.invariant.2, ap (λ (s : List ℕ). length (those (is_child groups a.g.0) s)) (span_shuts c.loop-h.h _ none)), search rules)
+    (omega (arith, c.loop-h.invariant.total, ap length (children_none c.args.groups.now c.args.g.0 c.loop-h.h (omega (arith, c.group_count-h-end.ensures)))), search rules)

@@ -1,41 +1,12 @@
 -- `catalogue_objects::put_member`: seven stores are seven octets laid.
 use mathlib.Core.Path.{◌∙◌}
 use mathlib.Core.List.{[], ◌∷◌}
-use native.Mathlib.Omega.{arith}
-use lib.ListN.{get_or, length-set}
+use lib.ListN.{get_or}
 use Rattle.ground.specs.Lists.{laid}
 use Rattle.ground.specs.Words.{six_octets}
 use Rattle.catalogue_objects.specs.Entries.{member_octets}
 use Rattle.catalogue_objects.proofs.Stores.{laid_seven}
 use Rattle.catalogue_objects.proofs.put_member.Goals as goal
-
-pub bounds-out-at-2 : goal.bounds-out-at-2
-bounds-out-at-2 c =
-    simp length-set (omega arith)
-
-pub bounds-out-at-3 : goal.bounds-out-at-3
-bounds-out-at-3 c =
-    simp length-set (omega arith)
-
-pub bounds-out-at-4 : goal.bounds-out-at-4
-bounds-out-at-4 c =
-    simp length-set (omega arith)
-
-pub bounds-out-at-5 : goal.bounds-out-at-5
-bounds-out-at-5 c =
-    simp length-set (omega arith)
-
-pub bounds-out-at-6 : goal.bounds-out-at-6
-bounds-out-at-6 c =
-    simp length-set (omega arith)
-
-pub bounds-out-at-7 : goal.bounds-out-at-7
-bounds-out-at-7 c =
-    simp length-set (omega arith)
-
-pub shape_of-out : goal.shape_of-out
-shape_of-out c =
-    simp length-set
 
 pub returns : goal.returns
 unfolding member_octets six_octets
