@@ -102,10 +102,8 @@ fn bits_of(s: &[u8]) -> u8
     ensures { (i : ℕ) → i < length s.now → get_or s.now i 0 ≤ result }
 {
     let mut bits: u8 = 0;
-    let mut i = 0;
-    while i < s.len() {
-        bits = bits | s[i];
-        i += 1;
+    for x in s {
+        bits |= *x;
     }
     bits
 }
