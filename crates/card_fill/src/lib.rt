@@ -13,10 +13,8 @@ fn put_words(b: &mut [u8], at: usize, src: &[u32], from: usize, n: usize)
     requires n_in_bounds_2 { from + n ≤ length src.now }
     ensures { b.new ≡ laid b.old at (octets_of (part src.now from (from + n))) }
 {
-    let mut i: usize = 0;
-    while i < n {
+    for i in 0..n {
         ground::put_word(b, at + i * 4, src[from + i]);
-        i += 1;
     }
 }
 
@@ -26,10 +24,8 @@ fn put_octets(b: &mut [u8], at: usize, src: &[u8], from: usize, n: usize)
     requires n_in_bounds_2 { from + n ≤ length src.now }
     ensures { b.new ≡ laid b.old at (part src.now from (from + n)) }
 {
-    let mut i: usize = 0;
-    while i < n {
+    for i in 0..n {
         b[at + i] = src[from + i];
-        i += 1;
     }
 }
 

@@ -56,9 +56,8 @@ fn judge_blocks(card: &[u8], n: usize) -> Judged
     requires { n * block_size ≤ length card.now }
     ensures { judgedSaidOf result ≡ said_by (blocks_rows 0 1 (blocks n card.now)) }
 {
-    let mut i: usize = 0;
     let mut least: u8 = 1;
-    while i < n {
+    for i in 0..n {
         let a = i * card_block::BLOCK;
         let e = a + card_block::BLOCK;
         let b = &card[a..e];
@@ -69,7 +68,6 @@ fn judge_blocks(card: &[u8], n: usize) -> Judged
             Judged::Fine => {}
         }
         least = b[2];
-        i += 1;
     }
     Judged::Fine
 }
@@ -80,16 +78,14 @@ fn record_count(card: &[u8], n: usize, kind: u8) -> usize
     requires n_le_most_blocks { n ≤ most_blocks }
     ensures { (result ≡ record_count kind (blocks n card.now)) × (result ≤ 8388608) }
 {
-    let mut i: usize = 0;
     let mut sum: usize = 0;
-    while i < n {
+    for i in 0..n {
         let a = i * card_block::BLOCK;
         let e = a + card_block::BLOCK;
         let b = &card[a..e];
         if b[2] == kind {
             sum += ground::half_at(b, 3);
         }
-        i += 1;
     }
     sum
 }
@@ -100,23 +96,8 @@ fn copy_words(dst: &mut [u32], at: usize, src: &[u8], from: usize, n: usize)
     requires n_in_bounds_2 { from + n * 4 ≤ length src.now }
     ensures { dst.new ≡ paste dst.old at (words (drop from src.now)) n }
 {
-    let mut i: usize = 0;
-    while i < n {
+    for i in 0..n {
         dst[at + i] = ground::word_at(src, from + i * 4);
-        i += 1;
-    }
-}
-
-// Writes n octets over dst, from the place `at` on. They stand in src from a place on.
-fn copy_octets(dst: &mut [u8], at: usize, src: &[u8], from: usize, n: usize)
-    requires n_in_bounds { at + n ≤ length dst.old }
-    requires n_in_bounds_2 { from + n ≤ length src.now }
-    ensures { dst.new ≡ paste dst.old at (drop from src.now) n }
-{
-    let mut i: usize = 0;
-    while i < n {
-        dst[at + i] = src[from + i];
-        i += 1;
     }
 }
 
@@ -127,9 +108,8 @@ fn fill_words(dst: &mut [u32], card: &[u8], n: usize, kind: u8)
     requires card_in_bounds { length (gather words kind (blocks n card.now)) ≤ length dst.old }
     ensures { dst.new ≡ filled (gather words kind (blocks n card.now)) dst.old }
 {
-    let mut i: usize = 0;
     let mut at: usize = 0;
-    while i < n {
+    for i in 0..n {
         let a = i * card_block::BLOCK;
         let e = a + card_block::BLOCK;
         let b = &card[a..e];
@@ -138,7 +118,6 @@ fn fill_words(dst: &mut [u32], card: &[u8], n: usize, kind: u8)
             copy_words(dst, at, b, card_block::HEAD, m);
             at += m;
         }
-        i += 1;
     }
 }
 
@@ -149,18 +128,17 @@ fn fill_octets(dst: &mut [u8], card: &[u8], n: usize, kind: u8)
     requires card_in_bounds { length (gather octets kind (blocks n card.now)) ≤ length dst.old }
     ensures { dst.new ≡ filled (gather octets kind (blocks n card.now)) dst.old }
 {
-    let mut i: usize = 0;
     let mut at: usize = 0;
-    while i < n {
+    for i in 0..n {
         let a = i * card_block::BLOCK;
         let e = a + card_block::BLOCK;
         let b = &card[a..e];
         if b[2] == kind {
-            let m = card_block::records_end(b) - card_block::HEAD;
-            copy_octets(dst, at, b, card_block::HEAD, m);
-            at += m;
+            let records = &b[card_block::HEAD..card_block::records_end(b)];
+            let end = at + records.len();
+            dst[at..end].copy_from_slice(records);
+            at = end;
         }
-        i += 1;
     }
 }
 

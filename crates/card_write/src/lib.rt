@@ -36,13 +36,11 @@ fn write_words(card: &mut [u8], first: usize, kind: u8, unit: usize, src: &[u32]
     ensures { card.new ≡ laid card.old (first * block_size) (joined (word_blocks kind unit first src.now)) }
 {
     let n = (src.len() + 125) / FULL_WORDS;
-    let mut i: usize = 0;
-    while i < n {
+    for i in 0..n {
         let from = i * FULL_WORDS;
         let m = lesser(FULL_WORDS, src.len() - from);
         let b = card_fill::words_block(first + i, kind, m / unit, src, from, m);
         card_fill::put_block(card, first + i, &b);
-        i += 1;
     }
 }
 
@@ -54,13 +52,11 @@ fn write_text(card: &mut [u8], first: usize, src: &[u8])
     ensures { card.new ≡ laid card.old (first * block_size) (joined (text_blocks first src.now)) }
 {
     let n = (src.len() + 504) / FULL_TEXT;
-    let mut i: usize = 0;
-    while i < n {
+    for i in 0..n {
         let from = i * FULL_TEXT;
         let m = lesser(FULL_TEXT, src.len() - from);
         let b = card_fill::octets_block(first + i, 4, m, src, from, m);
         card_fill::put_block(card, first + i, &b);
-        i += 1;
     }
 }
 

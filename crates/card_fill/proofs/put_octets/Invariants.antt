@@ -6,7 +6,4 @@ use Rattle.ground.specs.Lists.{laid}
 use Rattle.card_fill.proofs.put_octets.Given as goal
 
 abbrev pub invariant-loop-i : goal.invariant-loop-i
-invariant-loop-i l = (l.i ≤ l.n) × (length l.b ≡ length l.initial.b) × (l.b ≡ laid l.initial.b l.at (take l.i (drop l.from l.src)))
-
-abbrev pub decreases-loop-i : goal.decreases-loop-i
-decreases-loop-i l = l.n - l.i
+invariant-loop-i l = (length l.b ≡ length l.initial.b) × (l.b ≡ laid l.initial.b l.at (take l.i (drop l.from l.src)))

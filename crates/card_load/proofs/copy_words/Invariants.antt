@@ -8,7 +8,4 @@ use Rattle.card_load.proofs.copy_words.Given as goal
 
 abbrev pub invariant-loop-i : goal.invariant-loop-i
 invariant-loop-i l =
-    (l.i ≤ l.n) × (length l.dst ≡ length l.initial.dst) × (l.dst ≡ paste l.initial.dst l.at (words (drop l.from l.src)) l.i)
-
-abbrev pub decreases-loop-i : goal.decreases-loop-i
-decreases-loop-i l = l.n - l.i
+    (length l.dst ≡ length l.initial.dst) × (l.dst ≡ paste l.initial.dst l.at (words (drop l.from l.src)) l.i)

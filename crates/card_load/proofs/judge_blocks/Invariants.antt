@@ -8,7 +8,4 @@ use Rattle.card_load.proofs.judge_blocks.Given as goal
 
 abbrev pub invariant-loop-i : goal.invariant-loop-i
 invariant-loop-i l =
-    (l.i ≤ l.n) × (said_by (blocks_rows l.i l.least (drop l.i (blocks l.n l.card))) ≡ said_by (blocks_rows 0 1 (blocks l.n l.card)))
-
-abbrev pub decreases-loop-i : goal.decreases-loop-i
-decreases-loop-i l = l.n - l.i
+    (said_by (blocks_rows l.i l.least (drop l.i (blocks l.n l.card))) ≡ said_by (blocks_rows 0 1 (blocks l.n l.card)))

@@ -5,7 +5,4 @@ use Rattle.card_write.proofs.Joining.{Laying}
 use Rattle.card_write.proofs.write_words.Given as goal
 
 abbrev pub invariant-loop-i : goal.invariant-loop-i
-invariant-loop-i l = (l.i ≤ l.n) × Laying (word_blocks l.kind l.unit l.first l.src) l.first l.initial.card l.card l.i
-
-abbrev pub decreases-loop-i : goal.decreases-loop-i
-decreases-loop-i l = l.n - l.i
+invariant-loop-i l = Laying (word_blocks l.kind l.unit l.first l.src) l.first l.initial.card l.card l.i

@@ -7,7 +7,4 @@ use Rattle.catalogue_rules.specs.Rules.{parent_right}
 use Rattle.catalogue_rules.proofs.parents_right.Given as goal
 
 abbrev pub invariant-loop-i : goal.invariant-loop-i
-invariant-loop-i l = (l.i ≤ l.n) × (l.good ≡ all_below l.i (λ g. parent_right g (parent_of l.groups g)))
-
-abbrev pub decreases-loop-i : goal.decreases-loop-i
-decreases-loop-i l = l.n - l.i
+invariant-loop-i l = (l.good ≡ all_below l.i (λ g. parent_right g (parent_of l.groups g)))

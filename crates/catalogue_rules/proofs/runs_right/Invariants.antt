@@ -6,6 +6,3 @@ use Rattle.catalogue_rules.proofs.runs_right.Given as goal
 
 abbrev pub invariant-loop-i : goal.invariant-loop-i
 invariant-loop-i l = Following (λ j. word_in l.width l.table j l.at) (λ j. word_in l.width l.table j (l.at + 1)) l.n l.good l.sum l.i
-
-abbrev pub decreases-loop-i : goal.decreases-loop-i
-decreases-loop-i l = l.n - l.i
