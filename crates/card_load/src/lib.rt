@@ -1,8 +1,7 @@
 // The card reader: a card into four lent tables (SCOPE 3.10 to 3.14).
 #![tactic(auto)]
 
-ghost use Rattle.std.specs.Prelude.{◌≡◌, ◌∷◌, [], ◌+◌, ◌*◌, ◌<◌, ◌≤◌, length, drop};
-ghost use Rattle.std.proofs.Math.Seq.{paste};
+ghost use Rattle.std.specs.Prelude.{◌≡◌, ◌∷◌, [], ◌+◌, ◌*◌, ◌/◌, ◌<◌, ◌≤◌, length, drop};
 ghost use Rattle.ground.specs.Refusals.{refused_with, said_through, said_by};
 ghost use Rattle.ground.specs.Lists.{filled, table_after};
 ghost use Rattle.ground.specs.Words.{words};
@@ -90,14 +89,13 @@ fn record_count(card: &[u8], n: usize, kind: u8) -> usize
     sum
 }
 
-// Writes n words over dst, from the place `at` on. They stand in src, little endian, from a place on.
-fn copy_words(dst: &mut [u32], at: usize, src: &[u8], from: usize, n: usize)
-    requires n_in_bounds { at + n ≤ length dst.old }
-    requires n_in_bounds_2 { from + n * 4 ≤ length src.now }
-    ensures { dst.new ≡ paste dst.old at (words (drop from src.now)) n }
+// Writes the words of src, little endian, over dst.
+fn copy_words(dst: &mut [u32], src: &[u8])
+    requires { length dst.old ≡ length src.now / 4 }
+    ensures { dst.new ≡ words src.now }
 {
-    for i in 0..n {
-        dst[at + i] = ground::word_at(src, from + i * 4);
+    for (i, word) in dst.iter_mut().enumerate() {
+        *word = ground::word_at(src, i * 4);
     }
 }
 
@@ -114,9 +112,10 @@ fn fill_words(dst: &mut [u32], card: &[u8], n: usize, kind: u8)
         let e = a + card_block::BLOCK;
         let b = &card[a..e];
         if b[2] == kind {
-            let m = (card_block::records_end(b) - card_block::HEAD) / 4;
-            copy_words(dst, at, b, card_block::HEAD, m);
-            at += m;
+            let records = &b[card_block::HEAD..card_block::records_end(b)];
+            let end = at + records.len() / 4;
+            copy_words(&mut dst[at..end], records);
+            at = end;
         }
     }
 }

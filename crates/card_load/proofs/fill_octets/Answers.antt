@@ -1,24 +1,14 @@
 -- `card_load::fill_octets`: the loop's state is `Filling`.
-use Prim.Native.Nat.{ℕ, ◌≤◌, ◌-◌, ◌+◌}
-use mathlib.Core.Path.{◌≡◌, refl, ap, ◌∙◌}
-use mathlib.Core.List.{List}
+use Prim.Native.Nat.{◌-◌}
+use mathlib.Core.Path.{refl, ◌∙◌}
 use native.Mathlib.Omega.{arith}
-use borrow.Author.Rules.{rules}
-use lib.ListN.{length, take, drop}
-use lib.Seq.{take-length}
 use Rattle.std.proofs.lemmas.Slice.{put_mid-paste}
-use Rattle.card_block.specs.Block.{records_of, records_end}
-use Rattle.card_block.proofs.Records.{Cut}
+use Rattle.card_block.specs.Block.{records_end}
+use Rattle.card_block.proofs.Records.{cut_octets}
 use Rattle.card_load.specs.Card.{block_at, octets}
 use Rattle.card_load.proofs.Filling.{start, skip, room, put, end}
 use Rattle.card_load.proofs.fill_octets.Goals as goal
 use Rattle.card_load.proofs.fill_octets.Goals.{then-b-kind, else-b-kind}
-
--- the records of a block, whose end is told
-found : (b : List ℕ) (e : ℕ) → e ≡ records_end b → let w = take (e - 5) (drop 5 b) in Cut octets b w (length w)
-found b e q =
-    let w = take (e - 5) (drop 5 b) in
-    (take-length w ∙ ap (λ (k : ℕ). take (k - 5) (drop 5 b)) q, ap length (take-length w))
 
 pub loop-i-init : goal.loop-i-init
 loop-i-init c =
@@ -30,7 +20,7 @@ slice_bounds-copy_from_slice-end c =
     let a = c.args in
     let b = block_at a.card.now l.i in
     room octets a.kind a.n a.card.now a.dst.now l.dst l.i l.at c.loop-i-test.true l.invariant c.if-b-kind.true _ _
-    (found b c.records_end.result c.records_end.ensures.0) c.requires.card_in_bounds
+    (cut_octets b c.records_end.result c.records_end.ensures.0) c.requires.card_in_bounds
 
 pub loop-i-preserved : goal.loop-i-preserved
 loop-i-preserved c =
@@ -38,10 +28,8 @@ loop-i-preserved c =
     let a = c.args in
     elim c.if-b-kind.branch [
       | then-b-kind w ↦
-          let F = l.invariant in
-          let q = found (block_at a.card.now l.i) w.records_end.result w.records_end.ensures.0 in
-          let fits = room octets a.kind a.n a.card.now a.dst.now l.dst l.i l.at c.loop-i-test.true F w.if-b-kind.true _ _ q c.requires.card_in_bounds in
-          rw w.at-is (put octets a.kind a.n a.card.now a.dst.now l.dst l.i l.at c.loop-i-test.true F w.if-b-kind.true _ _ q _ fits
+          let q = cut_octets (block_at a.card.now l.i) w.records_end.result w.records_end.ensures.0 in
+          rw w.at-is (put octets a.kind a.n a.card.now a.dst.now l.dst l.i l.at c.loop-i-test.true l.invariant w.if-b-kind.true _ _ q _ c.requires.card_in_bounds
           (w.dst-is ∙ put_mid-paste _ _ _ _ _ _ w.copy_from_slice.ensures.after (omega arith) refl))
       | else-b-kind w ↦ rw (w.dst-is, w.at-is) (skip octets a.kind a.n a.card.now a.dst.now l.dst l.i l.at c.loop-i-test.true l.invariant w.if-b-kind.false)
     ]

@@ -1,17 +1,14 @@
 -- `card_load::judge_blocks`: what the rows of the blocks that are left say is what the rows of all say.
 use Prim.Native.Nat.{ℕ, ◌<◌, ◌+◌}
 use mathlib.Core.Path.{◌≡◌, refl, sym, ap, ◌∙◌}
-use mathlib.Core.Bool.{Bool}
+use mathlib.Core.Bool.{Bool, true, false}
 use mathlib.Core.List.{List, [], ◌++◌}
-use native.Mathlib.Omega.{arith}
-use borrow.Author.Rules.{rules}
 use lib.ListN.{drop}
 use Rattle.ground.specs.Refusals.{Said, granted, Row, said_by}
 use Rattle.ground.proofs.Rows.{kept, more, beyond}
-use Rattle.card_block.specs.declared.Judged.{Judged}
-use Rattle.card_block.specs.Block.{kind_of, block_rows, said_of}
+use Rattle.card_block.specs.Block.{kind_of, block_rows}
 use Rattle.card_load.specs.Card.{blocks, block_at, last_of_kind, blocks_rows}
-use Rattle.card_load.proofs.Blocks.{blocks_cons, blocks_end, block_length}
+use Rattle.card_load.proofs.Blocks.{blocks_cons, blocks_end}
 use Rattle.card_load.proofs.judge_blocks.Goals as goal
 
 -- one more block: its rows, and behind them those of the blocks that are left
@@ -20,52 +17,41 @@ step : (n : ℕ) (card : List ℕ) (i least : ℕ) → i < n → let b = block_a
 unfolding blocks_rows
 step n card i least h = rw (blocks_cons n card i h)
 
-pub judge-j-requires : goal.judge-j-requires
-judge-j-requires c =
-    block_length c.args.n c.args.card.now c.loop-i.i c.loop-i-test.true c.requires
+-- what is said of block i stands for all where it is refused, and else what is said of those behind it does
+module _ (n : ℕ) (card : List ℕ) (i least : ℕ) (h : i < n) {said whole : Said} {last : Bool}
+    (told : said ≡ said_by (block_rows i least last (block_at card i)))
+    (judged : last ≡ last_of_kind (block_at card i) (drop (i + 1) (blocks n card)))
+    (left : said_by (blocks_rows i least (drop i (blocks n card))) ≡ whole) where
+  abbrev own : List Row
+  own = block_rows i least (last_of_kind (block_at card i) (drop (i + 1) (blocks n card))) (block_at card i)
+
+  abbrev behind : List Row
+  behind = blocks_rows (i + 1) (kind_of (block_at card i)) (drop (i + 1) (blocks n card))
+
+  own_said : said ≡ said_by own
+  own_said = told ∙ ap (λ (b : Bool). said_by (block_rows i least b (block_at card i))) judged
+
+  all_said : said_by (own ++ behind) ≡ whole
+  all_said = sym (ap said_by (step n card i least h)) ∙ left
+
+  stopped : said.is_granted ≡ false → said ≡ whole
+  stopped z = own_said ∙ more own behind (ap (λ (s : Said). s.is_granted) (sym own_said) ∙ z) ∙ all_said
+
+  passed : said.is_granted ≡ true → said_by behind ≡ whole
+  passed z = beyond own behind (kept own (granted []) (ap (λ (s : Said). s.is_granted) (sym own_said) ∙ z)) refl ∙ all_said
 
 pub returns-in-Refused : goal.returns-in-Refused
 returns-in-Refused c =
-    let own_rows_lem : List Row = let a = c.args in
-    let b = block_at a.card.now c.loop-i.i in
-    block_rows c.loop-i.i c.loop-i.least (last_of_kind b (drop (c.loop-i.i + 1) (blocks a.n a.card.now))) b in
-    let judged : (a : Judged) → c.judge-j.result ≡ a → said_of a ≡ said_by (own_rows_lem) = λ a e. let b = block_at c.args.card.now c.loop-i.i in
-    sym (ap said_of e)
-    ∙ c.judge-j.ensures
-    ∙ ap (λ (last : Bool). said_by (block_rows c.loop-i.i c.loop-i.least last b)) c.last_of_kind-last.ensures in
-    let left_behind : List Row = let a = c.args in
-    blocks_rows (c.loop-i.i + 1) (kind_of (block_at a.card.now c.loop-i.i)) (drop (c.loop-i.i + 1) (blocks a.n a.card.now)) in
-    let all_said : let a = c.args in
-    said_by (own_rows_lem ++ left_behind) ≡ said_by (blocks_rows 0 1 (blocks a.n a.card.now)) = let a = c.args in
-    sym (ap said_by (step a.n a.card.now c.loop-i.i c.loop-i.least c.loop-i-test.true)) ∙ c.loop-i.invariant.1 in
-    let q = judged _ c.in-Refused.is in
-    let e = ap (λ (said : Said). said.is_granted) (sym q) in
-    q ∙ more (own_rows_lem) (left_behind) e ∙ all_said
-
-pub bounds-b-2 : goal.bounds-b-2
-bounds-b-2 c =
-    omega (arith, block_length c.args.n c.args.card.now c.loop-i.i c.loop-i-test.true c.requires)
+    let l = c.loop-i in
+    stopped c.args.n c.args.card.now l.i l.least c.loop-i-test.true (rw c.in-Refused.is at c.judge-j.ensures) c.last_of_kind-last.ensures l.invariant refl
 
 pub loop-i-preserved : goal.loop-i-preserved
 loop-i-preserved c =
-    let own_rows_lem : List Row = let a = c.args in
-    let b = block_at a.card.now c.loop-i.i in
-    block_rows c.loop-i.i c.loop-i.least (last_of_kind b (drop (c.loop-i.i + 1) (blocks a.n a.card.now))) b in
-    let judged : (a : Judged) → c.judge-j.result ≡ a → said_of a ≡ said_by (own_rows_lem) = λ a e. let b = block_at c.args.card.now c.loop-i.i in
-    sym (ap said_of e)
-    ∙ c.judge-j.ensures
-    ∙ ap (λ (last : Bool). said_by (block_rows c.loop-i.i c.loop-i.least last b)) c.last_of_kind-last.ensures in
-    let left_behind : List Row = let a = c.args in
-    blocks_rows (c.loop-i.i + 1) (kind_of (block_at a.card.now c.loop-i.i)) (drop (c.loop-i.i + 1) (blocks a.n a.card.now)) in
-    let all_said : let a = c.args in
-    said_by (own_rows_lem ++ left_behind) ≡ said_by (blocks_rows 0 1 (blocks a.n a.card.now)) = let a = c.args in
-    sym (ap said_by (step a.n a.card.now c.loop-i.i c.loop-i.least c.loop-i-test.true)) ∙ c.loop-i.invariant.1 in
-    let q = judged _ c.in-Fine.is in
-    let e = ap (λ (said : Said). said.is_granted) (sym q) in
-    (search rules, beyond (own_rows_lem) (left_behind) (kept (own_rows_lem) (granted []) e) refl ∙ all_said)
+    let l = c.loop-i in
+    passed c.args.n c.args.card.now l.i l.least c.loop-i-test.true (rw c.in-Fine.is at c.judge-j.ensures) c.last_of_kind-last.ensures l.invariant refl
 
 pub returns : goal.returns
 unfolding blocks_rows
 returns c =
     let a = c.args in
-    rw (blocks_end a.n a.card.now c.loop-i.i c.loop-i-test.false) at c.loop-i.invariant.1
+    rw (blocks_end a.n a.card.now c.loop-i.i c.loop-i-test.false) at c.loop-i.invariant
