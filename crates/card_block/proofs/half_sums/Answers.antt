@@ -28,8 +28,7 @@ pub loop-octet-preserved : goal.loop-octet-preserved
 loop-octet-preserved c =
     let s = c.args.s.now in
     let l = c.loop-octet in
-    let h = c.loop-octet-test.true in
-    (
+    let h = c.loop-octet-test.true in (
       omega arith,
       omega (arith, sum_turn s l.octet-index h),
       omega (arith, weighted_turn s l.octet-index l.weight h (omega arith)),
