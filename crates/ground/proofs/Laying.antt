@@ -5,6 +5,7 @@ use Prim.Native.Nat.{ℕ, suc, ◌+◌, ◌-◌, ◌≤◌, ◌<◌}
 use native.Mathlib.Nat.{add-zero, zero-add}
 use native.Mathlib.Numerals.{add-one, add-two, add-three}
 use native.Mathlib.Omega.{arith}
+use borrow.Rule.Slice.PartMut.{put_mid}
 use lib.ListN.{length, get_or, set, take, drop, length-append, length-take, length-drop, take-append-drop}
 use lib.Seq.{length-take-le, take-suc, take_at, drop_at, drop-drop, set_split, sets-eq}
 use Rattle.ground.specs.Lists.{filled, laid}
@@ -62,6 +63,11 @@ module _ {A : Type 0} (d : List A) where
         (λ i. a i ++ (t ++ b i))
         ∙ append_assoc (take at d) s (t ++ drop (at + length (s ++ t)) d)
         ∙ ap (λ (x : List A). take at d ++ x) (sym (append_assoc s t (drop (at + length (s ++ t)) d)))
+
+-- what a write to a part of a slice leaves: the k elements from a on are now zs
+pub part_laid : {A : Type 0} (a k : ℕ) (xs ys zs : List A) → ys ≡ zs → k ≡ length zs → put_mid a k xs ys ≡ laid xs a zs
+unfolding laid
+part_laid a k xs ys zs e q = ap (λ l. take a xs ++ l) (λ i. e i ++ (drop-drop k a xs ∙ ap (λ m. drop (a + m) xs) q) i)
 
 -- a loop's turn: what is laid is all so far, and t behind it
 pub turn : {A : Type 0} (old : List A) (at : ℕ) (s t dst new : List A) (m : ℕ)
