@@ -98,14 +98,12 @@ pub fn tracks_right(tracks: &[u32], segments: usize, text: usize) -> bool
 }
 
 fn rises(starts: &[u32]) -> bool
+    requires { 0 < length starts.now }
     ensures { result ≡ rise_rule starts.now }
 {
-    let n = starts.len();
     let mut good = true;
-    let mut i: usize = 0;
-    while i + 1 < n {
+    for i in 0..starts.len() - 1 {
         good = good & (starts[i] < starts[i + 1]);
-        i += 1;
     }
     good
 }
@@ -165,9 +163,7 @@ pub fn titles_text(tracks: &[u32], text: &[u8]) -> Titles
         return Titles::AllText;
     }
     let mut found = Titles::AllText;
-    let mut i = tracks.len() / catalogue_tables::TRACK_WORDS;
-    while 0 < i {
-        i -= 1;
+    for i in (0..tracks.len() / catalogue_tables::TRACK_WORDS).rev() {
         let base = i * catalogue_tables::TRACK_WORDS;
         let offset = ground::wide_word(tracks[base + catalogue_tables::TITLE_OFFSET_AT]);
         let len = ground::wide_word(tracks[base + catalogue_tables::TITLE_LENGTH_AT]);

@@ -6,8 +6,8 @@ use native.Mathlib.Nat.{add-zero, zero-add}
 use native.Mathlib.Numerals.{add-one, add-two, add-three}
 use native.Mathlib.Omega.{arith}
 use borrow.Rule.Slice.PartMut.{put_mid}
-use lib.ListN.{length, get_or, set, take, drop, length-append, length-take, length-drop, take-append-drop}
-use lib.Seq.{length-take-le, take-suc, take_at, drop_at, drop-drop, set_split, sets-eq}
+use lib.ListN.{length, set, take, drop, length-append, length-take, length-drop, take-append-drop}
+use lib.Seq.{length-take-le, take_at, drop_at, drop-drop, set_split, sets-eq}
 use Rattle.ground.specs.Lists.{filled, laid}
 
 module _ {A : Type 0} (d : List A) where
@@ -74,20 +74,6 @@ pub turn : {A : Type 0} (old : List A) (at : ℕ) (s t dst new : List A) (m : �
     → dst ≡ laid old at s → new ≡ laid dst m t → m ≡ at + length s → m + length t ≤ length old → new ≡ laid old at (s ++ t)
 turn {A} old at s t dst new m p q e k =
     q ∙ ap (λ (x : List A). laid x m t) p ∙ laid_behind old at s (omega arith) m t e k
-
--- the loop's end: i is n, and the part is written as the part of a slice is written in a goal
-pub part_end : {A : Type 0} (src : List A) (from i n : ℕ) → i ≤ n → n ≤ i → take i (drop from src) ≡ take (from + n - from) (drop from src)
-part_end {A} src from i n h k = let e : i ≡ from + n - from = omega arith in ap (λ (j : ℕ). take j (drop from src)) e
-
--- a turn that stores one element
-pub store_turn : {A : Type 0} (old : List A) (at : ℕ) (w dst : List A) (i : ℕ) → dst ≡ laid old at (take i w) → length dst ≡ length old
-    → (x e : A) → x ≡ get_or w i e → at + i < length old → i < length w → set dst (at + i) x ≡ laid old at (take (i + 1) w)
-store_turn {A} old at w dst i p n x e q h k =
-    let m : at + i < length dst = omega arith in
-    let t : take i w ++ (x ∷ []) ≡ take (i + 1) w = rw (add-one i, take-suc w i e k) (ap (λ (y : A). take i w ++ (y ∷ [])) q) in
-    turn old at (take i w) (x ∷ []) dst (set dst (at + i) x) (at + i) p (laid_one dst (at + i) x m)
-    (omega (arith, length-take-le i w (omega arith))) (omega arith)
-    ∙ ap (laid old at) t
 
 pub part_length : {A : Type 0} (src : List A) (from n : ℕ) → from + n ≤ length src → length (take (from + n - from) (drop from src)) ≡ n
 part_length {A} src from n h = simp (length-take, length-drop) (omega arith)

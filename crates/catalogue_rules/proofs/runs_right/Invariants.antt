@@ -1,5 +1,5 @@
 -- `catalogue_rules::runs_right`: the loop's state is `Following`.
-use Prim.Native.Nat.{◌+◌, ◌-◌}
+use Prim.Native.Nat.{◌+◌}
 use Rattle.catalogue_tables.specs.Tables.{word_in}
 use Rattle.catalogue_rules.proofs.Runs.{Following}
 use Rattle.catalogue_rules.proofs.runs_right.Given as goal

@@ -9,7 +9,6 @@ use Rattle.catalogue_tables.specs.Tables.{track_count, title_of}
 use Rattle.catalogue_rules.specs.Rules.{bad_title_from, titles_of}
 use Rattle.catalogue_rules.proofs.Runs.{run_part}
 use Rattle.catalogue_rules.proofs.BadTitles.{plain_text}
-use borrow.Author.Rules.{rules}
 use Rattle.catalogue_rules.proofs.titles_text.Goals as goal
 
 -- one title more, with the next lower number
@@ -33,7 +32,7 @@ loop-i-init c =
     let a = c.args in
     let n = track_count a.tracks.now in
     let z : n - n ≡ 0 = omega arith in
-    (search rules, sym (ap (λ (m : ℕ). bad_title_from a.tracks.now a.text.now m n) z))
+    sym (ap (λ (m : ℕ). bad_title_from a.tracks.now a.text.now m n) z)
 
 pub slice_bounds-check-end : goal.slice_bounds-check-end
 slice_bounds-check-end c =
@@ -50,16 +49,14 @@ loop-i-preserved c =
     let e : c.loop-i.i ≡ i + 1 = omega arith in
     let part = run_part text c.wide_word-offset.result c.wide_word-len.result c.wide_word-offset.ensures.0 c.wide_word-len.ensures.0 in
     let said : said_of c.check-title.result ≡ text_said (title_of tracks text i) = c.check-title.ensures ∙ ap text_said part in
-    let behind : titles_of c.loop-i.found ≡ bad_title_from tracks text (n - (i + 1)) (i + 1) = c.loop-i.invariant.1 ∙ ap (λ (j : ℕ). bad_title_from tracks text (n - j) j) e in (
-      search rules,
-      c.with_title-found.ensures
-          ∙ (λ k. pick (said k).is_granted (behind k) (i ∷ (said k).values))
-          ∙ sym (lower tracks text n i (omega arith)),
-    )
+    let behind : titles_of c.loop-i.found ≡ bad_title_from tracks text (n - (i + 1)) (i + 1) = c.loop-i.invariant ∙ ap (λ (j : ℕ). bad_title_from tracks text (n - j) j) e in
+    c.with_title-found.ensures
+    ∙ (λ k. pick (said k).is_granted (behind k) (i ∷ (said k).values))
+    ∙ sym (lower tracks text n i (omega arith))
 
 pub returns : goal.returns
 returns c =
     let a = c.args in
     let z : c.loop-i.i ≡ 0 = omega arith in
     let e : track_count a.tracks.now - c.loop-i.i ≡ track_count a.tracks.now = omega arith in
-    c.loop-i.invariant.1 ∙ (λ k. bad_title_from a.tracks.now a.text.now (e k) (z k))
+    c.loop-i.invariant ∙ (λ k. bad_title_from a.tracks.now a.text.now (e k) (z k))

@@ -1,7 +1,6 @@
 -- `catalogue_rules::tracks_right`: after i turns, the three rules of the first i tracks.
 use mathlib.Core.Path.{◌≡◌}
 use mathlib.Core.Bool.{◌||◌}
-use Prim.Native.Nat.{◌-◌}
 use lib.Dec.{leb}
 use Rattle.ground.specs.Limits.{most_duration}
 use Rattle.ground.specs.Lists.{all_below}
