@@ -137,15 +137,13 @@ fn plain_from(s: &[u8]) -> usize
     ensures upper_bound { result ≤ length s.now }
     ensures by_index { (i : ℕ) → result ≤ i → i < length s.now → get_or s.now i 0 ≤ 0x7F }
 {
-    let mut end = s.len();
-    while 8 <= end {
-        let start = end - 8;
-        if 0x7F < eight_bits(s, start) {
+    for k in 0..s.len() / 8 {
+        let end = s.len() - k * 8;
+        if 0x7F < eight_bits(s, end - 8) {
             return end;
         }
-        end = start;
     }
-    end
+    s.len() % 8
 }
 
 // Goes character by character, up to where all that is left is plain.
@@ -154,6 +152,7 @@ fn scan(s: &[u8]) -> Checked
 {
     let end = plain_from(s);
     let mut i = 0;
+    // Stays a while: a turn goes on by the length of a character, so that no counter runs by one; an iterator of characters would be a type of its own, and no plainer.
     while i < end {
         let n = char_at(s, i);
         if n == 0 {
