@@ -1,9 +1,9 @@
--- Laws of `laid`: a store, four stores, and one list laid directly behind another. Assumes nothing.
+-- Laws of `laid`: a store, two stores, a part that is written, and one list laid directly behind another. Assumes nothing.
 use mathlib.Core.Path.{◌≡◌, sym, ap, ◌∙◌}
 use mathlib.Core.List.{List, [], ◌∷◌, ◌++◌, append_assoc}
 use Prim.Native.Nat.{ℕ, suc, ◌+◌, ◌-◌, ◌≤◌, ◌<◌}
 use native.Mathlib.Nat.{add-zero, zero-add}
-use native.Mathlib.Numerals.{add-one, add-two, add-three}
+use native.Mathlib.Numerals.{add-one}
 use native.Mathlib.Omega.{arith}
 use borrow.Rule.Slice.PartMut.{put_mid}
 use lib.ListN.{length, set, take, drop, length-append, length-take, length-drop, take-append-drop}
@@ -18,13 +18,6 @@ module _ {A : Type 0} (d : List A) where
   pub laid_one : (at : ℕ) (x : A) → at < length d → set d at x ≡ laid d at (x ∷ [])
   unfolding laid
   laid_one at x h = rw (add-one at) (set_split d at x h)
-
-  pub laid_four : (at : ℕ) (a b c e : A) → at + 4 ≤ length d
-      → set (set (set (set d at a) (at + 1) b) (at + 2) c) (at + 3) e ≡ laid d at (a ∷ b ∷ c ∷ e ∷ [])
-  unfolding laid
-  laid_four at a b c e h =
-      rw (add-one at, add-two at, add-three at)
-      (sets-eq (a ∷ b ∷ c ∷ e ∷ []) d at h ∙ append_assoc (take at d) (a ∷ b ∷ c ∷ e ∷ []) (drop (at + 4) d))
 
   pub laid_two : (at : ℕ) (a b : A) → at + 2 ≤ length d → set (set d at a) (suc at) b ≡ laid d at (a ∷ b ∷ [])
   unfolding laid
