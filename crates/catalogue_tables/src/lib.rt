@@ -51,7 +51,7 @@ pub fn word_in(table: &[u32], width: usize, i: u32, column: usize) -> u32
     ensures { result ≡ word_in width table.now i column }
 {
     let base = ground::wide_word(i) * width;
-    ground::word_or_zero(table, base + column)
+    ground::at_or(table, base + column, 0)
 }
 
 pub fn group_count(groups: &[u32]) -> usize

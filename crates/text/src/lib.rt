@@ -82,18 +82,18 @@ fn char_at(s: &[u8], at: usize) -> usize
     if 0xF4 < a {
         return 0;
     }
-    let b = ground::octet_or_zero(s, at + 1);
+    let b = ground::at_or(s, at + 1, 0);
     if a <= 0xDF {
         if is_within(0x80, 0xBF, b) {
             return 2;
         }
         return 0;
     }
-    let c = ground::octet_or_zero(s, at + 2);
+    let c = ground::at_or(s, at + 2, 0);
     if a <= 0xEF {
         return char_of_three(a, b, c);
     }
-    let d = ground::octet_or_zero(s, at + 3);
+    let d = ground::at_or(s, at + 3, 0);
     char_of_four(a, b, c, d)
 }
 

@@ -35,22 +35,22 @@ returns-then-a-gt244-clause-result_in_bounds c =
 
 pub returns-then-is_within-clause-value : goal.returns-then-is_within-clause-value
 returns-then-is_within-clause-value c =
-    let tail : c.is_within.result ≡ is_tail (get_or c.args.s.now (c.args.at + 1) 0) = c.is_within.ensures ∙ ap is_tail c.octet_or_zero-b.ensures in
+    let tail : c.is_within.result ≡ is_tail (get_or c.args.s.now (c.args.at + 1) 0) = c.is_within.ensures ∙ ap is_tail c.at_or-b.ensures in
     (char_there c.args.s.now c.args.at 2 c.requires (here 0 (sym (tail) ∙ c.if-is_within.true) refl ∙ sym (row_two _ _ _ _ (omega arith)))).0
 
 pub returns-then-is_within-clause-result_in_bounds : goal.returns-then-is_within-clause-result_in_bounds
 returns-then-is_within-clause-result_in_bounds c =
-    let tail : c.is_within.result ≡ is_tail (get_or c.args.s.now (c.args.at + 1) 0) = c.is_within.ensures ∙ ap is_tail c.octet_or_zero-b.ensures in
+    let tail : c.is_within.result ≡ is_tail (get_or c.args.s.now (c.args.at + 1) 0) = c.is_within.ensures ∙ ap is_tail c.at_or-b.ensures in
     (char_there c.args.s.now c.args.at 2 c.requires (here 0 (sym (tail) ∙ c.if-is_within.true) refl ∙ sym (row_two _ _ _ _ (omega arith)))).1
 
 pub returns-then-a-le223-clause-value : goal.returns-then-a-le223-clause-value
 returns-then-a-le223-clause-value c =
-    let tail : c.is_within.result ≡ is_tail (get_or c.args.s.now (c.args.at + 1) 0) = c.is_within.ensures ∙ ap is_tail c.octet_or_zero-b.ensures in
+    let tail : c.is_within.result ≡ is_tail (get_or c.args.s.now (c.args.at + 1) 0) = c.is_within.ensures ∙ ap is_tail c.at_or-b.ensures in
     (char_there c.args.s.now c.args.at 0 c.requires (past 2 (sym (tail) ∙ c.if-is_within.false) refl ∙ sym (row_two _ _ _ _ (omega arith)))).0
 
 pub returns-then-a-le223-clause-result_in_bounds : goal.returns-then-a-le223-clause-result_in_bounds
 returns-then-a-le223-clause-result_in_bounds c =
-    let tail : c.is_within.result ≡ is_tail (get_or c.args.s.now (c.args.at + 1) 0) = c.is_within.ensures ∙ ap is_tail c.octet_or_zero-b.ensures in
+    let tail : c.is_within.result ≡ is_tail (get_or c.args.s.now (c.args.at + 1) 0) = c.is_within.ensures ∙ ap is_tail c.at_or-b.ensures in
     (char_there c.args.s.now c.args.at 0 c.requires (past 2 (sym (tail) ∙ c.if-is_within.false) refl ∙ sym (row_two _ _ _ _ (omega arith)))).1
 
 pub char_of_three-requires : goal.char_of_three-requires
@@ -61,15 +61,15 @@ pub returns-then-a-le239-clause-value : goal.returns-then-a-le239-clause-value
 returns-then-a-le239-clause-value c =
     let s = c.args.s.now in
     let at = c.args.at in
-    let eb = c.octet_or_zero-b.ensures in
-    let ec = c.octet_or_zero-c.ensures in (char_there s at c.char_of_three.result c.requires (c.char_of_three.ensures (get_or s (at + 3) 0) ∙ (λ k. char_of (get_or s at 0) (eb k) (ec k) (get_or s (at + 3) 0)))).0
+    let eb = c.at_or-b.ensures in
+    let ec = c.at_or-c.ensures in (char_there s at c.char_of_three.result c.requires (c.char_of_three.ensures (get_or s (at + 3) 0) ∙ (λ k. char_of (get_or s at 0) (eb k) (ec k) (get_or s (at + 3) 0)))).0
 
 pub returns-then-a-le239-clause-result_in_bounds : goal.returns-then-a-le239-clause-result_in_bounds
 returns-then-a-le239-clause-result_in_bounds c =
     let s = c.args.s.now in
     let at = c.args.at in
-    let eb = c.octet_or_zero-b.ensures in
-    let ec = c.octet_or_zero-c.ensures in (char_there s at c.char_of_three.result c.requires (c.char_of_three.ensures (get_or s (at + 3) 0) ∙ (λ k. char_of (get_or s at 0) (eb k) (ec k) (get_or s (at + 3) 0)))).1
+    let eb = c.at_or-b.ensures in
+    let ec = c.at_or-c.ensures in (char_there s at c.char_of_three.result c.requires (c.char_of_three.ensures (get_or s (at + 3) 0) ∙ (λ k. char_of (get_or s at 0) (eb k) (ec k) (get_or s (at + 3) 0)))).1
 
 pub char_of_four-requires : goal.char_of_four-requires
 char_of_four-requires c =
@@ -79,14 +79,14 @@ pub returns-clause-value : goal.returns-clause-value
 returns-clause-value c =
     let s = c.args.s.now in
     let at = c.args.at in
-    let eb = c.octet_or_zero-b.ensures in
-    let ec = c.octet_or_zero-c.ensures in
-    let ed = c.octet_or_zero-d.ensures in (char_there s at c.char_of_four.result c.requires (c.char_of_four.ensures ∙ (λ k. char_of (get_or s at 0) (eb k) (ec k) (ed k)))).0
+    let eb = c.at_or-b.ensures in
+    let ec = c.at_or-c.ensures in
+    let ed = c.at_or-d.ensures in (char_there s at c.char_of_four.result c.requires (c.char_of_four.ensures ∙ (λ k. char_of (get_or s at 0) (eb k) (ec k) (ed k)))).0
 
 pub returns-clause-result_in_bounds : goal.returns-clause-result_in_bounds
 returns-clause-result_in_bounds c =
     let s = c.args.s.now in
     let at = c.args.at in
-    let eb = c.octet_or_zero-b.ensures in
-    let ec = c.octet_or_zero-c.ensures in
-    let ed = c.octet_or_zero-d.ensures in (char_there s at c.char_of_four.result c.requires (c.char_of_four.ensures ∙ (λ k. char_of (get_or s at 0) (eb k) (ec k) (ed k)))).1
+    let eb = c.at_or-b.ensures in
+    let ec = c.at_or-c.ensures in
+    let ed = c.at_or-d.ensures in (char_there s at c.char_of_four.result c.requires (c.char_of_four.ensures ∙ (λ k. char_of (get_or s at 0) (eb k) (ec k) (ed k)))).1
