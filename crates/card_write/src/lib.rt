@@ -17,15 +17,6 @@ const FULL_WORDS: usize = 126;
 
 const FULL_TEXT: usize = 505;
 
-fn lesser(a: usize, b: usize) -> usize
-    ensures { result ≡ min a b }
-{
-    if a < b {
-        return a;
-    }
-    b
-}
-
 // Writes the blocks of a kind for a table of words, from block `first` on; so many words as `unit` says make a record. The bounds on the length and the number
 // are wide, and keep the block numbers within their two octets.
 fn write_words(card: &mut [u8], first: usize, kind: u8, unit: usize, src: &[u32])
@@ -38,7 +29,7 @@ fn write_words(card: &mut [u8], first: usize, kind: u8, unit: usize, src: &[u32]
     let n = (src.len() + 125) / FULL_WORDS;
     for i in 0..n {
         let from = i * FULL_WORDS;
-        let m = lesser(FULL_WORDS, src.len() - from);
+        let m = FULL_WORDS.min(src.len() - from);
         let b = card_fill::words_block(first + i, kind, m / unit, src, from, m);
         card_fill::put_block(card, first + i, &b);
     }
@@ -54,7 +45,7 @@ fn write_text(card: &mut [u8], first: usize, src: &[u8])
     let n = (src.len() + 504) / FULL_TEXT;
     for i in 0..n {
         let from = i * FULL_TEXT;
-        let m = lesser(FULL_TEXT, src.len() - from);
+        let m = FULL_TEXT.min(src.len() - from);
         let b = card_fill::octets_block(first + i, 4, m, src, from, m);
         card_fill::put_block(card, first + i, &b);
     }

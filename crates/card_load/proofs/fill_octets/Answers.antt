@@ -1,9 +1,7 @@
 -- `card_load::fill_octets`: the loop's state is `Filling`.
-use Prim.Native.Nat.{◌-◌}
 use mathlib.Core.Path.{refl, ◌∙◌}
 use native.Mathlib.Omega.{arith}
 use Rattle.std.proofs.lemmas.Slice.{put_mid-paste}
-use Rattle.card_block.specs.Block.{records_end}
 use Rattle.card_block.proofs.Records.{cut_octets}
 use Rattle.card_load.specs.Card.{block_at, octets}
 use Rattle.card_load.proofs.Filling.{start, skip, room, put, end}

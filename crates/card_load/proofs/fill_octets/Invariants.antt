@@ -1,5 +1,4 @@
 -- `card_load::fill_octets`: the loop's state is `Filling`.
-use Prim.Native.Nat.{◌-◌}
 use Rattle.card_load.specs.Card.{octets}
 use Rattle.card_load.proofs.Filling.{Filling}
 use Rattle.card_load.proofs.fill_octets.Given as goal

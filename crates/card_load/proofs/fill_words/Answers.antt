@@ -1,9 +1,7 @@
 -- `card_load::fill_words`: the loop's state is `Filling`.
-use Prim.Native.Nat.{◌-◌}
 use mathlib.Core.Path.{sym, ◌∙◌}
 use native.Mathlib.Omega.{arith}
 use Rattle.std.proofs.lemmas.Slice.{put_mid-paste}
-use Rattle.card_block.specs.Block.{records_end}
 use Rattle.card_block.proofs.Records.{cut_words}
 use Rattle.ground.specs.Words.{words}
 use Rattle.ground.proofs.Words.{words_count}

@@ -1,5 +1,4 @@
 -- `card_load::fill_words`: the loop's state is `Filling`.
-use Prim.Native.Nat.{◌-◌}
 use Rattle.ground.specs.Words.{words}
 use Rattle.card_load.proofs.Filling.{Filling}
 use Rattle.card_load.proofs.fill_words.Given as goal

@@ -1,5 +1,4 @@
 -- `card_load::judge_blocks`: what the rows of the blocks that are left say is what the rows of all say.
-use Prim.Native.Nat.{◌-◌}
 use mathlib.Core.Path.{◌≡◌}
 use lib.ListN.{drop}
 use Rattle.ground.specs.Refusals.{said_by}

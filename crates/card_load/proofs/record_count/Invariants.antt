@@ -1,5 +1,5 @@
 -- `card_load::record_count`: the sum so far and the records that are left are all records.
-use Prim.Native.Nat.{◌≤◌, ◌-◌, ◌+◌, ◌*◌}
+use Prim.Native.Nat.{◌≤◌, ◌+◌, ◌*◌}
 use mathlib.Core.Path.{◌≡◌}
 use lib.ListN.{drop}
 use Rattle.card_load.specs.Card.{blocks, record_count}

@@ -1,6 +1,5 @@
 -- `card_write::write_text`: the first i blocks are laid (`Laying`), and a turn lays the next.
 use mathlib.Core.Path.{◌∙◌}
-use Prim.Native.Nat.{◌-◌}
 use native.Mathlib.Omega.{arith}
 use Rattle.card_write.specs.Card.{text_blocks}
 use Rattle.card_write.proofs.Joining.{laying_start, laying_next, laying_end, text_many, text_long, text_next}
@@ -19,7 +18,7 @@ loop-i-preserved c =
     let n = text_many a.first a.src.now in
     laying_next (text_blocks a.first a.src.now) a.first a.card.now (text_long a.first a.src.now) (omega arith) c.loop-i.card c.loop-i.i c.loop-i.invariant
     b.result p.new.card (omega arith)
-    (b.ensures ∙ text_next a.first a.src.now c.loop-i.i _ (omega arith) c.lesser-m.ensures) p.ensures
+    (b.ensures ∙ text_next a.first a.src.now c.loop-i.i _ (omega arith) c.min-m.ensures) p.ensures
 
 pub returns : goal.returns
 returns c =

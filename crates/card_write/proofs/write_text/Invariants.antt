@@ -1,5 +1,4 @@
 -- `card_write::write_text`: the first i blocks are laid (`Laying`), and a turn lays the next.
-use Prim.Native.Nat.{◌-◌}
 use Rattle.card_write.specs.Card.{text_blocks}
 use Rattle.card_write.proofs.Joining.{Laying}
 use Rattle.card_write.proofs.write_text.Given as goal

@@ -1,6 +1,5 @@
 -- `card_write::write_words`: the first i blocks are laid (`Laying`), and a turn lays the next.
 use mathlib.Core.Path.{◌∙◌}
-use Prim.Native.Nat.{◌-◌}
 use native.Mathlib.Nat.{div-le_self}
 use native.Mathlib.Omega.{arith}
 use Rattle.card_write.specs.Card.{word_blocks}
@@ -14,7 +13,7 @@ loop-i-init c =
 
 pub words_block-b-requires-clause-count_bound : goal.words_block-b-requires-clause-count_bound
 words_block-b-requires-clause-count_bound c =
-    let m = c.lesser-m.result in
+    let m = c.min-m.result in
     let u = c.args.unit in omega (arith, div-le_self m u)
 
 pub loop-i-preserved : goal.loop-i-preserved
@@ -25,7 +24,7 @@ loop-i-preserved c =
     let n = words_many a.kind a.unit a.first a.src.now in
     laying_next (word_blocks a.kind a.unit a.first a.src.now) a.first a.card.now (words_long a.kind a.unit a.first a.src.now) (omega arith) c.loop-i.card c.loop-i.i c.loop-i.invariant
     b.result p.new.card (omega arith)
-    (b.ensures ∙ words_next a.kind a.unit a.first a.src.now c.loop-i.i _ (omega arith) c.lesser-m.ensures) p.ensures
+    (b.ensures ∙ words_next a.kind a.unit a.first a.src.now c.loop-i.i _ (omega arith) c.min-m.ensures) p.ensures
 
 pub returns : goal.returns
 returns c =

@@ -1,5 +1,4 @@
 -- `card_write::write_words`: the first i blocks are laid (`Laying`), and a turn lays the next.
-use Prim.Native.Nat.{◌-◌}
 use Rattle.card_write.specs.Card.{word_blocks}
 use Rattle.card_write.proofs.Joining.{Laying}
 use Rattle.card_write.proofs.write_words.Given as goal
