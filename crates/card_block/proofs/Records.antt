@@ -1,5 +1,5 @@
 -- The records of a block: a right count has room, and the words and octets that the records are. Assumes nothing.
-use mathlib.Core.Path.{◌≡◌, refl, sym, ap, ◌∙◌}
+use mathlib.Core.Path.{◌≡◌, sym, ap, ◌∙◌}
 use mathlib.Core.Bool.{Bool, true, false}
 use mathlib.Core.List.{List}
 use Prim.Native.Nat.{ℕ, ◌*◌, ◌-◌, ◌/◌, ◌≤◌}
@@ -7,13 +7,13 @@ use native.Mathlib.Nat.{mul_assoc}
 use native.Mathlib.Omega.{arith}
 use borrow.Author.Tests.{leb-true, not-false}
 use lib.Dec.{eqb, leb}
-use lib.ListN.{length, take, drop, length-drop}
-use lib.Seq.{length-take-le}
+use lib.ListN.{length, take, drop, length-take, length-drop}
+use lib.Seq.{take-length}
 use Rattle.ground.specs.Cases.{pick}
 use Rattle.ground.specs.Words.{words}
 use Rattle.ground.proofs.Cases.{and_right}
 use Rattle.ground.proofs.Rows.{none_of}
-use Rattle.ground.proofs.Words.{words_length, words_take_lem}
+use Rattle.ground.proofs.Words.{words_whole, words_count}
 use Rattle.card_block.specs.Block.{kind_of, count_of, record_size, most_records, records_end, records_of, check_rule, number_rule, kind_rule, count_rule, full_rule, padding_rule, block_rows, block_rule}
 
 room_by : (a b c : Bool) (n : ℕ) → n ≤ pick a 42 (pick b 21 (pick c 126 505)) → n * pick a 12 (pick b 24 (pick c 4 1)) ≤ 505
@@ -65,31 +65,26 @@ block_count number least last b h = count_room b (keeps_of number least last b h
 abbrev pub Cut : (List ℕ → List ℕ) → List ℕ → List ℕ → ℕ → Type 0
 Cut f b w m = (take m w ≡ f (records_of b)) × (length (take m w) ≡ m)
 
--- words and octets from octet 5 on, up to the end e of the records
-pub cut_words : (b : List ℕ) (e : ℕ) → length b ≡ 512 → e ≤ 510 → e ≡ records_end b → Cut words b (words (drop 5 b)) ((e - 5) / 4)
-cut_words b e n h q =
-    let d : (e - 5) / 4 * 4 ≤ length (drop 5 b) = rw length-drop (omega arith) in (
-      sym (words_take_lem (e - 5) (drop 5 b)) ∙ ap (λ (k : ℕ). words (take (k - 5) (drop 5 b))) q,
-      length-take-le ((e - 5) / 4) (words (drop 5 b)) (words_length (drop 5 b) ((e - 5) / 4) d),
-    )
+-- the octets from octet 5 on, up to the end e of the records, and the words that they make
+pub cut_octets : (b : List ℕ) (e : ℕ) → e ≡ records_end b → let r = take (e - 5) (drop 5 b) in Cut (λ s. s) b r (length r)
+cut_octets b e q =
+    let r = take (e - 5) (drop 5 b) in
+    (take-length r ∙ ap (λ (k : ℕ). take (k - 5) (drop 5 b)) q, ap length (take-length r))
 
-pub cut_octets : (b : List ℕ) (e : ℕ) → length b ≡ 512 → e ≤ 510 → e ≡ records_end b → Cut (λ s. s) b (drop 5 b) (e - 5)
-cut_octets b e n h q =
-    let d : e - 5 ≤ length (drop 5 b) = rw length-drop (omega arith) in
-    (ap (λ (k : ℕ). take (k - 5) (drop 5 b)) q, length-take-le (e - 5) (drop 5 b) d)
+pub cut_words : (b : List ℕ) (e : ℕ) → e ≡ records_end b → let r = take (e - 5) (drop 5 b) in Cut words b (words r) (length r / 4)
+cut_words b e q =
+    let r = take (e - 5) (drop 5 b) in
+    (words_whole r ∙ ap (λ (k : ℕ). words (take (k - 5) (drop 5 b))) q, ap length (words_whole r) ∙ words_count r)
 
 module _ (b : List ℕ) (n : length b ≡ 512) (h : count_of b ≤ most_records (kind_of b)) where
+  records_long : length (records_of b) ≡ count_of b * record_size (kind_of b)
+  records_long = simp (length-take, length-drop) (omega (arith, n, records_room (kind_of b) (count_of b) h))
+
   -- how many words and octets they are
   pub records_words : (w : ℕ) → record_size (kind_of b) ≡ w * 4 → length (words (records_of b)) ≡ count_of b * w
   records_words w z =
-      let r : count_of b * record_size (kind_of b) ≤ 505 = records_room (kind_of b) (count_of b) h in
       let e : count_of b * record_size (kind_of b) ≡ count_of b * w * 4 = ap (λ (m : ℕ). count_of b * m) z ∙ sym (mul_assoc (count_of b) w 4) in
-      let c = cut_words b (records_end b) n (omega arith) refl in
-      sym (ap length c.0) ∙ c.1 ∙ omega arith
+      words_count (records_of b) ∙ omega (arith, records_long, e)
 
   pub records_octets : record_size (kind_of b) ≡ 1 → length (records_of b) ≡ count_of b * 1
-  records_octets z =
-      let r : count_of b * record_size (kind_of b) ≤ 505 = records_room (kind_of b) (count_of b) h in
-      let e : count_of b * record_size (kind_of b) ≡ count_of b * 1 = ap (λ (m : ℕ). count_of b * m) z in
-      let c = cut_octets b (records_end b) n (omega arith) refl in
-      c.1 ∙ omega arith
+  records_octets z = records_long ∙ ap (λ (m : ℕ). count_of b * m) z

@@ -46,13 +46,10 @@ fn half_sums(s: &[u8]) -> CheckSums
     let mut plain: u32 = 0;
     let mut running: u32 = 0;
     let mut weight: u16 = 255;
-    let mut i: usize = 0;
-    while i < HALF {
-        let octet = s[i];
-        plain += ground::wide_octet(octet);
-        running += weighed(weight, octet);
+    for octet in s {
+        plain += ground::wide_octet(*octet);
+        running += weighed(weight, *octet);
         weight -= 1;
-        i += 1;
     }
     CheckSums {
         plain: plain,
@@ -105,10 +102,8 @@ pub fn all_zero(s: &[u8]) -> bool
     ensures { result ≡ all_zero s.now }
 {
     let mut good = true;
-    let mut i: usize = 0;
-    while i < s.len() {
-        good = good & (s[i] == 0);
-        i += 1;
+    for x in s {
+        good = good & (*x == 0);
     }
     good
 }

@@ -7,29 +7,13 @@ ghost use Rattle.ground.specs.Words.{octets_of};
 ghost use Rattle.card_block.specs.Block.{block_size, summed};
 ghost use Rattle.card_fill.specs.Filled.{head_of, zeros, checks_of, block_of};
 
-// Lays n words of src, from a place on, over b from the place `at` on.
-fn put_words(b: &mut [u8], at: usize, src: &[u32], from: usize, n: usize)
-    requires n_in_bounds { at + n * 4 ≤ length b.old }
-    requires n_in_bounds_2 { from + n ≤ length src.now }
-    ensures { b.new ≡ laid b.old at (octets_of (part src.now from (from + n))) }
+// Lays the octets of the words of src over b from the place `at` on.
+fn put_words(b: &mut [u8], at: usize, src: &[u32])
+    requires { at + length src.now * 4 ≤ length b.old }
+    ensures { b.new ≡ laid b.old at (octets_of src.now) }
 {
-    let mut i: usize = 0;
-    while i < n {
-        ground::put_word(b, at + i * 4, src[from + i]);
-        i += 1;
-    }
-}
-
-// Lays n octets of src, from a place on, over b from the place `at` on.
-fn put_octets(b: &mut [u8], at: usize, src: &[u8], from: usize, n: usize)
-    requires n_in_bounds { at + n ≤ length b.old }
-    requires n_in_bounds_2 { from + n ≤ length src.now }
-    ensures { b.new ≡ laid b.old at (part src.now from (from + n)) }
-{
-    let mut i: usize = 0;
-    while i < n {
-        b[at + i] = src[from + i];
-        i += 1;
+    for (i, word) in src.iter().enumerate() {
+        ground::put_word(b, at + i * 4, *word);
     }
 }
 
@@ -74,7 +58,7 @@ pub fn words_block(
     ensures { result ≡ block_of number kind count (octets_of (part src.now from (from + n))) }
 {
     let mut b = headed(number, kind, count);
-    put_words(&mut b, card_block::HEAD, src, from, n);
+    put_words(&mut b, card_block::HEAD, &src[from..from + n]);
     put_checks(&mut b);
     b
 }
@@ -95,7 +79,7 @@ pub fn octets_block(
     ensures { result ≡ block_of number kind count (part src.now from (from + n)) }
 {
     let mut b = headed(number, kind, count);
-    put_octets(&mut b, card_block::HEAD, src, from, n);
+    b[card_block::HEAD..card_block::HEAD + n].copy_from_slice(&src[from..from + n]);
     put_checks(&mut b);
     b
 }
@@ -106,5 +90,6 @@ pub fn put_block(card: &mut [u8], i: usize, b: &[u8])
     requires b_len { length b.now ≡ block_size }
     ensures { card.new ≡ laid card.old (i * block_size) b.now }
 {
-    put_octets(card, i * card_block::BLOCK, b, 0, card_block::BLOCK)
+    let start = i * card_block::BLOCK;
+    card[start..start + card_block::BLOCK].copy_from_slice(b);
 }

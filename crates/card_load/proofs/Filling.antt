@@ -51,5 +51,5 @@ module _ (f : List ℕ → List ℕ) (kind n : ℕ) (card old : List ℕ) where
       room = ground.filling_room _ old _ dst at F (f (records_of (block_at card i))) (gather f kind (drop (i + 1) (blocks n card))) piece m long
 
       -- it is pasted in
-      pub put : (to : List ℕ) → at + m ≤ length dst → to ≡ paste dst at w m → Filling f kind n card old to (i + 1) (at + m)
-      put to = ground.filling_goes _ old _ dst at F (f (records_of (block_at card i))) (gather f kind (drop (i + 1) (blocks n card))) piece m long to w q.0
+      pub put : (to : List ℕ) → length (gather f kind (blocks n card)) ≤ length old → to ≡ paste dst at w m → Filling f kind n card old to (i + 1) (at + m)
+      put to r = ground.filling_goes _ old _ dst at F (f (records_of (block_at card i))) (gather f kind (drop (i + 1) (blocks n card))) piece m long to w q.0 (room r)

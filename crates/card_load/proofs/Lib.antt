@@ -1,6 +1,5 @@
 -- The laws that belong to no one function.
 pub mod Blocks
-pub mod Copying
 pub mod Filling
 pub mod Lengths
 pub mod Answers

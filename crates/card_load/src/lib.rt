@@ -1,8 +1,7 @@
 // The card reader: a card into four lent tables (SCOPE 3.10 to 3.14).
 #![tactic(auto)]
 
-ghost use Rattle.std.specs.Prelude.{◌≡◌, ◌∷◌, [], ◌+◌, ◌*◌, ◌<◌, ◌≤◌, length, drop};
-ghost use Rattle.std.proofs.Math.Seq.{paste};
+ghost use Rattle.std.specs.Prelude.{◌≡◌, ◌∷◌, [], ◌+◌, ◌*◌, ◌/◌, ◌<◌, ◌≤◌, length, drop};
 ghost use Rattle.ground.specs.Refusals.{said_through, said_by, done_said};
 ghost use Rattle.ground.specs.Lists.{filled, table_after};
 ghost use Rattle.ground.specs.Words.{words};
@@ -62,43 +61,25 @@ fn record_count(card: &[u8], n: usize, kind: u8) -> usize
     requires n_le_most_blocks { n ≤ most_blocks }
     ensures { (result ≡ record_count kind (blocks n card.now)) × (result ≤ 8388608) }
 {
-    let mut i: usize = 0;
     let mut sum: usize = 0;
-    while i < n {
+    for i in 0..n {
         let a = i * card_block::BLOCK;
         let e = a + card_block::BLOCK;
         let b = &card[a..e];
         if b[2] == kind {
             sum += ground::half_at(b, 3);
         }
-        i += 1;
     }
     sum
 }
 
-// Writes n words over dst, from the place `at` on. They stand in src, little endian, from a place on.
-fn copy_words(dst: &mut [u32], at: usize, src: &[u8], from: usize, n: usize)
-    requires n_in_bounds { at + n ≤ length dst.old }
-    requires n_in_bounds_2 { from + n * 4 ≤ length src.now }
-    ensures { dst.new ≡ paste dst.old at (words (drop from src.now)) n }
+// Writes the words of src, little endian, over dst.
+fn copy_words(dst: &mut [u32], src: &[u8])
+    requires { length dst.old ≡ length src.now / 4 }
+    ensures { dst.new ≡ words src.now }
 {
-    let mut i: usize = 0;
-    while i < n {
-        dst[at + i] = ground::word_at(src, from + i * 4);
-        i += 1;
-    }
-}
-
-// Writes n octets over dst, from the place `at` on. They stand in src from a place on.
-fn copy_octets(dst: &mut [u8], at: usize, src: &[u8], from: usize, n: usize)
-    requires n_in_bounds { at + n ≤ length dst.old }
-    requires n_in_bounds_2 { from + n ≤ length src.now }
-    ensures { dst.new ≡ paste dst.old at (drop from src.now) n }
-{
-    let mut i: usize = 0;
-    while i < n {
-        dst[at + i] = src[from + i];
-        i += 1;
+    for (i, word) in dst.iter_mut().enumerate() {
+        *word = ground::word_at(src, i * 4);
     }
 }
 
@@ -109,18 +90,17 @@ fn fill_words(dst: &mut [u32], card: &[u8], n: usize, kind: u8)
     requires card_in_bounds { length (gather words kind (blocks n card.now)) ≤ length dst.old }
     ensures { dst.new ≡ filled (gather words kind (blocks n card.now)) dst.old }
 {
-    let mut i: usize = 0;
     let mut at: usize = 0;
-    while i < n {
+    for i in 0..n {
         let a = i * card_block::BLOCK;
         let e = a + card_block::BLOCK;
         let b = &card[a..e];
         if b[2] == kind {
-            let m = (card_block::records_end(b) - card_block::HEAD) / 4;
-            copy_words(dst, at, b, card_block::HEAD, m);
-            at += m;
+            let records = &b[card_block::HEAD..card_block::records_end(b)];
+            let end = at + records.len() / 4;
+            copy_words(&mut dst[at..end], records);
+            at = end;
         }
-        i += 1;
     }
 }
 
@@ -131,18 +111,17 @@ fn fill_octets(dst: &mut [u8], card: &[u8], n: usize, kind: u8)
     requires card_in_bounds { length (gather octets kind (blocks n card.now)) ≤ length dst.old }
     ensures { dst.new ≡ filled (gather octets kind (blocks n card.now)) dst.old }
 {
-    let mut i: usize = 0;
     let mut at: usize = 0;
-    while i < n {
+    for i in 0..n {
         let a = i * card_block::BLOCK;
         let e = a + card_block::BLOCK;
         let b = &card[a..e];
         if b[2] == kind {
-            let m = card_block::records_end(b) - card_block::HEAD;
-            copy_octets(dst, at, b, card_block::HEAD, m);
-            at += m;
+            let records = &b[card_block::HEAD..card_block::records_end(b)];
+            let end = at + records.len();
+            dst[at..end].copy_from_slice(records);
+            at = end;
         }
-        i += 1;
     }
 }
 

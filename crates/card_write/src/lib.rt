@@ -18,15 +18,6 @@ const FULL_WORDS: usize = 126;
 
 const FULL_TEXT: usize = 505;
 
-fn lesser(a: usize, b: usize) -> usize
-    ensures { result ≡ min a b }
-{
-    if a < b {
-        return a;
-    }
-    b
-}
-
 // Writes the blocks of a kind for a table of words, from block `first` on; so many words as `unit` says make a record. The bounds on the length and the number
 // are wide, and keep the block numbers within their two octets.
 fn write_words(card: &mut [u8], first: usize, kind: u8, unit: usize, src: &[u32])
@@ -37,13 +28,11 @@ fn write_words(card: &mut [u8], first: usize, kind: u8, unit: usize, src: &[u32]
     ensures { card.new ≡ laid card.old (first * block_size) (joined (word_blocks kind unit first src.now)) }
 {
     let n = (src.len() + 125) / FULL_WORDS;
-    let mut i: usize = 0;
-    while i < n {
+    for i in 0..n {
         let from = i * FULL_WORDS;
-        let m = lesser(FULL_WORDS, src.len() - from);
+        let m = FULL_WORDS.min(src.len() - from);
         let b = card_fill::words_block(first + i, kind, m / unit, src, from, m);
         card_fill::put_block(card, first + i, &b);
-        i += 1;
     }
 }
 
@@ -55,13 +44,11 @@ fn write_text(card: &mut [u8], first: usize, src: &[u8])
     ensures { card.new ≡ laid card.old (first * block_size) (joined (text_blocks first src.now)) }
 {
     let n = (src.len() + 504) / FULL_TEXT;
-    let mut i: usize = 0;
-    while i < n {
+    for i in 0..n {
         let from = i * FULL_TEXT;
-        let m = lesser(FULL_TEXT, src.len() - from);
+        let m = FULL_TEXT.min(src.len() - from);
         let b = card_fill::octets_block(first + i, 4, m, src, from, m);
         card_fill::put_block(card, first + i, &b);
-        i += 1;
     }
 }
 

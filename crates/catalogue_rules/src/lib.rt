@@ -52,13 +52,11 @@ pub fn parents_right(groups: &[u32]) -> bool
 {
     let n = groups.len() / catalogue_tables::GROUP_WORDS;
     let mut good = true;
-    let mut i: usize = 0;
-    while i < n {
+    for i in 0..n {
         let base = i * catalogue_tables::GROUP_WORDS;
         let parent = ground::wide_word(groups[base + catalogue_tables::PARENT_AT]);
         let right = parent_right(i, parent);
         good = good & right;
-        i += 1;
     }
     good
 }
@@ -73,14 +71,12 @@ pub fn runs_right(table: &[u32], n: usize, width: usize, at: usize, total: usize
 {
     let mut good = true;
     let mut sum: usize = 0;
-    let mut i: usize = 0;
-    while i < n {
+    for i in 0..n {
         let base = i * width;
         let first = ground::wide_word(table[base + at]);
         let count = ground::wide_word(table[base + (at + 1)]);
         good = good & (first == sum);
         sum += count;
-        i += 1;
     }
     good & (sum == total)
 }
@@ -96,8 +92,7 @@ pub fn tracks_right(tracks: &[u32], segments: usize, text: usize) -> bool
     let mut known = true;
     let mut placed = true;
     let mut sum: usize = 0;
-    let mut i: usize = 0;
-    while i < n {
+    for i in 0..n {
         let base = i * catalogue_tables::TRACK_WORDS;
         let duration = tracks[base + catalogue_tables::DURATION_AT];
         let first = ground::wide_word(tracks[base + catalogue_tables::FIRST_SEGMENT_AT]);
@@ -110,20 +105,17 @@ pub fn tracks_right(tracks: &[u32], segments: usize, text: usize) -> bool
             & ((duration <= ground::MOST_DURATION) | (duration == catalogue_tables::NOT_YET_KNOWN));
         placed = placed & ((end <= text) & (len <= ground::MOST_TITLE));
         sum += count;
-        i += 1;
     }
     following & (sum == segments) & known & placed
 }
 
 fn rises(starts: &[u32]) -> bool
+    requires { 0 < length starts.now }
     ensures { result ≡ rise_rule starts.now }
 {
-    let n = starts.len();
     let mut good = true;
-    let mut i: usize = 0;
-    while i + 1 < n {
+    for i in 0..starts.len() - 1 {
         good = good & (starts[i] < starts[i + 1]);
-        i += 1;
     }
     good
 }
@@ -150,8 +142,7 @@ pub fn starts_right(tracks: &[u32], segments: &[u32]) -> bool
     }
     let n = tracks.len() / catalogue_tables::TRACK_WORDS;
     let mut good = true;
-    let mut i: usize = 0;
-    while i < n {
+    for i in 0..n {
         let base = i * catalogue_tables::TRACK_WORDS;
         let first = ground::wide_word(tracks[base + catalogue_tables::FIRST_SEGMENT_AT]);
         let count = ground::wide_word(tracks[base + catalogue_tables::SEGMENT_COUNT_AT]);
@@ -160,7 +151,6 @@ pub fn starts_right(tracks: &[u32], segments: &[u32]) -> bool
         let last = catalogue_tables::end_by(duration);
         let right = starts_of_track_right(&segments[first..end], last);
         good = good & right;
-        i += 1;
     }
     good
 }

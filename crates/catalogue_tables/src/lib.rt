@@ -51,7 +51,7 @@ pub fn word_in(table: &[u32], width: usize, i: u32, column: usize) -> u32
     ensures { result ≡ word_in width table.now i column }
 {
     let base = ground::wide_word(i) * width;
-    ground::word_or_zero(table, base + column)
+    ground::at_or(table, base + column, 0)
 }
 
 pub fn group_count(groups: &[u32]) -> usize
@@ -152,20 +152,11 @@ pub struct Run {
     pub end: usize,
 }
 
-fn lesser(a: usize, b: usize) -> usize
-    ensures { result ≡ min a b }
-{
-    if a < b {
-        return a;
-    }
-    b
-}
-
 pub fn run_within(first: u32, count: u32, len: usize) -> Run
     ensures { (result.start ≡ min first len) × (result.end ≡ result.start + min count (len - result.start)) }
 {
-    let start = lesser(ground::wide_word(first), len);
-    let end = start + lesser(ground::wide_word(count), len - start);
+    let start = ground::wide_word(first).min(len);
+    let end = start + ground::wide_word(count).min(len - start);
     Run {
         start: start,
         end: end,

@@ -1,12 +1,13 @@
--- Laws of `laid`: a store, four stores, and one list laid directly behind another. Assumes nothing.
+-- Laws of `laid`: a store, two stores, a part that is written, and one list laid directly behind another. Assumes nothing.
 use mathlib.Core.Path.{◌≡◌, sym, ap, ◌∙◌}
 use mathlib.Core.List.{List, [], ◌∷◌, ◌++◌, append_assoc}
 use Prim.Native.Nat.{ℕ, suc, ◌+◌, ◌-◌, ◌≤◌, ◌<◌}
 use native.Mathlib.Nat.{add-zero, zero-add}
-use native.Mathlib.Numerals.{add-one, add-two, add-three}
+use native.Mathlib.Numerals.{add-one}
 use native.Mathlib.Omega.{arith}
-use lib.ListN.{length, get_or, set, take, drop, length-append, length-take, length-drop, take-append-drop}
-use lib.Seq.{length-take-le, take-suc, take_at, drop_at, drop-drop, set_split, sets-eq}
+use borrow.Rule.Slice.PartMut.{put_mid}
+use lib.ListN.{length, set, take, drop, length-append, length-take, length-drop, take-append-drop}
+use lib.Seq.{length-take-le, take_at, drop_at, drop-drop, set_split, sets-eq}
 use Rattle.ground.specs.Lists.{filled, laid}
 
 module _ {A : Type 0} (d : List A) where
@@ -17,13 +18,6 @@ module _ {A : Type 0} (d : List A) where
   pub laid_one : (at : ℕ) (x : A) → at < length d → set d at x ≡ laid d at (x ∷ [])
   unfolding laid
   laid_one at x h = rw (add-one at) (set_split d at x h)
-
-  pub laid_four : (at : ℕ) (a b c e : A) → at + 4 ≤ length d
-      → set (set (set (set d at a) (at + 1) b) (at + 2) c) (at + 3) e ≡ laid d at (a ∷ b ∷ c ∷ e ∷ [])
-  unfolding laid
-  laid_four at a b c e h =
-      rw (add-one at, add-two at, add-three at)
-      (sets-eq (a ∷ b ∷ c ∷ e ∷ []) d at h ∙ append_assoc (take at d) (a ∷ b ∷ c ∷ e ∷ []) (drop (at + 4) d))
 
   pub laid_two : (at : ℕ) (a b : A) → at + 2 ≤ length d → set (set d at a) (suc at) b ≡ laid d at (a ∷ b ∷ [])
   unfolding laid
@@ -63,25 +57,16 @@ module _ {A : Type 0} (d : List A) where
         ∙ append_assoc (take at d) s (t ++ drop (at + length (s ++ t)) d)
         ∙ ap (λ (x : List A). take at d ++ x) (sym (append_assoc s t (drop (at + length (s ++ t)) d)))
 
+-- what a write to a part of a slice leaves: the k elements from a on are now zs
+pub part_laid : {A : Type 0} (a k : ℕ) (xs ys zs : List A) → ys ≡ zs → k ≡ length zs → put_mid a k xs ys ≡ laid xs a zs
+unfolding laid
+part_laid a k xs ys zs e q = ap (λ l. take a xs ++ l) (λ i. e i ++ (drop-drop k a xs ∙ ap (λ m. drop (a + m) xs) q) i)
+
 -- a loop's turn: what is laid is all so far, and t behind it
 pub turn : {A : Type 0} (old : List A) (at : ℕ) (s t dst new : List A) (m : ℕ)
     → dst ≡ laid old at s → new ≡ laid dst m t → m ≡ at + length s → m + length t ≤ length old → new ≡ laid old at (s ++ t)
 turn {A} old at s t dst new m p q e k =
     q ∙ ap (λ (x : List A). laid x m t) p ∙ laid_behind old at s (omega arith) m t e k
-
--- the loop's end: i is n, and the part is written as the part of a slice is written in a goal
-pub part_end : {A : Type 0} (src : List A) (from i n : ℕ) → i ≤ n → n ≤ i → take i (drop from src) ≡ take (from + n - from) (drop from src)
-part_end {A} src from i n h k = let e : i ≡ from + n - from = omega arith in ap (λ (j : ℕ). take j (drop from src)) e
-
--- a turn that stores one element
-pub store_turn : {A : Type 0} (old : List A) (at : ℕ) (w dst : List A) (i : ℕ) → dst ≡ laid old at (take i w) → length dst ≡ length old
-    → (x e : A) → x ≡ get_or w i e → at + i < length old → i < length w → set dst (at + i) x ≡ laid old at (take (i + 1) w)
-store_turn {A} old at w dst i p n x e q h k =
-    let m : at + i < length dst = omega arith in
-    let t : take i w ++ (x ∷ []) ≡ take (i + 1) w = rw (add-one i, take-suc w i e k) (ap (λ (y : A). take i w ++ (y ∷ [])) q) in
-    turn old at (take i w) (x ∷ []) dst (set dst (at + i) x) (at + i) p (laid_one dst (at + i) x m)
-    (omega (arith, length-take-le i w (omega arith))) (omega arith)
-    ∙ ap (laid old at) t
 
 pub part_length : {A : Type 0} (src : List A) (from n : ℕ) → from + n ≤ length src → length (take (from + n - from) (drop from src)) ≡ n
 part_length {A} src from n h = simp (length-take, length-drop) (omega arith)

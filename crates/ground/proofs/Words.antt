@@ -6,7 +6,7 @@ use native.Mathlib.Nat.{add_assoc}
 use native.Mathlib.Numerals.{add-one}
 use native.Mathlib.Omega.{arith}
 use lib.ListN.{length, get_or, take, drop}
-use lib.Seq.{get_or-drop, take-nil, take-suc}
+use lib.Seq.{get_or-drop, length-take-le, take-length, take-nil, take-suc}
 use Rattle.ground.specs.Words.{word_of, half_at, word_at, six_octets, six_at, words, octets_of_word, octets_of}
 
 -- a word that starts four octets further on
@@ -65,6 +65,15 @@ words_take_lem (suc (suc (suc (suc j)))) (a ∷ b ∷ c ∷ []) = sym (take-nil 
 words_take_lem (suc (suc (suc (suc j)))) (a ∷ b ∷ c ∷ d ∷ s) =
     let e : suc (suc (suc (suc j))) / 4 ≡ suc (j / 4) = omega arith in
     rw e (ap (λ (l : List ℕ). word_of a b c d ∷ l) (words_take_lem j s))
+
+-- all words that octets make, and how many they are
+pub words_whole : (s : List ℕ) → take (length s / 4) (words s) ≡ words s
+words_whole s = sym (words_take_lem (length s) s) ∙ ap words (take-length s)
+
+pub words_count : (s : List ℕ) → length (words s) ≡ length s / 4
+words_count s =
+    let h : length s / 4 * 4 ≤ length s = omega arith in
+    sym (ap length (words_whole s)) ∙ length-take-le (length s / 4) (words s) (words_length s (length s / 4) h)
 
 pub octets_append : (s t : List ℕ) → octets_of (s ++ t) ≡ octets_of s ++ octets_of t
 unfolding octets_of

@@ -163,7 +163,7 @@ impl Reason {
 pub fn wide_octet(x: u8) -> u32
     ensures { (result ≡ x) × (result < 256) }
 {
-    x as u32
+    u32::from(x)
 }
 
 pub fn wide_word(x: u32) -> usize
@@ -176,7 +176,7 @@ pub fn wide_word(x: u32) -> usize
 pub fn half_of(a: u8, b: u8) -> usize
     ensures { (result ≡ half_of a b) × (result < 65536) }
 {
-    (a as usize) + (b as usize) * 256
+    usize::from(u16::from_le_bytes([a, b]))
 }
 
 // The little endian half word that starts at a place.
@@ -191,7 +191,7 @@ pub fn half_at(s: &[u8], at: usize) -> usize
 pub fn word_of(a: u8, b: u8, c: u8, d: u8) -> u32
     ensures { result ≡ word_of a b c d }
 {
-    (a as u32) + (b as u32) * 256 + (c as u32) * 65536 + (d as u32) * 16777216
+    u32::from_le_bytes([a, b, c, d])
 }
 
 // The little endian word that starts at a place.
@@ -207,24 +207,15 @@ pub fn put_word(b: &mut [u8], at: usize, w: u32)
     requires { at + 4 ≤ length b.old }
     ensures { b.new ≡ laid b.old at (octets_of_word w) }
 {
-    b[at] = (w % 256) as u8;
-    b[at + 1] = (w / 256 % 256) as u8;
-    b[at + 2] = (w / 65536 % 256) as u8;
-    b[at + 3] = (w / 16777216) as u8;
+    b[at..at + 4].copy_from_slice(&w.to_le_bytes());
 }
 
 // The six octets of a number of 48 bits, little endian (SCOPE 7.1).
 pub fn six_octets(n: usize) -> [u8; 6]
     ensures { result ≡ six_octets n }
 {
-    [
-        (n % 256) as u8,
-        (n / 256 % 256) as u8,
-        (n / 65536 % 256) as u8,
-        (n / 16777216 % 256) as u8,
-        (n / 4294967296 % 256) as u8,
-        (n / 1099511627776 % 256) as u8,
-    ]
+    let [a, b, c, d, e, f, _, _] = n.to_le_bytes();
+    [a, b, c, d, e, f]
 }
 
 // The little endian number of 48 bits that starts at a place.
@@ -237,23 +228,18 @@ pub fn six_at(s: &[u8], at: usize) -> usize
     low + high * 4294967296
 }
 
-// The element at a place, or 0 behind the end.
+// The element at a place, or another value behind the end.
+pub fn at_or<T: Copy>(s: &[T], at: usize, default: T) -> T
+    ensures { result ≡ get_or s.now at default }
+{
+    s.get(at).copied().unwrap_or(default)
+}
+
+// The octet at a place, or 0 behind the end.
 pub fn octet_or_zero(s: &[u8], at: usize) -> u8
     ensures { result ≡ get_or s.now at 0 }
 {
-    if at < s.len() {
-        return s[at];
-    }
-    0
-}
-
-pub fn word_or_zero(s: &[u32], at: usize) -> u32
-    ensures { result ≡ get_or s.now at 0 }
-{
-    if at < s.len() {
-        return s[at];
-    }
-    0
+    at_or(s, at, 0)
 }
 
 // Whether a bit of a word is set.

@@ -81,18 +81,18 @@ fn char_at(s: &[u8], at: usize) -> usize
     if 0xF4 < a {
         return 0;
     }
-    let b = ground::octet_or_zero(s, at + 1);
+    let b = ground::at_or(s, at + 1, 0);
     if a <= 0xDF {
         if is_within(0x80, 0xBF, b) {
             return 2;
         }
         return 0;
     }
-    let c = ground::octet_or_zero(s, at + 2);
+    let c = ground::at_or(s, at + 2, 0);
     if a <= 0xEF {
         return char_of_three(a, b, c);
     }
-    let d = ground::octet_or_zero(s, at + 3);
+    let d = ground::at_or(s, at + 3, 0);
     char_of_four(a, b, c, d)
 }
 
@@ -101,10 +101,8 @@ fn bits_of(s: &[u8]) -> u8
     ensures { (i : ℕ) → i < length s.now → get_or s.now i 0 ≤ result }
 {
     let mut bits: u8 = 0;
-    let mut i = 0;
-    while i < s.len() {
-        bits = bits | s[i];
-        i += 1;
+    for x in s {
+        bits |= *x;
     }
     bits
 }
@@ -138,15 +136,13 @@ fn plain_from(s: &[u8]) -> usize
     ensures upper_bound { result ≤ length s.now }
     ensures by_index { (i : ℕ) → result ≤ i → i < length s.now → get_or s.now i 0 ≤ 0x7F }
 {
-    let mut end = s.len();
-    while 8 <= end {
-        let start = end - 8;
-        if 0x7F < eight_bits(s, start) {
+    for k in 0..s.len() / 8 {
+        let end = s.len() - k * 8;
+        if 0x7F < eight_bits(s, end - 8) {
             return end;
         }
-        end = start;
     }
-    end
+    s.len() % 8
 }
 
 // Goes character by character, up to where all that is left is plain.
@@ -155,6 +151,7 @@ fn scan(s: &[u8]) -> Result<(), NotText>
 {
     let end = plain_from(s);
     let mut i = 0;
+    // Stays a while: a turn goes on by the length of a character, so that no counter runs by one; an iterator of characters would be a type of its own, and no plainer.
     while i < end {
         let n = char_at(s, i);
         if n == 0 {

@@ -6,9 +6,8 @@ use Rattle.card_block.specs.Sums.{sum_of}
 use Rattle.card_block.proofs.SumLaws.{weighted}
 use Rattle.card_block.proofs.half_sums.Given as goal
 
-abbrev pub invariant-loop-i : goal.invariant-loop-i
-invariant-loop-i l =
-    (l.weight + l.i ≡ 255) × (l.plain + sum_of (drop l.i l.s) ≡ sum_of l.s) × (l.running + weighted (drop l.i l.s) ≡ weighted l.s)
-
-abbrev pub decreases-loop-i : goal.decreases-loop-i
-decreases-loop-i l = l.weight
+abbrev pub invariant-loop-octet : goal.invariant-loop-octet
+invariant-loop-octet l =
+    (l.weight + l.octet-index ≡ 255)
+    × (l.plain + sum_of (drop l.octet-index l.s) ≡ sum_of l.s)
+    × (l.running + weighted (drop l.octet-index l.s) ≡ weighted l.s)

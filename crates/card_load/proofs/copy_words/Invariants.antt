@@ -1,14 +1,8 @@
--- `card_load::copy_words`: after i turns the first i words are pasted in.
-use Prim.Native.Nat.{◌≤◌, ◌-◌}
+-- `card_load::copy_words`: the first i words are written.
 use mathlib.Core.Path.{◌≡◌}
-use lib.ListN.{length, drop}
-use lib.Seq.{paste}
+use lib.ListN.{take}
 use Rattle.ground.specs.Words.{words}
 use Rattle.card_load.proofs.copy_words.Given as goal
 
 abbrev pub invariant-loop-i : goal.invariant-loop-i
-invariant-loop-i l =
-    (l.i ≤ l.n) × (length l.dst ≡ length l.initial.dst) × (l.dst ≡ paste l.initial.dst l.at (words (drop l.from l.src)) l.i)
-
-abbrev pub decreases-loop-i : goal.decreases-loop-i
-decreases-loop-i l = l.n - l.i
+invariant-loop-i l = take l.i l.dst ≡ take l.i (words l.src)

@@ -1,11 +1,7 @@
 -- `card_load::fill_octets`: the loop's state is `Filling`.
-use Prim.Native.Nat.{◌≤◌, ◌-◌}
 use Rattle.card_load.specs.Card.{octets}
 use Rattle.card_load.proofs.Filling.{Filling}
 use Rattle.card_load.proofs.fill_octets.Given as goal
 
 abbrev pub invariant-loop-i : goal.invariant-loop-i
-invariant-loop-i l = (l.i ≤ l.n) × Filling octets l.kind l.n l.card l.initial.dst l.dst l.i l.at
-
-abbrev pub decreases-loop-i : goal.decreases-loop-i
-decreases-loop-i l = l.n - l.i
+invariant-loop-i l = Filling octets l.kind l.n l.card l.initial.dst l.dst l.i l.at

@@ -33,12 +33,12 @@ loop-i-preserved c =
     let a = c.args in
     let st = step a.n a.card.now a.kind l.i c.loop-i-test.true in
     elim c.if-b-kind.branch [
-      | then-b-kind w ↦ let s1 = rw (eq-eqb _ _ w.if-b-kind.true) at st in (omega arith, omega arith, omega (arith, s1, l.invariant.2))
-      | else-b-kind w ↦ let s1 = rw (ne_eqb _ _ w.if-b-kind.false) at st in (omega arith, omega arith, omega (arith, s1, l.invariant.2))
+      | then-b-kind w ↦ let s1 = rw (eq-eqb _ _ w.if-b-kind.true) at st in (omega arith, omega (arith, s1, l.invariant.1))
+      | else-b-kind w ↦ let s1 = rw (ne_eqb _ _ w.if-b-kind.false) at st in (omega arith, omega (arith, s1, l.invariant.1))
     ]
 
 pub returns : goal.returns
 unfolding record_count
 returns c =
     let a = c.args in
-    (omega (arith, rw (blocks_end a.n a.card.now c.loop-i.i c.loop-i-test.false) at c.loop-i.invariant.2), omega arith)
+    (omega (arith, rw (blocks_end a.n a.card.now c.loop-i.i c.loop-i-test.false) at c.loop-i.invariant.1), omega arith)

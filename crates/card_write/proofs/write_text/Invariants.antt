@@ -1,11 +1,7 @@
 -- `card_write::write_text`: the first i blocks are laid (`Laying`), and a turn lays the next.
-use Prim.Native.Nat.{◌≤◌, ◌-◌}
 use Rattle.card_write.specs.Card.{text_blocks}
 use Rattle.card_write.proofs.Joining.{Laying}
 use Rattle.card_write.proofs.write_text.Given as goal
 
 abbrev pub invariant-loop-i : goal.invariant-loop-i
-invariant-loop-i l = (l.i ≤ l.n) × Laying (text_blocks l.first l.src) l.first l.initial.card l.card l.i
-
-abbrev pub decreases-loop-i : goal.decreases-loop-i
-decreases-loop-i l = l.n - l.i
+invariant-loop-i l = Laying (text_blocks l.first l.src) l.first l.initial.card l.card l.i

@@ -1,23 +1,21 @@
 -- `catalogue_rules::parents_right`: after i turns, the rule of the first i groups.
 use mathlib.Core.Path.{refl, ap, ◌∙◌}
-use Prim.Native.Nat.{◌-◌}
 use Rattle.ground.specs.Lists.{all_below}
 use Rattle.ground.proofs.Bounded.{all_turn, all_end}
 use Rattle.catalogue_rules.specs.Rules.{parent_right, parents_rule}
-use borrow.Author.Rules.{rules}
 use Rattle.catalogue_rules.proofs.parents_right.Goals as goal
 
 pub loop-i-init : goal.loop-i-init
 unfolding all_below
 loop-i-init c =
-    (search rules, refl)
+    refl
 
 pub loop-i-preserved : goal.loop-i-preserved
 loop-i-preserved c =
     let l = c.loop-i in
-    (search rules, all_turn _ _ _ _ l.invariant.1 (c.parent_right-right.ensures ∙ ap (parent_right l.i) c.wide_word-parent.ensures.0))
+    all_turn _ _ _ _ l.invariant (c.parent_right-right.ensures ∙ ap (parent_right l.i) c.wide_word-parent.ensures.0)
 
 pub returns : goal.returns
 unfolding parents_rule
 returns c =
-    all_end _ c.loop-i.invariant.0 c.loop-i-test.false c.loop-i.invariant.1
+    all_end _ c.loop-i.auto.i-end c.loop-i-test.false c.loop-i.invariant

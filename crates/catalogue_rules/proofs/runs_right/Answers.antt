@@ -1,5 +1,5 @@
 -- `catalogue_rules::runs_right`: the loop's state is `Following`.
-use Prim.Native.Nat.{◌≤◌, ◌+◌, ◌*◌, ◌-◌}
+use Prim.Native.Nat.{◌≤◌, ◌+◌, ◌*◌}
 use native.Mathlib.Omega.{arith}
 use lib.ListN.{length}
 use Rattle.catalogue_rules.proofs.Runs.{record_inside, start, turn, end}

@@ -1,7 +1,6 @@
 -- `catalogue_rules::tracks_right`: after i turns, the three rules of the first i tracks.
 use mathlib.Core.Path.{refl}
 use mathlib.Core.Bool.{◌&&◌}
-use Prim.Native.Nat.{◌-◌}
 use native.Mathlib.Omega.{arith}
 use Rattle.ground.specs.Lists.{all_below}
 use Rattle.ground.proofs.Bounded.{all_turn, all_end}

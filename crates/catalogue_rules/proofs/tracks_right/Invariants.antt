@@ -1,7 +1,6 @@
 -- `catalogue_rules::tracks_right`: after i turns, the three rules of the first i tracks.
 use mathlib.Core.Path.{◌≡◌}
 use mathlib.Core.Bool.{◌||◌}
-use Prim.Native.Nat.{◌-◌}
 use lib.Dec.{leb}
 use Rattle.ground.specs.Limits.{most_duration}
 use Rattle.ground.specs.Lists.{all_below}
@@ -15,6 +14,3 @@ invariant-loop-i l =
     Following (first_segment_of l.tracks) (segments_in l.tracks) l.n l.following l.sum l.i
     × ((l.known ≡ all_below l.i (λ t. leb (duration_of l.tracks t) most_duration || is_running l.tracks t))
     × (l.placed ≡ all_below l.i (λ t. title_placed (title_offset_of l.tracks t) (title_length_of l.tracks t) l.text)))
-
-abbrev pub decreases-loop-i : goal.decreases-loop-i
-decreases-loop-i l = l.n - l.i

@@ -20,5 +20,5 @@ overflow_add-base c =
 pub returns : goal.returns
 returns c =
     let a = c.args in
-    c.word_or_zero.ensures
+    c.at_or.ensures
     ∙ ap (λ (n : ℕ). get_or a.table.now (n * a.width + a.column) 0) c.wide_word.ensures.0

@@ -1,21 +1,16 @@
--- `ground::put_word`: four stores are four octets laid.
+-- `ground::put_word`: the octets of the word are laid as a part; of a word of 32 bits the last is an octet.
+use mathlib.Core.Path.{◌≡◌, ◌∙◌}
+use mathlib.Core.List.{[], ◌∷◌}
+use Prim.Native.Nat.{◌/◌, ◌%◌}
 use native.Mathlib.Omega.{arith}
-use lib.ListN.{length-set}
-use Rattle.ground.proofs.Laying.{laid_four}
+use Rattle.ground.specs.Words.{octets_of_word}
+use Rattle.ground.proofs.Laying.{part_laid}
 use Rattle.ground.proofs.put_word.Goals as goal
-
-pub bounds-b-at-2 : goal.bounds-b-at-2
-bounds-b-at-2 c =
-    simp length-set (omega arith)
-
-pub bounds-b-at-3 : goal.bounds-b-at-3
-bounds-b-at-3 c =
-    simp length-set (omega arith)
-
-pub bounds-b-at-4 : goal.bounds-b-at-4
-bounds-b-at-4 c =
-    simp length-set (omega arith)
 
 pub returns : goal.returns
 returns c =
-    laid_four c.args.b.now c.args.at _ _ _ _ c.requires
+    let w = c.args.w in
+    let top : w / 16777216 % 256 ≡ w / 16777216 = omega arith in
+    part_laid _ _ _ _ (octets_of_word w)
+    (c.copy_from_slice.ensures.after ∙ c.to_le_bytes.ensures ∙ (λ k. w % 256 ∷ w / 256 % 256 ∷ w / 65536 % 256 ∷ top k ∷ []))
+    (omega arith)
