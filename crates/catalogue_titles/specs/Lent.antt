@@ -4,6 +4,7 @@ use Rattle.std.specs.Prelude.{◌≡◌, Bool, ◌&&◌, not, List, [], ◌∷�
 use Rattle.ground.specs.Refusals.{Said, granted, Row, row, said_by}
 use Rattle.catalogue_tables.specs.Tables.{Tables, tables}
 use Rattle.catalogue_check.specs.Catalogue.{catalogue_rule, catalogue_row}
+use Rattle.catalogue_titles.specs.declared.Loan.{Loan}
 use Rattle.catalogue_titles.specs.Titles.{renames_rule}
 
 -- the four tables of the catalogue, the entries that rename its tracks, and the office's text
@@ -18,6 +19,9 @@ pub record Lent : Type 0 where
 abbrev pub lending : List ℕ → List ℕ → List ℕ → List ℕ → List ℕ → List ℕ → Lent
 lending groups tracks segments text renames office =
     record { groups = groups; tracks = tracks; segments = segments; text = text; renames = renames; office = office }
+
+abbrev pub lent : Loan → Lent
+lent loan = lending loan.groups.now loan.tracks.now loan.segments.now loan.text.now loan.renames.now loan.office.now
 
 -- the catalogue alone, which is all that the card writer and the calls that write objects are lent (SCOPE 5.9)
 abbrev pub catalogue_of : Lent → Tables

@@ -7,7 +7,7 @@ ghost use Rattle.ground.specs.Cases.{pick};
 ghost use Rattle.ground.specs.Limits.{rename_words};
 ghost use Rattle.ground.specs.Lists.{all_below};
 ghost use Rattle.catalogue_titles.specs.Titles.{entry_rule, entries_rule, renames_rule, part_of, front, octets_at, Inside, IsPart};
-ghost use Rattle.catalogue_titles.specs.Lent.{lending, lent_said};
+ghost use Rattle.catalogue_titles.specs.Lent.{lent, lent_said};
 
 use ground::Reason;
 use ground::Refusal;
@@ -26,6 +26,18 @@ pub struct Part {
     pub renamed: bool,
     pub offset: u32,
     pub len: u32,
+}
+
+// What a call on the state is lent beside the state: the four tables of a catalogue, the entries that rename its tracks, and the office's text (SCOPE 5.1, 5.9,
+// 17.5).
+#[derive(Clone, Copy)]
+pub struct Loan<'a> {
+    pub groups: &'a [u32],
+    pub tracks: &'a [u32],
+    pub segments: &'a [u32],
+    pub text: &'a [u8],
+    pub renames: &'a [u32],
+    pub office: &'a [u8],
 }
 
 // Whether one entry is right (SCOPE 5.3). An entry of length 0 renames nothing, and its offset is not looked at (SCOPE 5.2).
@@ -89,18 +101,11 @@ fn renames_right(tracks: &[u32], renames: &[u32], office: &[u8]) -> bool
 }
 
 // The check of all that is lent: fine, or 200, or 224 (SCOPE 4.14, 5.3).
-pub fn check(
-    groups: &[u32],
-    tracks: &[u32],
-    segments: &[u32],
-    text: &[u8],
-    renames: &[u32],
-    office: &[u8],
-) -> Result<(), Refusal>
-    ensures { done_said result ≡ lent_said (lending groups.now tracks.now segments.now text.now renames.now office.now) }
+pub fn check(loan: &Loan) -> Result<(), Refusal>
+    ensures { done_said result ≡ lent_said (lent loan.now) }
 {
-    catalogue_check::check(groups, tracks, segments, text)?;
-    if !renames_right(tracks, renames, office) {
+    catalogue_check::check(loan.groups, loan.tracks, loan.segments, loan.text)?;
+    if !renames_right(loan.tracks, loan.renames, loan.office) {
         return Err(Refusal::from(Reason::BadRenames));
     }
     Ok(())

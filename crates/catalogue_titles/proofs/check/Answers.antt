@@ -8,7 +8,7 @@ use Rattle.ground.proofs.Passed.{passed_on}
 use Rattle.catalogue_check.specs.Catalogue.{catalogue_row, check_said}
 use Rattle.catalogue_check.proofs.Laws.{passed}
 use Rattle.catalogue_titles.specs.Titles.{renames_rule}
-use Rattle.catalogue_titles.specs.Lent.{Lent, lending, catalogue_of, renames_row, lent_said}
+use Rattle.catalogue_titles.specs.Lent.{Lent, lent, catalogue_of, renames_row, lent_said}
 use Rattle.catalogue_titles.proofs.check.Goals as goal
 
 -- what the check says, by the first that fails
@@ -28,17 +28,14 @@ module _ (k : Lent) where
 
 pub returns-in_err-check : goal.returns-in_err-check
 returns-in_err-check c =
-    let a = c.args in
     passed_on _ _ _ c.from_residual.ensures.1
-    (says_catalogue (lending a.groups.now a.tracks.now a.segments.now a.text.now a.renames.now a.office.now) refl c.in_err-check.ensures)
+    (says_catalogue (lent c.args.loan.now) refl c.in_err-check.ensures)
 
 pub returns-then-not-renames_right : goal.returns-then-not-renames_right
 returns-then-not-renames_right c =
-    let a = c.args in
     c.from.ensures
-    ∙ says_renames (lending a.groups.now a.tracks.now a.segments.now a.text.now a.renames.now a.office.now) c.in_ok-check.ensures (sym c.renames_right.ensures ∙ c.if-not-renames_right.true)
+    ∙ says_renames (lent c.args.loan.now) c.in_ok-check.ensures (sym c.renames_right.ensures ∙ c.if-not-renames_right.true)
 
 pub returns : goal.returns
 returns c =
-    let a = c.args in
-    says_fine (lending a.groups.now a.tracks.now a.segments.now a.text.now a.renames.now a.office.now) c.in_ok-check.ensures (sym c.renames_right.ensures ∙ c.if-not-renames_right.false)
+    says_fine (lent c.args.loan.now) c.in_ok-check.ensures (sym c.renames_right.ensures ∙ c.if-not-renames_right.false)
