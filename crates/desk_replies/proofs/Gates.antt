@@ -18,41 +18,30 @@ use Rattle.desk_state.proofs.Laws.{player_stands}
 use Rattle.mcs_state.specs.Codec.{desk_of, desk_octets}
 use Rattle.mcs_state.specs.Stored.{Octets, Plain, Stored}
 use Rattle.mcs_state.proofs.Stored.{stands_plain}
-use Rattle.desk_replies.specs.declared.Answer.{Answer}
-use Rattle.desk_replies.specs.declared.Gate.{Gate}
-use Rattle.desk_replies.specs.Replies.{said_of, state_right, fronted, Gated, Answers}
+use Rattle.std.specs.Prelude.{Result}
+use Rattle.ground.specs.declared.Refusal.{Refusal}
+use Rattle.desk_replies.specs.declared.Reply.{Reply}
+use Rattle.desk_replies.specs.Replies.{said_of, state_right, fronted, Answers}
 
-module _ (rows : List Row) (g : Gate) (gated : Gated rows g) where
-  -- the gate is shut: its answer is the call's, whatever rows and work stand behind
-  pub refuses : {A : Type 0} → g.passes ≡ false → (refuse : Said → A) (behind : List Row) (work : A) → refuse (said_of g.answer) ≡ answered refuse (rows ++ behind) work
-  refuses {A} e refuse behind work =
-      let q = more rows behind (sym gated.1 ∙ e) in
-      ap refuse (gated.0 ∙ q) ∙ shut refuse (rows ++ behind) work (sym (ap (λ (s : Said). s.is_granted) q) ∙ sym gated.1 ∙ e)
+-- what is said of rows that are asked first
+module _ (rows : List Row) {said : Said} (e : said ≡ said_by rows) where
+  -- they refuse: that is what a call says, whatever rows and work stand behind
+  pub refuses : {A : Type 0} → said.is_granted ≡ false → (refuse : Said → A) (behind : List Row) (work : A) → refuse said ≡ answered refuse (rows ++ behind) work
+  refuses {A} h refuse behind work =
+      let q = more rows behind (sym (ap (λ (s : Said). s.is_granted) e) ∙ h) in
+      ap refuse (e ∙ q) ∙ shut refuse (rows ++ behind) work (sym (ap (λ (s : Said). s.is_granted) (e ∙ q)) ∙ h)
 
-  -- and it is a refusal
-  pub shut_gate : g.passes ≡ false → (said_of g.answer).is_granted ≡ false
-  shut_gate e = ap (λ (s : Said). s.is_granted) gated.0 ∙ sym gated.1 ∙ e
+  -- and what more rows say
+  pub stays_shut : said.is_granted ≡ false → (behind : List Row) → said ≡ said_by (rows ++ behind)
+  stays_shut h behind = e ∙ more rows behind (sym (ap (λ (s : Said). s.is_granted) e) ∙ h)
 
-  -- a gate of more rows is shut with it
-  pub stays_shut : g.passes ≡ false → (behind : List Row) → Gated (rows ++ behind) g
-  stays_shut e behind =
-      let q = more rows behind (sym gated.1 ∙ e) in
-      (gated.0 ∙ q, gated.1 ∙ ap (λ (s : Said). s.is_granted) q)
+  -- they do not: none of them applies
+  pub none : said.is_granted ≡ true → NoneApplies rows
+  none h = kept rows (granted []) (sym (ap (λ (s : Said). s.is_granted) e) ∙ h)
 
-  -- it passes: none of its rows applies
-  pub none : g.passes ≡ true → NoneApplies rows
-  none e = kept rows (granted []) (sym gated.1 ∙ e)
-
-  -- and it is a gate of more rows of which none applies
-  pub stays_open : g.passes ≡ true → (behind : List Row) → NoneApplies behind → Gated (rows ++ behind) g
-  stays_open e behind n =
-      let q : granted [] ≡ said_by (rows ++ behind) = beyond rows behind (none e) (all_of behind n) in
-      let p : granted [] ≡ said_by rows = all_of rows (none e) in
-      (gated.0 ∙ sym p ∙ q, gated.1 ∙ ap (λ (s : Said). s.is_granted) (sym p ∙ q))
-
--- a gate that says what the rows say
-pub says : (rows : List Row) (g : Gate) (said : Said) → said_of g.answer ≡ said → g.passes ≡ said.is_granted → said ≡ said_by rows → Gated rows g
-says rows g said p q e = (p ∙ e, q ∙ ap (λ (s : Said). s.is_granted) e)
+  -- and what stands behind them is said
+  pub says_behind : said.is_granted ≡ true → {own : Said} (behind : List Row) → own ≡ said_by behind → own ≡ said_by (rows ++ behind)
+  says_behind h behind q = beyond rows behind (none h) q
 
 -- neither 200 nor 224 applies: what is lent is fit
 pub none_fit : (k : Lent) → NoneApplies (fit_rows k) → Fit k
@@ -74,25 +63,24 @@ module _ (k : Lent) (small : Bool) (d : Desk) (behind : List Row) (passed : None
 pub plain_so : (k : Lent) (small : Bool) (old : List ℕ) (behind : List Row) → NoneApplies (fronted k small (desk_of old) ++ behind) → 649 ≤ length old → Octets old → Plain old
 plain_so k small old behind n long octets = stands_plain k.groups k.tracks old long octets (stands k small (desk_of old) behind n)
 
--- the lent output: as it was where the gate does not pass, its front filled where the call is accepted
-pub as_it_was : (rows : List Row) (g : Gate) → Gated rows g → g.passes ≡ false → (said : Said) → said ≡ said_of g.answer → (octets old : List ℕ)
-    → old ≡ table_after said octets old
-as_it_was rows g gated e said q octets old = past _ (ap (λ (s : Said). s.is_granted) (q ∙ gated.0) ∙ sym gated.1 ∙ e) refl
+-- the lent output: as it was where the call is refused, its front filled where it is accepted
+pub as_it_was : (said : Said) → said.is_granted ≡ false → (octets old : List ℕ) → old ≡ table_after said octets old
+as_it_was said h octets old = past _ h refl
 
 pub shown : (said : Said) (values octets old : List ℕ) → said ≡ granted values → filled octets old ≡ table_after said octets old
 shown said values octets old e = here _ (ap (λ (s : Said). s.is_granted) e) refl
 
 -- a call that is refused leaves what there was, whatever state stands beside its refusal
-pub refused_as : (l : Left Desk) (old : List ℕ) (answer : Answer) → said_of answer ≡ l.said → (said_of answer).is_granted ≡ false → Answers l old answer old
+pub refused_as : (l : Left Desk) (old : List ℕ) (answer : Result Reply Refusal) → said_of answer ≡ l.said → (said_of answer).is_granted ≡ false → Answers l old answer old
 refused_as l old answer said shut-so =
     let not-accepted : l.said.is_granted ≡ false = sym (ap (λ (s : Said). s.is_granted) said) ∙ shut-so in
     record { said = said; octets = past _ not-accepted refl; state = past _ not-accepted refl }
 
-pub refused_so : (l : Left Desk) (old : List ℕ) (answer : Answer) → leaves (said_of answer) (desk_of old) ≡ l → (said_of answer).is_granted ≡ false → Answers l old answer old
+pub refused_so : (l : Left Desk) (old : List ℕ) (answer : Result Reply Refusal) → leaves (said_of answer) (desk_of old) ≡ l → (said_of answer).is_granted ≡ false → Answers l old answer old
 refused_so l old answer e = refused_as l old answer (ap (λ (x : Left Desk). x.said) e)
 
 -- a call that is accepted leaves the octets of the next state
-pub accepted_so : (l : Left Desk) (old : List ℕ) (answer : Answer) (d : Desk) (new : List ℕ) → leaves (said_of answer) d ≡ l → (said_of answer).is_granted ≡ true → Stored d old new → Answers l old answer new
+pub accepted_so : (l : Left Desk) (old : List ℕ) (answer : Result Reply Refusal) (d : Desk) (new : List ℕ) → leaves (said_of answer) d ≡ l → (said_of answer).is_granted ≡ true → Stored d old new → Answers l old answer new
 accepted_so l old answer d new e open-so stored =
     let said : said_of answer ≡ l.said = ap (λ (x : Left Desk). x.said) e in
     let accepted : l.said.is_granted ≡ true = sym (ap (λ (s : Said). s.is_granted) said) ∙ open-so in

@@ -1,8 +1,8 @@
 -- What a call on the whole says and leaves (SCOPE 20.1), and the rows of the table of refusals that many calls share (SCOPE 20.2 and 20.3).
 -- Assumes nothing.
-use Rattle.std.specs.Prelude.{◌≡◌, Bool, false, not, List, [], ◌∷◌, ◌++◌, ℕ, leb, drop}
+use Rattle.std.specs.Prelude.{◌≡◌, Bool, false, not, List, [], ◌∷◌, ◌++◌, ℕ, leb, drop, Result}
 use Rattle.ground.specs.Cases.{pick}
-use Rattle.ground.specs.Refusals.{Said, granted, refusal_of, Left, keeping, Row, row, answered, said_by}
+use Rattle.ground.specs.Refusals.{Said, answer_said, Left, keeping, Row, row, answered}
 use Rattle.catalogue_titles.specs.Lent.{Lent, fit_rows}
 use Rattle.desk_slots.specs.Slots.{service_count, client_count}
 use Rattle.desk_slots.specs.Characteristics.{every_one, is_in}
@@ -11,24 +11,26 @@ use Rattle.desk_client.specs.declared.Account.{Account}
 use Rattle.desk_state.specs.declared.Desk.{Desk}
 use Rattle.desk_state.specs.Desk.{link_at, service_at, account_in, desk_rule}
 use Rattle.mcs_state.specs.Codec.{desk_of, desk_octets}
-use Rattle.desk_replies.specs.declared.Answer.{Answer}
-use Rattle.desk_replies.specs.declared.Answer.TheVariants.{Done, Octets, Served, Handed, Refused}
-use Rattle.desk_replies.specs.declared.Gate.{Gate}
+use Rattle.ground.specs.declared.Refusal.{Refusal}
+use Rattle.desk_replies.specs.declared.Reply.{Reply}
+use Rattle.desk_replies.specs.declared.Reply.TheVariants.{Done, Octets, Served, Handed}
 
--- the number and the values of each answer (SCOPE 20.2)
-abbrev pub said_of : Answer → Said
-said_of Done = granted []
-said_of (Octets n) = granted (n ∷ [])
-said_of (Served who service characteristic n) = granted (who ∷ service ∷ characteristic ∷ n ∷ [])
-said_of (Handed service characteristic n) = granted (service ∷ characteristic ∷ n ∷ [])
-said_of (Refused r) = refusal_of r
+-- the values of each reply (SCOPE 20.2), and what an answer says
+abbrev pub values_of : Reply → List ℕ
+values_of Done = []
+values_of (Octets n) = n ∷ []
+values_of (Served who service characteristic n) = who ∷ service ∷ characteristic ∷ n ∷ []
+values_of (Handed service characteristic n) = service ∷ characteristic ∷ n ∷ []
+
+abbrev pub said_of : Result Reply Refusal → Said
+said_of = answer_said values_of
 
 -- the octets of the next state, or as they were
 abbrev pub state_after : Left Desk → List ℕ → List ℕ
 state_after l old = pick l.said.is_granted (desk_octets l.state ++ drop 649 old) old
 
 -- what a call on a state's octets comes to: what it says, the octets that it leaves, and the state that they are
-pub record Answers (l : Left Desk) (old : List ℕ) (answer : Answer) (new : List ℕ) : Type 0 where
+pub record Answers (l : Left Desk) (old : List ℕ) (answer : Result Reply Refusal) (new : List ℕ) : Type 0 where
   pub said : said_of answer ≡ l.said
   pub octets : new ≡ state_after l old
   pub state : desk_of new ≡ pick l.said.is_granted l.state (desk_of old)
@@ -85,7 +87,3 @@ link_of d who = link_at d.links who
 
 abbrev pub account_of : Desk → ℕ → ℕ → Account
 account_of d who service = account_in (service_at d service) who
-
--- what a gate says of rows: the first that applies, and whether none does
-abbrev pub Gated : List Row → Gate → Type 0
-Gated rows g = (said_of g.answer ≡ said_by rows) × (g.passes ≡ (said_by rows).is_granted)

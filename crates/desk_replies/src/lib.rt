@@ -1,14 +1,19 @@
 // What the calls on the whole answer, and the rows of the refusal table that many of them share.
 #![tactic(auto)]
 
-ghost use Rattle.std.specs.Prelude.{◌≡◌, false, true, [], ◌∷◌, ◌++◌, ◌≤◌, length};
-ghost use Rattle.ground.specs.Refusals.{granted, refused, refusal_of};
-ghost use Rattle.catalogue_titles.specs.Lent.{lending};
+ghost use Rattle.std.specs.Prelude.{◌≡◌, [], ◌∷◌, ◌++◌, ◌≤◌, length};
+ghost use Rattle.ground.specs.Refusals.{done_said, said_by, number_of};
+ghost use Rattle.catalogue_titles.specs.Lent.{lent};
 ghost use Rattle.mcs_state.specs.Codec.{desk_of};
-ghost use Rattle.desk_replies.specs.Replies.{said_of, Gated, lent_rows, fronted, on_service, client_row, of_caller, of_characteristic, link_of};
+ghost use Rattle.desk_replies.specs.Replies.{lent_rows, fronted, on_service, client_row, of_caller, of_characteristic, link_of};
 
-#[derive(Clone, Copy)]
-pub enum Answer {
+use catalogue_titles::Loan;
+use ground::Reason;
+use ground::Refusal;
+
+// What a call on the whole answers where it is accepted; where it is not, its answer is a refusal.
+#[derive(Clone, Copy, PartialEq, Eq)]
+pub enum Reply {
     // Accepted. Of a take: nothing is owed.
     Done,
     // A read handed out so many octets.
@@ -17,216 +22,101 @@ pub enum Answer {
     Served(u32, u32, u32, usize),
     // A take of a client's own record handed out, of this service, this characteristic in so many octets.
     Handed(u32, u32, usize),
-    Refused(ground::Refusal),
-}
-
-// Whether a call may go on, or what it answers.
-#[derive(Clone, Copy)]
-pub struct Gate {
-    pub passes: bool,
-    pub answer: Answer,
-}
-
-// A refusal by its number alone.
-pub fn refuse(number: u32) -> Answer
-    ensures { said_of result ≡ refused number }
-{
-    let r = ground::refuse(number);
-    Answer::Refused(r)
-}
-
-pub fn gate_open() -> Gate
-    ensures { (said_of result.answer ≡ granted []) × (result.passes ≡ true) }
-{
-    Gate {
-        passes: true,
-        answer: Answer::Done,
-    }
-}
-
-pub fn gate_with(refusal: ground::Refusal) -> Gate
-    ensures { (said_of result.answer ≡ refusal_of refusal) × (result.passes ≡ false) }
-{
-    Gate {
-        passes: false,
-        answer: Answer::Refused(refusal),
-    }
-}
-
-pub fn gate_shut(number: u32) -> Gate
-    ensures { (said_of result.answer ≡ refused number) × (result.passes ≡ false) }
-{
-    let refusal = ground::refuse(number);
-    gate_with(refusal)
 }
 
 // 200, 224, 205. small: the lent output has under 128 octets; false where none is lent.
-pub fn lent_gate(
-    groups: &[u32],
-    tracks: &[u32],
-    segments: &[u32],
-    text: &[u8],
-    renames: &[u32],
-    office: &[u8],
-    small: bool,
-) -> Gate
-    ensures { Gated (lent_rows (lending groups.now tracks.now segments.now text.now renames.now office.now) small) result }
+pub fn lent_gate(loan: &Loan, small: bool) -> Result<(), Refusal>
+    ensures { done_said result ≡ said_by (lent_rows (lent loan.now) small) }
 {
-    let c = catalogue_titles::check(groups, tracks, segments, text, renames, office);
-    match c {
-        catalogue_check::Catalogue::Refused(refusal) => gate_with(refusal),
-        catalogue_check::Catalogue::Fine => {
-            if small {
-                return gate_shut(ground::SMALL_OUTPUT);
-            }
-            gate_open()
-        }
+    catalogue_titles::check(loan)?;
+    if small {
+        return Err(Refusal::from(Reason::SmallOutput));
     }
+    Ok(())
 }
 
 // 200, 224, 205, 201: the state is looked at last.
-pub fn front_gate(
-    groups: &[u32],
-    tracks: &[u32],
-    segments: &[u32],
-    text: &[u8],
-    renames: &[u32],
-    office: &[u8],
-    small: bool,
-    state: &[u8],
-) -> Gate
+pub fn front_gate(loan: &Loan, small: bool, state: &[u8]) -> Result<(), Refusal>
     requires { 649 ≤ length state.now }
-    ensures { Gated (fronted (lending groups.now tracks.now segments.now text.now renames.now office.now) small (desk_of state.now)) result }
+    ensures { done_said result ≡ said_by (fronted (lent loan.now) small (desk_of state.now)) }
 {
-    let g = lent_gate(groups, tracks, segments, text, renames, office, small);
-    if !g.passes {
-        return g;
+    lent_gate(loan, small)?;
+    if !mcs_state::desk_right(loan.groups, loan.tracks, state) {
+        return Err(Refusal::from(Reason::BadState));
     }
-    if mcs_state::desk_right(groups, tracks, state) {
-        return g;
-    }
-    gate_shut(ground::BAD_STATE)
+    Ok(())
 }
 
 // The same, and then 219: of a call on a service.
-pub fn service_gate(
-    groups: &[u32],
-    tracks: &[u32],
-    segments: &[u32],
-    text: &[u8],
-    renames: &[u32],
-    office: &[u8],
-    state: &[u8],
-    service: u32,
-) -> Gate
+pub fn service_gate(loan: &Loan, state: &[u8], service: u32) -> Result<(), Refusal>
     requires { 649 ≤ length state.now }
-    ensures { Gated (on_service (lending groups.now tracks.now segments.now text.now renames.now office.now) (desk_of state.now) service) result }
+    ensures { done_said result ≡ said_by (on_service (lent loan.now) (desk_of state.now) service) }
 {
-    let g = front_gate(
-        groups, tracks, segments, text, renames, office, false, state,
-    );
-    if !g.passes {
-        return g;
-    }
+    front_gate(loan, false, state)?;
     if desk_slots::SERVICES <= service {
-        return gate_shut(ground::NO_SERVICE);
+        return Err(Refusal::from(Reason::NoService));
     }
-    g
+    Ok(())
 }
 
 // The same as the first, and then 202: of a call by a client.
-pub fn client_gate(
-    groups: &[u32],
-    tracks: &[u32],
-    segments: &[u32],
-    text: &[u8],
-    renames: &[u32],
-    office: &[u8],
-    small: bool,
-    state: &[u8],
-    who: u32,
-) -> Gate
+pub fn client_gate(loan: &Loan, small: bool, state: &[u8], who: u32) -> Result<(), Refusal>
     requires { 649 ≤ length state.now }
-    ensures { Gated (fronted (lending groups.now tracks.now segments.now text.now renames.now office.now) small (desk_of state.now) ++ (client_row who ∷ [])) result }
+    ensures { done_said result ≡ said_by (fronted (lent loan.now) small (desk_of state.now) ++ (client_row who ∷ [])) }
 {
-    let g = front_gate(
-        groups, tracks, segments, text, renames, office, small, state,
-    );
-    if !g.passes {
-        return g;
-    }
+    front_gate(loan, small, state)?;
     if desk_slots::CLIENTS <= who {
-        return gate_shut(ground::NO_CLIENT);
+        return Err(Refusal::from(Reason::NoClient));
     }
-    g
+    Ok(())
 }
 
 // The same, and then 219 and 203: of a call by a connected client on a service.
 pub fn caller_gate(
-    groups: &[u32],
-    tracks: &[u32],
-    segments: &[u32],
-    text: &[u8],
-    renames: &[u32],
-    office: &[u8],
+    loan: &Loan,
     small: bool,
     state: &[u8],
     who: u32,
     service: u32,
-) -> Gate
+) -> Result<(), Refusal>
     requires { 649 ≤ length state.now }
-    ensures { Gated (fronted (lending groups.now tracks.now segments.now text.now renames.now office.now) small (desk_of state.now) ++ of_caller who service (link_of (desk_of state.now) who).connected) result }
+    ensures { done_said result ≡ said_by (fronted (lent loan.now) small (desk_of state.now) ++ of_caller who service (link_of (desk_of state.now) who).connected) }
 {
-    let g = client_gate(
-        groups, tracks, segments, text, renames, office, small, state, who,
-    );
-    if !g.passes {
-        return g;
-    }
+    client_gate(loan, small, state, who)?;
     if desk_slots::SERVICES <= service {
-        return gate_shut(ground::NO_SERVICE);
+        return Err(Refusal::from(Reason::NoService));
     }
     let l = mcs_state::link_at(state, who);
     if !l.connected {
-        return gate_shut(ground::NOT_CONNECTED);
+        return Err(Refusal::from(Reason::NotConnected));
     }
-    g
+    Ok(())
 }
 
-// The same, and then what read, write, subscribe and unsubscribe ask of the characteristic; `number` is the refusal where it is not allowed.
+// The same, and then what read, write, subscribe and unsubscribe ask of the characteristic; `reason` is that of the refusal where it is not allowed.
 pub fn characteristic_gate(
-    groups: &[u32],
-    tracks: &[u32],
-    segments: &[u32],
-    text: &[u8],
-    renames: &[u32],
-    office: &[u8],
+    loan: &Loan,
     small: bool,
     state: &[u8],
     who: u32,
     service: u32,
     characteristic: u32,
-    number: u32,
+    reason: Reason,
     allowed: bool,
-) -> Gate
+) -> Result<(), Refusal>
     requires { 649 ≤ length state.now }
-    ensures { Gated (fronted (lending groups.now tracks.now segments.now text.now renames.now office.now) small (desk_of state.now) ++ (of_caller who service (link_of (desk_of state.now) who).connected ++ of_characteristic (link_of (desk_of state.now) who).encrypted characteristic number allowed)) result }
+    ensures { done_said result ≡ said_by (fronted (lent loan.now) small (desk_of state.now) ++ (of_caller who service (link_of (desk_of state.now) who).connected ++ of_characteristic (link_of (desk_of state.now) who).encrypted characteristic (number_of reason) allowed)) }
 {
-    let g = caller_gate(
-        groups, tracks, segments, text, renames, office, small, state, who, service,
-    );
-    if !g.passes {
-        return g;
-    }
+    caller_gate(loan, small, state, who, service)?;
     if !desk_slots::is_characteristic(characteristic) {
-        return gate_shut(ground::NO_CHARACTERISTIC);
+        return Err(Refusal::from(Reason::NoCharacteristic));
     }
     if !allowed {
-        return gate_shut(number);
+        return Err(Refusal::from(reason));
     }
     let l = mcs_state::link_at(state, who);
     if !l.encrypted {
-        return gate_shut(ground::NOT_ENCRYPTED);
+        return Err(Refusal::from(Reason::NotEncrypted));
     }
-    g
+    Ok(())
 }

@@ -8,11 +8,11 @@ ghost use Rattle.player_check.specs.Standing.{name_row, group_rule, name_rule, m
 ghost use Rattle.player_state.specs.Modes.{rungs};
 
 // A name that is handed in: at most 128 octets of UTF-8, or where it is wrong (SCOPE 8.3, 20.4).
-pub fn check_name(name: &[u8]) -> text::Checked
+pub fn check_name(name: &[u8]) -> Result<(), text::NotText>
     ensures { said_of result ≡ said_by (name_row name.now ∷ []) }
 {
     if ground::MOST_TITLE < name.len() {
-        return text::Checked::BadAt(ground::MOST_TITLE);
+        return Err(text::NotText { at: ground::MOST_TITLE });
     }
     text::check(name)
 }

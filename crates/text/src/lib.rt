@@ -1,14 +1,29 @@
 // UTF-8 (SCOPE 2.5, 2.6): whether octets are text, and if not, where.
 #![tactic(auto)]
 
-ghost use Rattle.std.specs.Prelude.{◌≡◌, true, ◌&&◌, ℕ, ◌+◌, ◌<◌, ◌≤◌, length, get_or, drop};
+ghost use Rattle.std.specs.Prelude.{◌≡◌, true, ◌&&◌, ℕ, ◌+◌, ◌<◌, ◌≤◌, length, get_or, drop, [], ◌∷◌};
 ghost use Rattle.ground.specs.Cases.{pick, within};
+ghost use Rattle.ground.specs.Refusals.{refused_with, refusal_of};
 ghost use Rattle.text.specs.Utf8.{is_tail, char_of, char_length, text_of, is_fine, said_of, text_said};
+
+use ground::Reason;
+use ground::Refusal;
 
 // Why octets are not text: the offset of the first one that does not start a whole valid character. All before it are whole valid characters.
 #[derive(Clone, Copy, PartialEq, Eq)]
 pub struct NotText {
     pub at: usize,
+}
+
+// As a name it is refused with 207, which carries the offset (SCOPE 20.4).
+impl From<NotText> for Refusal {
+    ghost from_gives = { λ e refusal. refusal_of refusal ≡ refused_with 207 (e.at ∷ []) };
+
+    fn from(e: NotText) -> Refusal
+        ensures { refusal_of result ≡ refused_with 207 (e.at ∷ []) }
+    {
+        Reason::BadName.at(e.at)
+    }
 }
 
 fn is_within(low: u8, high: u8, x: u8) -> bool

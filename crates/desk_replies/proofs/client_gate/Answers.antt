@@ -1,35 +1,35 @@
 -- `desk_replies::client_gate`: 200, 205, 201, 202, the first that applies.
-use mathlib.Core.Path.{refl}
-use mathlib.Core.List.{List, [], ◌∷◌, ◌++◌}
-use borrow.Author.Tests.{le-leb, lt-leb, not-true, not-false}
-use Rattle.ground.specs.Refusals.{refused, Row}
-use Rattle.ground.proofs.Cases.{here}
-use Rattle.ground.proofs.Rows.{beyond}
-use Rattle.catalogue_titles.specs.Lent.{Lent, lending}
+use mathlib.Core.Path.{refl, ap}
+use mathlib.Core.Bool.{false}
+use mathlib.Core.List.{[], ◌∷◌}
+use borrow.Author.Tests.{le-leb, lt-leb}
+use Rattle.ground.specs.Refusals.{row, refused}
+use Rattle.ground.proofs.Cases.{past, here}
+use Rattle.ground.proofs.Passed.{passed_on}
+use Rattle.catalogue_titles.specs.Lent.{lent}
 use Rattle.mcs_state.specs.Codec.{desk_of}
 use Rattle.desk_replies.specs.Replies.{fronted, client_row}
-use Rattle.desk_replies.proofs.Gates.{says, none, stays_shut, stays_open}
+use Rattle.desk_replies.proofs.Gates.{stays_shut, says_behind}
 use Rattle.desk_replies.proofs.client_gate.Goals as goal
 
-pub returns-then-not-g : goal.returns-then-not-g
-returns-then-not-g c =
-    let lent : Lent = lending c.args.groups.now c.args.tracks.now c.args.segments.now c.args.text.now c.args.renames.now c.args.office.now in
-    let front : List Row = fronted (lent) c.args.small (desk_of c.args.state.now) in
-    let own : List Row = client_row c.args.who ∷ [] in
-    stays_shut (front) c.front_gate-g.result c.front_gate-g.ensures (not-true _ c.if-not-g.true) (own)
+pub returns-in_err-front_gate : goal.returns-in_err-front_gate
+returns-in_err-front_gate c =
+    let a = c.args in
+    passed_on _ _ _ c.from_residual.ensures.1
+    (stays_shut (fronted (lent a.loan.now) a.small (desk_of a.state.now)) c.in_err-front_gate.ensures refl
+    (client_row a.who ∷ []))
 
 pub returns-then-who-ge-CLIENTS : goal.returns-then-who-ge-CLIENTS
 returns-then-who-ge-CLIENTS c =
-    let lent : Lent = lending c.args.groups.now c.args.tracks.now c.args.segments.now c.args.text.now c.args.renames.now c.args.office.now in
-    let front : List Row = fronted (lent) c.args.small (desk_of c.args.state.now) in
-    let own : List Row = client_row c.args.who ∷ [] in
-    let n = none (front) c.front_gate-g.result c.front_gate-g.ensures (not-false _ c.if-not-g.false) in
-    says (front ++ own) c.gate_shut.result (refused 202) c.gate_shut.ensures.0 c.gate_shut.ensures.1
-    (beyond (front) (own) n (here _ (le-leb _ _ c.if-who-ge-CLIENTS.true) refl))
+    let a = c.args in
+    says_behind (fronted (lent a.loan.now) a.small (desk_of a.state.now)) c.in_ok-front_gate.ensures refl
+    (client_row a.who ∷ [])
+    (here _ (le-leb _ _ c.if-who-ge-CLIENTS.true) c.from.ensures)
 
 pub returns : goal.returns
 returns c =
-    let lent : Lent = lending c.args.groups.now c.args.tracks.now c.args.segments.now c.args.text.now c.args.renames.now c.args.office.now in
-    let front : List Row = fronted (lent) c.args.small (desk_of c.args.state.now) in
-    let own : List Row = client_row c.args.who ∷ [] in
-    stays_open (front) c.front_gate-g.result c.front_gate-g.ensures (not-false _ c.if-not-g.false) (own) (lt-leb _ _ c.if-who-ge-CLIENTS.false, tt)
+    let a = c.args in
+    says_behind (fronted (lent a.loan.now) a.small (desk_of a.state.now)) c.in_ok-front_gate.ensures refl
+    (client_row a.who ∷ [])
+    (past (refused 202) (lt-leb _ _ c.if-who-ge-CLIENTS.false) refl)
+

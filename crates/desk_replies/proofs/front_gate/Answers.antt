@@ -1,34 +1,34 @@
 -- `desk_replies::front_gate`: 200, 224 and 205 first; what the state check says where neither applies.
 use mathlib.Core.Path.{refl, sym, ap, ◌∙◌}
-use mathlib.Core.Bool.{not}
-use mathlib.Core.List.{List, [], ◌∷◌}
-use Rattle.ground.specs.Refusals.{refused, Row}
+use mathlib.Core.Bool.{false, not}
+use mathlib.Core.List.{[], ◌∷◌}
+use Rattle.ground.specs.Refusals.{row, refused}
 use Rattle.ground.proofs.Cases.{past, here}
-use Rattle.catalogue_titles.specs.Lent.{Lent, lending}
+use Rattle.ground.proofs.Passed.{passed_on}
+use Rattle.catalogue_titles.specs.Lent.{lent}
 use Rattle.mcs_state.specs.Codec.{desk_of}
-use Rattle.desk_replies.specs.Replies.{state_row, state_right, lent_rows, fronted}
-use Rattle.desk_replies.proofs.Gates.{says, none, stays_shut, stays_open}
-use borrow.Author.Tests.{not-true, not-false}
+use Rattle.desk_replies.specs.Replies.{state_row, state_right, lent_rows}
+use Rattle.desk_replies.proofs.Gates.{stays_shut, says_behind}
 use Rattle.desk_replies.proofs.front_gate.Goals as goal
 
-pub returns-then-not-g : goal.returns-then-not-g
-returns-then-not-g c =
-    let lent : Lent = lending c.args.groups.now c.args.tracks.now c.args.segments.now c.args.text.now c.args.renames.now c.args.office.now in
-    let rows : List Row = lent_rows (lent) c.args.small in
-    let last : List Row = state_row (state_right (lent) (desk_of c.args.state.now)) ∷ [] in
-    stays_shut (rows) c.lent_gate-g.result c.lent_gate-g.ensures (not-true _ c.if-not-g.true) (last)
+pub returns-in_err-lent_gate : goal.returns-in_err-lent_gate
+returns-in_err-lent_gate c =
+    let a = c.args in
+    passed_on _ _ _ c.from_residual.ensures.1
+    (stays_shut (lent_rows (lent a.loan.now) a.small) c.in_err-lent_gate.ensures refl
+    (state_row (state_right (lent a.loan.now) (desk_of a.state.now)) ∷ []))
 
-pub returns-then-desk_right : goal.returns-then-desk_right
-returns-then-desk_right c =
-    let lent : Lent = lending c.args.groups.now c.args.tracks.now c.args.segments.now c.args.text.now c.args.renames.now c.args.office.now in
-    let rows : List Row = lent_rows (lent) c.args.small in
-    let last : List Row = state_row (state_right (lent) (desk_of c.args.state.now)) ∷ [] in
-    stays_open (rows) c.lent_gate-g.result c.lent_gate-g.ensures (not-false _ c.if-not-g.false) (last) (ap not (sym c.desk_right.ensures ∙ c.if-desk_right.true), tt)
+pub returns-then-not-desk_right : goal.returns-then-not-desk_right
+returns-then-not-desk_right c =
+    let a = c.args in
+    says_behind (lent_rows (lent a.loan.now) a.small) c.in_ok-lent_gate.ensures refl
+    (state_row (state_right (lent a.loan.now) (desk_of a.state.now)) ∷ [])
+    (here _ (ap not (sym c.desk_right.ensures ∙ c.if-not-desk_right.true)) c.from.ensures)
 
 pub returns : goal.returns
 returns c =
-    let lent : Lent = lending c.args.groups.now c.args.tracks.now c.args.segments.now c.args.text.now c.args.renames.now c.args.office.now in
-    let rows : List Row = lent_rows (lent) c.args.small in
-    let n = none (rows) c.lent_gate-g.result c.lent_gate-g.ensures (not-false _ c.if-not-g.false) in
-    says (fronted (lent) c.args.small (desk_of c.args.state.now)) c.gate_shut.result (refused 201) c.gate_shut.ensures.0 c.gate_shut.ensures.1
-    (past _ n.0 (past _ n.1.0 (past _ n.1.1.0 (here _ (ap not (sym c.desk_right.ensures ∙ c.if-desk_right.false)) refl))))
+    let a = c.args in
+    says_behind (lent_rows (lent a.loan.now) a.small) c.in_ok-lent_gate.ensures refl
+    (state_row (state_right (lent a.loan.now) (desk_of a.state.now)) ∷ [])
+    (past (refused 201) (ap not (sym c.desk_right.ensures ∙ c.if-not-desk_right.false)) refl)
+

@@ -9,8 +9,8 @@ use lib.ListN.{length}
 use Rattle.ground.specs.Cases.{pick}
 use Rattle.ground.specs.Limits.{most_title}
 use Rattle.ground.specs.Refusals.{granted, refused_with, said_by}
-use Rattle.text.specs.declared.Checked.{Checked}
-use Rattle.text.specs.declared.Checked.TheVariants.{Fine, BadAt}
+use Rattle.std.specs.Prelude.{Result, Ok, Err}
+use Rattle.text.specs.declared.NotText.{NotText}
 use Rattle.text.specs.Utf8.{text_of, text_said, is_fine, said_of}
 use Rattle.player_check.specs.Standing.{text_rule, name_carries, name_row}
 use Rattle.player_check.proofs.check_name.Goals as goal
@@ -23,9 +23,9 @@ short : (name : List ℕ) → leb (length name) most_title ≡ true → text_sai
 unfolding text_rule name_carries text_said
 short name h = rw h (by (text_of name))
   where
-    by : (c : Checked) → said_of c ≡ pick (not (is_fine c)) (refused_with 207 (said_of c).values) (granted [])
-    by Fine = refl
-    by (BadAt at) = refl
+    by : (c : Result Unit NotText) → said_of c ≡ pick (not (is_fine c)) (refused_with 207 (said_of c).values) (granted [])
+    by (Ok u) = refl
+    by (Err e) = refl
 
 pub returns-then-name-gt-MOST_TITLE : goal.returns-then-name-gt-MOST_TITLE
 returns-then-name-gt-MOST_TITLE c =
