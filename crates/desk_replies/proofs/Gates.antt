@@ -5,7 +5,8 @@ use mathlib.Core.List.{List, [], ◌++◌}
 use lib.ListN.{length, drop}
 use Prim.Native.Nat.{ℕ, ◌≤◌, ◌<◌}
 use borrow.Author.Tests.{not-false}
-use Rattle.ground.specs.Refusals.{Said, granted, Left, leaves, Row, answered, said_by}
+use Rattle.ground.specs.Refusals.{Said, granted, refusal_of, Left, leaves, keeping, Row, answered, said_by}
+use Rattle.ground.proofs.Passed.{passed_on}
 use Rattle.ground.specs.Lists.{filled, table_after}
 use Rattle.ground.proofs.Cases.{past, here}
 use Rattle.ground.proofs.Rows.{NoneApplies, shut, kept, more, beyond, all_of}
@@ -19,9 +20,10 @@ use Rattle.mcs_state.specs.Codec.{desk_of, desk_octets}
 use Rattle.mcs_state.specs.Stored.{Octets, Plain, Stored}
 use Rattle.mcs_state.proofs.Stored.{stands_plain}
 use Rattle.std.specs.Prelude.{Result}
+use Rattle.std.specs.Result.{IsErrAnd}
 use Rattle.ground.specs.declared.Refusal.{Refusal}
 use Rattle.desk_replies.specs.declared.Reply.{Reply}
-use Rattle.desk_replies.specs.Replies.{said_of, state_right, fronted, Answers}
+use Rattle.desk_replies.specs.Replies.{values_of, said_of, state_right, fronted, Answers}
 
 -- what is said of rows that are asked first
 module _ (rows : List Row) {said : Said} (e : said ≡ said_by rows) where
@@ -90,3 +92,12 @@ accepted_so l old answer d new e open-so stored =
       octets = here _ accepted (stored.octets ∙ ap (λ (x : Desk). desk_octets x ++ drop 649 old) next);
       state = here _ accepted (stored.state ∙ next);
     }
+
+-- a call whose gate refuses hands that on, and leaves what there was
+pub gate_refuses : (rows behind : List Row) (old : List ℕ) (work : Left Desk) (answer : Result Reply Refusal) (e : Refusal)
+    → IsErrAnd answer (λ x. x ≡ e) → refusal_of e ≡ said_by rows → Answers (answered (keeping (desk_of old)) (rows ++ behind) work) old answer old
+gate_refuses rows behind old work answer e handed known =
+    let said : said_of answer ≡ refusal_of e = passed_on values_of answer e handed refl in
+    refused_so _ old answer
+    (ap (keeping (desk_of old)) said ∙ refuses rows known refl (keeping (desk_of old)) behind work)
+    (ap (λ (s : Said). s.is_granted) said)

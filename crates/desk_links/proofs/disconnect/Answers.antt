@@ -1,78 +1,68 @@
--- `desk_links::disconnect`: 200, 201, 202, 203, then start's record.
-use mathlib.Core.Path.{◌≡◌, refl, sym, ap, ◌∙◌}
+-- `desk_links::disconnect`: 200, 201, 202, 203, then the record of start.
+use mathlib.Core.Path.{refl, sym, ap, ◌∙◌}
 use mathlib.Core.Bool.{false, not}
 use mathlib.Core.List.{List, [], ◌∷◌, ◌++◌}
-use borrow.Author.Tests.{leb-false, not-true, not-false}
-use Rattle.ground.specs.Refusals.{Said, granted, Row, leaves, keeping}
+use Prim.Native.Nat.{ℕ}
+use borrow.Author.Rules.{rules}
+use borrow.Author.Tests.{leb-false}
+use Rattle.std.specs.Prelude.{Ok}
+use Rattle.ground.specs.Refusals.{granted, Row, row, leaves, keeping}
 use Rattle.ground.proofs.Cases.{past, here}
-use Rattle.ground.proofs.Rows.{NoneApplies, through}
-use Rattle.catalogue_titles.specs.Lent.{Lent, lending}
+use Rattle.ground.proofs.Rows.{through}
+use Rattle.catalogue_titles.specs.Lent.{Lent, lent}
 use Rattle.desk_client.specs.declared.Link.{Link}
 use Rattle.desk_client.specs.declared.Client.{Client}
 use Rattle.desk_client.specs.Client.{blank_client}
+use Rattle.desk_state.specs.declared.Desk.{Desk}
 use Rattle.desk_state.specs.Desk.{with_client}
 use Rattle.mcs_state.specs.Codec.{desk_of}
-use Rattle.desk_replies.specs.declared.Answer.TheVariants.{Done}
+use Rattle.desk_replies.specs.declared.Reply.TheVariants.{Done}
 use Rattle.desk_replies.specs.Replies.{fronted, client_row, connected_row, link_of}
-use Rattle.desk_replies.proofs.Gates.{refuses, none, refused_so, accepted_so, plain_so, shut_gate}
-use Rattle.desk_links.specs.Links.{disconnect_call}
-use borrow.Author.Rules.{rules}
+use Rattle.desk_replies.proofs.Gates.{none, gate_refuses, refused_so, accepted_so, plain_so}
+use Rattle.desk_links.specs.Links.{connect_call, disconnect_call}
 use Rattle.desk_links.proofs.disconnect.Goals as goal
 
-pub returns-then-not-g : goal.returns-then-not-g
+-- what is asked first
+abbrev first : Lent → Desk → ℕ → List Row
+first k d who = fronted k false d ++ (client_row who ∷ [])
+
+pub returns-in_err-client_gate : goal.returns-in_err-client_gate
 unfolding disconnect_call
-returns-then-not-g c =
-    let lent : Lent = lending c.args.groups.now c.args.tracks.now c.args.segments.now c.args.text.now c.args.renames.now c.args.office.now in
-    let front : List Row = fronted (lent) false (desk_of c.args.state.now) ++ (client_row c.args.who ∷ []) in
-    let own : List Row = connected_row (link_of (desk_of c.args.state.now) c.args.who).connected ∷ [] in
-    let shut = not-true _ c.if-not-g.true in
-    refused_so _ c.args.state.now _
-    (refuses (front) c.client_gate-g.result c.client_gate-g.ensures shut (keeping (desk_of c.args.state.now)) (own) _)
-    (shut_gate (front) c.client_gate-g.result c.client_gate-g.ensures shut)
+returns-in_err-client_gate c =
+    let a = c.args in
+    gate_refuses (first (lent a.loan.now) (desk_of a.state.now) a.who)
+    (connected_row (link_of (desk_of a.state.now) a.who).connected ∷ []) a.state.now _ _ _ c.from_residual.ensures.1 c.in_err-client_gate.ensures
 
 pub link_at-old-requires-clause-who_lt_client_count : goal.link_at-old-requires-clause-who_lt_client_count
 link_at-old-requires-clause-who_lt_client_count c =
-    let lent : Lent = lending c.args.groups.now c.args.tracks.now c.args.segments.now c.args.text.now c.args.renames.now c.args.office.now in
-    let front : List Row = fronted (lent) false (desk_of c.args.state.now) ++ (client_row c.args.who ∷ []) in
-    let passed : NoneApplies (front) = none (front) c.client_gate-g.result c.client_gate-g.ensures (not-false _ c.if-not-g.false) in
-    leb-false _ _ (passed).1.1.1.1.0
+    let a = c.args in
+    leb-false _ _ (none (first (lent a.loan.now) (desk_of a.state.now) a.who) c.in_ok-client_gate.ensures refl).1.1.1.1.0
 
 pub returns-then-not-old : goal.returns-then-not-old
 unfolding disconnect_call
 returns-then-not-old c =
-    let lent : Lent = lending c.args.groups.now c.args.tracks.now c.args.segments.now c.args.text.now c.args.renames.now c.args.office.now in
-    let front : List Row = fronted (lent) false (desk_of c.args.state.now) ++ (client_row c.args.who ∷ []) in
-    let passed : NoneApplies (front) = none (front) c.client_gate-g.result c.client_gate-g.ensures (not-false _ c.if-not-g.false) in
-    let linked : not (link_of (desk_of c.args.state.now) c.args.who).connected ≡ not c.link_at-old.result.connected = sym (ap (λ (l : Link). not l.connected) c.link_at-old.ensures) in
-    let d = desk_of c.args.state.now in
-    refused_so _ c.args.state.now _
-    (through (keeping d) (front) (passed) (here _ (linked ∙ c.if-not-old.true) (ap (keeping d) c.refuse.ensures)))
-    (ap (λ (x : Said). x.is_granted) c.refuse.ensures)
+    let a = c.args in
+    let d = desk_of a.state.now in
+    refused_so _ a.state.now _ (through (keeping d) (first (lent a.loan.now) (desk_of a.state.now) a.who) (none (first (lent a.loan.now) (desk_of a.state.now) a.who) c.in_ok-client_gate.ensures refl) (here _ (sym (ap (λ (l : Link). not l.connected) c.link_at-old.ensures) ∙ c.if-not-old.true) (ap (keeping d) c.from.ensures))) refl
 
 pub put_client-requires-clause-plain : goal.put_client-requires-clause-plain
 put_client-requires-clause-plain c =
-    let lent : Lent = lending c.args.groups.now c.args.tracks.now c.args.segments.now c.args.text.now c.args.renames.now c.args.office.now in
-    let front : List Row = fronted (lent) false (desk_of c.args.state.now) ++ (client_row c.args.who ∷ []) in
-    let passed : NoneApplies (front) = none (front) c.client_gate-g.result c.client_gate-g.ensures (not-false _ c.if-not-g.false) in
-    let n = passed in plain_so (lent) false c.args.state.now (client_row c.args.who ∷ []) n (search rules) c.are_octets.ensures
+    let a = c.args in
+    plain_so (lent a.loan.now) false a.state.now (client_row a.who ∷ []) (none (first (lent a.loan.now) (desk_of a.state.now) a.who) c.in_ok-client_gate.ensures refl) (search rules) c.are_octets.ensures
 
 pub put_client-requires-clause-who_lt_client_count : goal.put_client-requires-clause-who_lt_client_count
 put_client-requires-clause-who_lt_client_count c =
-    let lent : Lent = lending c.args.groups.now c.args.tracks.now c.args.segments.now c.args.text.now c.args.renames.now c.args.office.now in
-    let front : List Row = fronted (lent) false (desk_of c.args.state.now) ++ (client_row c.args.who ∷ []) in
-    let passed : NoneApplies (front) = none (front) c.client_gate-g.result c.client_gate-g.ensures (not-false _ c.if-not-g.false) in
-    let n = passed in leb-false _ _ n.1.1.1.1.0
+    let a = c.args in
+    leb-false _ _ (none (first (lent a.loan.now) (desk_of a.state.now) a.who) c.in_ok-client_gate.ensures refl).1.1.1.1.0
 
 pub returns : goal.returns
 unfolding disconnect_call
 returns c =
-    let lent : Lent = lending c.args.groups.now c.args.tracks.now c.args.segments.now c.args.text.now c.args.renames.now c.args.office.now in
-    let front : List Row = fronted (lent) false (desk_of c.args.state.now) ++ (client_row c.args.who ∷ []) in
-    let passed : NoneApplies (front) = none (front) c.client_gate-g.result c.client_gate-g.ensures (not-false _ c.if-not-g.false) in
-    let linked : not (link_of (desk_of c.args.state.now) c.args.who).connected ≡ not c.link_at-old.result.connected = sym (ap (λ (l : Link). not l.connected) c.link_at-old.ensures) in
-    let d = desk_of c.args.state.now in
-    accepted_so _ c.args.state.now Done _ _
-    (through (keeping d) (front) (passed)
-    (past _ (linked ∙ c.if-not-old.false)
-    (ap (λ (r : Client). leaves (granted []) (with_client c.args.who r d)) (c.blank_client-fresh.ensures ∙ ap blank_client c.fresh_link-link.ensures))))
+    let a = c.args in
+    let d = desk_of a.state.now in
+    accepted_so _ a.state.now (Ok Done) _ _
+    (through (keeping d) (first (lent a.loan.now) (desk_of a.state.now) a.who) (none (first (lent a.loan.now) (desk_of a.state.now) a.who) c.in_ok-client_gate.ensures refl)
+    (past _ (sym (ap (λ (l : Link). not l.connected) c.link_at-old.ensures) ∙ c.if-not-old.false)
+    (ap (λ (r : Client). leaves (granted []) (with_client a.who r d)) (c.blank_client-fresh.ensures ∙ ap blank_client c.fresh_link-link.ensures))))
     refl c.put_client.ensures
+
