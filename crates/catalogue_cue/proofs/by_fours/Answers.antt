@@ -1,6 +1,6 @@
 -- `catalogue_cue::by_fours`: each octet is one step.
 use mathlib.Core.Path.{sym, ◌∙◌}
-use Prim.Native.Nat.{◌+◌, ◌-◌}
+use Prim.Native.Nat.{◌+◌}
 use native.Mathlib.Omega.{arith}
 use Rattle.catalogue_cue.specs.Scan.{is_it, Passes}
 use Rattle.catalogue_cue.proofs.Ahead.{passes_none, passes_one}
