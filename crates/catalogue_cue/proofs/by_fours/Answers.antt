@@ -3,20 +3,8 @@ use mathlib.Core.Path.{sym, ◌∙◌}
 use Prim.Native.Nat.{◌+◌}
 use native.Mathlib.Omega.{arith}
 use Rattle.catalogue_cue.specs.Scan.{is_it, Passes}
-use Rattle.catalogue_cue.proofs.Ahead.{passes_none, passes_one}
+use Rattle.catalogue_cue.proofs.Ahead.{passes_one}
 use Rattle.catalogue_cue.proofs.by_fours.Goals as goal
-
-pub loop-i-init : goal.loop-i-init
-loop-i-init c =
-    passes_none _ _ _ c.requires
-
-pub overflow_sub-s : goal.overflow_sub-s
-overflow_sub-s c =
-    c.loop-i.invariant.high
-
-pub returns-then-is_it : goal.returns-then-is_it
-returns-then-is_it c =
-    c.loop-i.invariant
 
 pub returns-then-is_it-2 : goal.returns-then-is_it-2
 returns-then-is_it-2 c =
@@ -52,7 +40,3 @@ loop-i-preserved c =
     passes_one _ a.s.now a.at (c.loop-i.i + 1 + 1) (omega arith) (sym c.is_it-in-loop-i-2.ensures ∙ c.if-is_it-3.false) (second) in
     let a = c.args in
     passes_one _ a.s.now a.at (c.loop-i.i + 1 + 1 + 1) (omega arith) (sym c.is_it-in-loop-i-3.ensures ∙ c.if-is_it-4.false) (third)
-
-pub returns : goal.returns
-returns c =
-    c.loop-i.invariant

@@ -7,7 +7,7 @@ use mathlib.Core.Logic.{⊎_elim}
 use lib.ListN.{length, take, length-append}
 use lib.Seq.{take-length, length-take-le}
 use Rattle.ground.proofs.Cases.{le_or}
-use Rattle.ground.proofs.Filling.{Filling, filling_starts, filling_ends, filling_room, filling_goes}
+use Rattle.ground.proofs.Filling.{Filling, filling_starts, filling_room, filling_goes}
 use Rattle.catalogue_cue.specs.Sheet.{line_of, sheet_lines, starts_of}
 use Rattle.catalogue_cue.specs.Scan.{lines_from}
 use Rattle.catalogue_cue.proofs.Lines.{from_zero, from_beyond}
@@ -42,19 +42,6 @@ skim_line-read-requires-clause-at_in_bounds c =
     (le_or c.loop-n.at (length sheet)) in
     within
 
-pub skim_line-read-requires-clause-all_understood : goal.skim_line-read-requires-clause-all_understood
-unfolding starts_of
-skim_line-read-requires-clause-all_understood c =
-    let within : c.loop-n.at ≤ length c.args.sheet.now = let sheet = c.args.sheet.now in
-    let many = as_many (starts_of (sheet_lines sheet)) (starts_of (map line_of (lines_from sheet c.loop-n.at))) c.args.starts.now c.loop-n.starts c.loop-n.n c.loop-n.invariant.1 in
-    ⊎_elim
-    (λ h. h)
-    (λ h.
-    let none : length (starts_of (map line_of (lines_from sheet c.loop-n.at))) ≡ 0 = ap (λ (ls : List (List ℕ)). length (starts_of (map line_of ls))) (from_beyond sheet c.loop-n.at h) in
-    absurd (omega (arith, many, none, c.requires.count_value)))
-    (le_or c.loop-n.at (length sheet)) in
-    c.loop-n.invariant.2
-
 pub put-n-requires : goal.put-n-requires
 put-n-requires c =
     let own : List ℕ = starts_of (c.skim_line-read.result.line ∷ []) in
@@ -62,19 +49,6 @@ put-n-requires c =
     let next : starts_of (map line_of (lines_from c.args.sheet.now c.loop-n.at)) ≡ own ++ behind = ap starts_of c.skim_line-read.ensures.gives ∙ starts_split _ _ in
     let fits : c.loop-n.n + length (own) ≤ length c.loop-n.starts = filling_room (starts_of (sheet_lines c.args.sheet.now)) c.args.starts.now _ c.loop-n.starts c.loop-n.n c.loop-n.invariant.1 (own) (behind) (next) _ refl (omega (arith, c.requires.count_value, c.requires.count_in_bounds)) in
     fits
-
-pub loop-n-smaller : goal.loop-n-smaller
-unfolding starts_of
-loop-n-smaller c =
-    let within : c.loop-n.at ≤ length c.args.sheet.now = let sheet = c.args.sheet.now in
-    let many = as_many (starts_of (sheet_lines sheet)) (starts_of (map line_of (lines_from sheet c.loop-n.at))) c.args.starts.now c.loop-n.starts c.loop-n.n c.loop-n.invariant.1 in
-    ⊎_elim
-    (λ h. h)
-    (λ h.
-    let none : length (starts_of (map line_of (lines_from sheet c.loop-n.at))) ≡ 0 = ap (λ (ls : List (List ℕ)). length (starts_of (map line_of ls))) (from_beyond sheet c.loop-n.at h) in
-    absurd (omega (arith, many, none, c.requires.count_value)))
-    (le_or c.loop-n.at (length sheet)) in
-    omega (arith, within, c.skim_line-read.ensures.onward)
 
 pub loop-n-preserved : goal.loop-n-preserved
 loop-n-preserved c =
@@ -88,15 +62,3 @@ loop-n-preserved c =
       rw done.value (filling_goes (starts_of (sheet_lines a.sheet.now)) a.starts.now _ c.loop-n.starts c.loop-n.n c.loop-n.invariant.1 (own) (behind) (next) _ refl _ (own) (take-length (own)) (fits) done.starts_after),
       (rw c.skim_line-read.ensures.gives at c.loop-n.invariant.2).1,
     )
-
-pub shape_of-starts : goal.shape_of-starts
-shape_of-starts c =
-    c.loop-n.invariant.1.same
-
-pub returns : goal.returns
-returns c =
-    let sheet = c.args.sheet.now in
-    let all = starts_of (sheet_lines sheet) in
-    let left = starts_of (map line_of (lines_from sheet c.loop-n.at)) in
-    let many = as_many all left c.args.starts.now c.loop-n.starts c.loop-n.n c.loop-n.invariant.1 in
-    filling_ends all c.args.starts.now left c.loop-n.starts c.loop-n.n (none_left left (omega (arith, many, c.requires.count_value))) c.loop-n.invariant.1

@@ -2,8 +2,6 @@
 use mathlib.Core.Path.{◌≡◌, sym, ap, ◌∙◌}
 use mathlib.Core.Bool.{Bool, true, not, ◌&&◌}
 use lib.Dec.{eqb}
-use Rattle.ground.proofs.Cases.{and_right}
-use native.Mathlib.Omega.{arith}
 use Rattle.catalogue_cue.specs.Sheet.{octets, begins, digits_at, number_at, is_other_index}
 use Rattle.catalogue_cue.proofs.Form.{short_index}
 -- both tests, as the code asks them
@@ -19,22 +17,6 @@ returns-then-not-index-digits c =
     let both : let line = c.args.line.now in
     (c.begins_with-index.result && c.digits_at-digits.result) ≡ (begins (octets "INDEX ") line && digits_at line 6) = λ i. c.begins_with-index.ensures i && c.digits_at-digits.ensures i in
     sym (ap (λ (t : Bool). t && not (eqb (number_at c.args.line.now 6) 1)) (sym (both) ∙ c.if-not-index-digits.true))
-
-pub number_at-number-requires-clause-at_in_bounds : goal.number_at-number-requires-clause-at_in_bounds
-number_at-number-requires-clause-at_in_bounds c =
-    let both : let line = c.args.line.now in
-    (c.begins_with-index.result && c.digits_at-digits.result) ≡ (begins (octets "INDEX ") line && digits_at line 6) = λ i. c.begins_with-index.ensures i && c.digits_at-digits.ensures i in
-    let right : let line = c.args.line.now in
-    (begins (octets "INDEX ") line && digits_at line 6) ≡ true = sym (both) ∙ c.if-not-index-digits.false in
-    omega arith
-
-pub number_at-number-requires-clause-at_value : goal.number_at-number-requires-clause-at_value
-number_at-number-requires-clause-at_value c =
-    let both : let line = c.args.line.now in
-    (c.begins_with-index.result && c.digits_at-digits.result) ≡ (begins (octets "INDEX ") line && digits_at line 6) = λ i. c.begins_with-index.ensures i && c.digits_at-digits.ensures i in
-    let right : let line = c.args.line.now in
-    (begins (octets "INDEX ") line && digits_at line 6) ≡ true = sym (both) ∙ c.if-not-index-digits.false in
-    and_right (begins (octets "INDEX ") c.args.line.now) _ (right)
 
 pub returns : goal.returns
 unfolding is_other_index

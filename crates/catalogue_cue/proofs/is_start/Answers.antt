@@ -4,10 +4,9 @@ use mathlib.Core.Path.{◌≡◌, sym, ap, ◌∙◌}
 use mathlib.Core.Bool.{Bool, true, ◌&&◌}
 use mathlib.Core.List.{List}
 use Prim.Native.Nat.{ℕ}
-use native.Mathlib.Omega.{arith}
 use lib.Dec.{leb}
 use Rattle.catalogue_cue.specs.Sheet.{number_at, colon_at, is_start}
-use Rattle.catalogue_cue.proofs.Form.{time_form, start_by, digits_12, digits_15}
+use Rattle.catalogue_cue.proofs.Form.{time_form, start_by}
 -- length and word are right
 use Rattle.catalogue_cue.proofs.is_start.Goals as goal
 
@@ -28,38 +27,6 @@ returns-then-not-mm-line c =
     let form : (c.digits_at-mm.result && colon_at (line_of) 11 && c.digits_at-ss.result && colon_at (line_of) 14 && c.digits_at-ff.result)
     ≡ time_form (line_of) = λ i. c.digits_at-mm.ensures i && colon_at (line_of) 11 && c.digits_at-ss.ensures i && colon_at (line_of) 14 && c.digits_at-ff.ensures i in
     sym (by_form ∙ ap (λ (t : Bool). t && leb (number_at (line_of) 12) 59 && leb (number_at (line_of) 15) 74) (sym (form) ∙ c.if-not-mm-line.true))
-
-pub number_at-seconds-requires-clause-at_in_bounds : goal.number_at-seconds-requires-clause-at_in_bounds
-number_at-seconds-requires-clause-at_in_bounds c =
-    let line_of : List ℕ = c.args.line.now in
-    let form : (c.digits_at-mm.result && colon_at (line_of) 11 && c.digits_at-ss.result && colon_at (line_of) 14 && c.digits_at-ff.result)
-    ≡ time_form (line_of) = λ i. c.digits_at-mm.ensures i && colon_at (line_of) 11 && c.digits_at-ss.ensures i && colon_at (line_of) 14 && c.digits_at-ff.ensures i in
-    let right : time_form (line_of) ≡ true = sym (form) ∙ c.if-not-mm-line.false in
-    omega arith
-
-pub number_at-seconds-requires-clause-at_value : goal.number_at-seconds-requires-clause-at_value
-number_at-seconds-requires-clause-at_value c =
-    let line_of : List ℕ = c.args.line.now in
-    let form : (c.digits_at-mm.result && colon_at (line_of) 11 && c.digits_at-ss.result && colon_at (line_of) 14 && c.digits_at-ff.result)
-    ≡ time_form (line_of) = λ i. c.digits_at-mm.ensures i && colon_at (line_of) 11 && c.digits_at-ss.ensures i && colon_at (line_of) 14 && c.digits_at-ff.ensures i in
-    let right : time_form (line_of) ≡ true = sym (form) ∙ c.if-not-mm-line.false in
-    digits_12 _ (right)
-
-pub number_at-frames-requires-clause-at_in_bounds : goal.number_at-frames-requires-clause-at_in_bounds
-number_at-frames-requires-clause-at_in_bounds c =
-    let line_of : List ℕ = c.args.line.now in
-    let form : (c.digits_at-mm.result && colon_at (line_of) 11 && c.digits_at-ss.result && colon_at (line_of) 14 && c.digits_at-ff.result)
-    ≡ time_form (line_of) = λ i. c.digits_at-mm.ensures i && colon_at (line_of) 11 && c.digits_at-ss.ensures i && colon_at (line_of) 14 && c.digits_at-ff.ensures i in
-    let right : time_form (line_of) ≡ true = sym (form) ∙ c.if-not-mm-line.false in
-    omega arith
-
-pub number_at-frames-requires-clause-at_value : goal.number_at-frames-requires-clause-at_value
-number_at-frames-requires-clause-at_value c =
-    let line_of : List ℕ = c.args.line.now in
-    let form : (c.digits_at-mm.result && colon_at (line_of) 11 && c.digits_at-ss.result && colon_at (line_of) 14 && c.digits_at-ff.result)
-    ≡ time_form (line_of) = λ i. c.digits_at-mm.ensures i && colon_at (line_of) 11 && c.digits_at-ss.ensures i && colon_at (line_of) 14 && c.digits_at-ff.ensures i in
-    let right : time_form (line_of) ≡ true = sym (form) ∙ c.if-not-mm-line.false in
-    digits_15 _ (right)
 
 pub returns : goal.returns
 returns c =

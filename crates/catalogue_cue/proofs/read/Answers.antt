@@ -1,7 +1,7 @@
 -- `catalogue_cue::read`: a refusal comes before anything is written, and after `Done` the table is filled.
 use native.Mathlib.Omega.{arith}
 use lib.ListN.{length, get_or}
-use mathlib.Core.Path.{◌≡◌, refl, sym, ap, ◌∙◌}
+use mathlib.Core.Path.{◌≡◌, sym, ap, ◌∙◌}
 use Rattle.ground.specs.Refusals.{Said}
 use Rattle.catalogue_cue.specs.declared.Cued.{Cued}
 use Rattle.catalogue_cue.specs.Sheet.{said_of}
@@ -32,19 +32,3 @@ fill-requires-clause-all_understood c =
     let said = answered c.survey-answer.ensures c.in-Done.is in
     let granted = accepted a.sheet.now (length a.starts.now) (sym (ap (λ (s : Said). s.is_granted) said)) in
     let count = ap (λ (s : Said). get_or s.values 0 0) (said ∙ granted.said) in granted.understood
-
-pub returns-in-Done-clause-result_value : goal.returns-in-Done-clause-result_value
-returns-in-Done-clause-result_value c =
-    answered c.survey-answer.ensures c.in-Done.is
-
-pub returns-in-Done-clause-starts_after : goal.returns-in-Done-clause-starts_after
-returns-in-Done-clause-starts_after c =
-    c.fill.ensures
-
-pub returns-in-Refused-clause-result_value : goal.returns-in-Refused-clause-result_value
-returns-in-Refused-clause-result_value c =
-    answered c.survey-answer.ensures c.in-Refused.is
-
-pub returns-in-Refused-clause-starts_after : goal.returns-in-Refused-clause-starts_after
-returns-in-Refused-clause-starts_after c =
-    refl

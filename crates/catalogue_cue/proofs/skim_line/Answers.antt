@@ -24,14 +24,6 @@ start_of-requires c =
     (sym c.looks_start.ensures ∙ c.if-looks_start.true) n q in
     (started _ refl).form
 
-pub first_from-lf-requires : goal.first_from-lf-requires
-first_from-lf-requires c =
-    let started : (n : ℕ)
-    → let sheet = c.args.sheet.now in
-    n ≡ ahead_end is_lf sheet (c.first_from-from.result + 17) → StartLine sheet c.first_from-from.result (n + 1) = λ n q. skim_start c.args.sheet.now c.args.at c.first_from-from.result c.requires.at_in_bounds c.first_from-from.ensures.0 c.first_from-from.ensures.1 c.requires.all_understood
-    (sym c.looks_start.ensures ∙ c.if-looks_start.true) n q in
-    (started _ refl).fits
-
 pub returns-then-looks_start : goal.returns-then-looks_start
 returns-then-looks_start c =
     let started : (n : ℕ)

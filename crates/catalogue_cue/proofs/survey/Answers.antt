@@ -42,10 +42,6 @@ returns-then-w-eq2 c =
     c.read_line-read.result.line c.read_line-read.result.next c.read_line-read.ensures.gives c.weigh-w.result c.weigh-w.ensures in
     past _ (small) (c.refuse_at-r-then-w-eq2.ensures ∙ (turn).fallen c.if-w-eq2.true) ∙ sym (cue_said_lem _ _)
 
-pub loop-at-smaller : goal.loop-at-smaller
-loop-at-smaller c =
-    omega (arith, c.read_line-read.ensures.onward)
-
 pub loop-at-preserved : goal.loop-at-preserved
 loop-at-preserved c =
     let turn : let a = c.args in
