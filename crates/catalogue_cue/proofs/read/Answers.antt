@@ -2,33 +2,32 @@
 use native.Mathlib.Omega.{arith}
 use lib.ListN.{length, get_or}
 use mathlib.Core.Path.{◌≡◌, sym, ap, ◌∙◌}
+use mathlib.Core.List.{List}
+use Prim.Native.Nat.{ℕ}
 use Rattle.ground.specs.Refusals.{Said}
 use Rattle.catalogue_cue.specs.declared.Cued.{Cued}
-use Rattle.catalogue_cue.specs.Sheet.{said_of}
-use Rattle.catalogue_cue.proofs.Accepted.{accepted}
--- an answer of the survey says what the survey says
+use Rattle.catalogue_cue.specs.declared.Cued.TheVariants.{Done}
+use Rattle.catalogue_cue.specs.Sheet.{sheet_lines, starts_of, cue_said, said_of}
+use Rattle.catalogue_cue.proofs.Accepted.{Accepted, accepted}
 use Rattle.catalogue_cue.proofs.read.Goals as goal
 
-answered : {v r : Cued} {said : Said} → said_of v ≡ said → v ≡ r → said_of r ≡ said
-answered e q = sym (ap said_of q) ∙ e
+-- the survey accepted the sheet, and counted its starts
+counted : {sheet : List ℕ} {room : ℕ} {answer : Cued} {count : ℕ} → said_of answer ≡ cue_said sheet room → answer ≡ Done count
+    → Accepted sheet room × (count ≡ length (starts_of (sheet_lines sheet)))
+counted {sheet} {room} said done =
+    let e = sym (ap said_of done) ∙ said in
+    let granted = accepted sheet room (sym (ap (λ (s : Said). s.is_granted) e)) in
+    (granted, ap (λ (s : Said). get_or s.values 0 0) (e ∙ granted.said))
 
 pub fill-requires-clause-count_value : goal.fill-requires-clause-count_value
 fill-requires-clause-count_value c =
-    let a = c.args in
-    let said = answered c.survey-answer.ensures c.in-Done.is in
-    let granted = accepted a.sheet.now (length a.starts.now) (sym (ap (λ (s : Said). s.is_granted) said)) in
-    let count = ap (λ (s : Said). get_or s.values 0 0) (said ∙ granted.said) in count
+    (counted c.survey-answer.ensures c.in-Done.is).1
 
 pub fill-requires-clause-count_in_bounds : goal.fill-requires-clause-count_in_bounds
 fill-requires-clause-count_in_bounds c =
-    let a = c.args in
-    let said = answered c.survey-answer.ensures c.in-Done.is in
-    let granted = accepted a.sheet.now (length a.starts.now) (sym (ap (λ (s : Said). s.is_granted) said)) in
-    let count = ap (λ (s : Said). get_or s.values 0 0) (said ∙ granted.said) in omega (arith, count, granted.fits)
+    let told = counted c.survey-answer.ensures c.in-Done.is in
+    omega (arith, told.1, told.0.fits)
 
 pub fill-requires-clause-all_understood : goal.fill-requires-clause-all_understood
 fill-requires-clause-all_understood c =
-    let a = c.args in
-    let said = answered c.survey-answer.ensures c.in-Done.is in
-    let granted = accepted a.sheet.now (length a.starts.now) (sym (ap (λ (s : Said). s.is_granted) said)) in
-    let count = ap (λ (s : Said). get_or s.values 0 0) (said ∙ granted.said) in granted.understood
+    (counted c.survey-answer.ensures c.in-Done.is).0.understood
