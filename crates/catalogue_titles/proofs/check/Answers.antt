@@ -5,45 +5,39 @@ use mathlib.Core.List.{[], ◌∷◌}
 use Rattle.ground.specs.Refusals.{Said, granted, refused}
 use Rattle.ground.proofs.Rows.{more}
 use Rattle.catalogue_check.specs.declared.Catalogue.{Catalogue}
-use Rattle.catalogue_check.specs.Catalogue.{catalogue_row, said_of, check_said}
+use Rattle.catalogue_check.specs.declared.Catalogue.TheVariants.{Fine}
+use Rattle.catalogue_check.specs.Catalogue.{catalogue_row, said_of, check_said, Right}
 use Rattle.catalogue_check.proofs.Laws.{passed}
 use Rattle.catalogue_titles.specs.Titles.{renames_rule}
-use Rattle.catalogue_titles.specs.Lent.{Lent, lending, catalogue_of, renames_row, lent_said}
--- what the check says, by the first that fails
+use Rattle.catalogue_titles.specs.Lent.{Lent, catalogue_of, renames_row, lent_said}
 use Rattle.catalogue_titles.proofs.check.Goals as goal
 
-module _ (k : Lent) where
-  says_catalogue : {said : Said} → said.is_granted ≡ false → said ≡ check_said (catalogue_of k) → said ≡ lent_said k
-  unfolding check_said lent_said
-  says_catalogue refused e =
-      e ∙ more (catalogue_row (catalogue_of k) ∷ []) (renames_row k ∷ []) (sym (ap (λ (s : Said). s.is_granted) e) ∙ refused)
+-- what the check says, by the first that fails
+says_catalogue : (k : Lent) {said : Said} → said ≡ check_said (catalogue_of k) → said.is_granted ≡ false → said ≡ lent_said k
+unfolding check_said lent_said
+says_catalogue k e bad =
+    e ∙ more (catalogue_row (catalogue_of k) ∷ []) (renames_row k ∷ []) (sym (ap (λ (s : Said). s.is_granted) e) ∙ bad)
 
-  says_renames : granted [] ≡ check_said (catalogue_of k) → renames_rule k.tracks k.renames k.office ≡ false → refused 224 ≡ lent_said k
-  unfolding lent_said
-  says_renames e bad = rw (passed (catalogue_of k) (sym e), bad)
+module _ (k : Lent) {a : Catalogue} (told : said_of a ≡ check_said (catalogue_of k)) (fine : a ≡ Fine) where
+  right : Right (catalogue_of k)
+  right = sym told ∙ ap said_of fine
 
-  says_fine : granted [] ≡ check_said (catalogue_of k) → renames_rule k.tracks k.renames k.office ≡ true → granted [] ≡ lent_said k
+  says_renames : renames_rule k.tracks k.renames k.office ≡ false → refused 224 ≡ lent_said k
   unfolding lent_said
-  says_fine e good = rw (passed (catalogue_of k) (sym e), good)
+  says_renames bad = rw (passed (catalogue_of k) right, bad)
+
+  says_fine : renames_rule k.tracks k.renames k.office ≡ true → granted [] ≡ lent_said k
+  unfolding lent_said
+  says_fine good = rw (passed (catalogue_of k) right, good)
 
 pub returns-then-renames_right : goal.returns-then-renames_right
 returns-then-renames_right c =
-    let lent : Lent = lending c.args.groups.now c.args.tracks.now c.args.segments.now c.args.text.now c.args.renames.now c.args.office.now in
-    let told : (a : Catalogue) → c.check-c.result ≡ a
-    → said_of a ≡ check_said (catalogue_of (lent)) = λ a e. sym (ap said_of e) ∙ c.check-c.ensures in
-    says_fine (lent) (told _ c.in-Fine.is) (sym c.renames_right.ensures ∙ c.if-renames_right.true)
+    says_fine _ c.check-c.ensures c.in-Fine.is (sym c.renames_right.ensures ∙ c.if-renames_right.true)
 
 pub returns-in-Refused : goal.returns-in-Refused
 returns-in-Refused c =
-    let lent : Lent = lending c.args.groups.now c.args.tracks.now c.args.segments.now c.args.text.now c.args.renames.now c.args.office.now in
-    let told : (a : Catalogue) → c.check-c.result ≡ a
-    → said_of a ≡ check_said (catalogue_of (lent)) = λ a e. sym (ap said_of e) ∙ c.check-c.ensures in
-    says_catalogue (lent) refl (told _ c.in-Refused.is)
+    says_catalogue _ (sym (ap said_of c.in-Refused.is) ∙ c.check-c.ensures) refl
 
 pub returns-else-renames_right : goal.returns-else-renames_right
 returns-else-renames_right c =
-    let lent : Lent = lending c.args.groups.now c.args.tracks.now c.args.segments.now c.args.text.now c.args.renames.now c.args.office.now in
-    let told : (a : Catalogue) → c.check-c.result ≡ a
-    → said_of a ≡ check_said (catalogue_of (lent)) = λ a e. sym (ap said_of e) ∙ c.check-c.ensures in
-    c.refuse-r.ensures
-    ∙ says_renames (lent) (told _ c.in-Fine.is) (sym c.renames_right.ensures ∙ c.if-renames_right.false)
+    c.refuse-r.ensures ∙ says_renames _ c.check-c.ensures c.in-Fine.is (sym c.renames_right.ensures ∙ c.if-renames_right.false)
