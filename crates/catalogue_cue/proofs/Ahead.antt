@@ -47,11 +47,8 @@ module _ (test : ℕ → Bool) where
       let e : i + suc n ≡ i + n + 1 = omega arith in
       rw e (ahead_goes s (i + n) (omega arith) (g n (omega arith)) ∙ ahead_past n s i (omega arith) (λ j k. g j (omega arith)))
 
-  -- a search from a place on: at its start, and as far as another search went
+  -- a search from a place on, as far as another search went
   module _ (s : List ℕ) (at : ℕ) where
-    pub passes_none : at ≤ length s → Passes test s at at
-    passes_none h = record { low = omega arith; high = h; same = refl }
-
     pub passes_more : (i to : ℕ) → Passes test s at i → Passes test s i to → Passes test s at to
     passes_more i to p q = record { low = omega (arith, p.low, q.low); high = q.high; same = q.same ∙ p.same }
 

@@ -2,7 +2,7 @@
 use mathlib.Core.Path.{sym, ◌∙◌}
 use Prim.Native.Nat.{◌+◌}
 use native.Mathlib.Omega.{arith}
-use Rattle.catalogue_cue.proofs.Form.{beyond}
+use Rattle.std.proofs.lemmas.List.{get_or_past}
 use Rattle.catalogue_cue.proofs.Starting.{ends_last, ends_lf, ends_cr_lf, no_room, no_form, no_end}
 use Rattle.catalogue_cue.proofs.start_line.Goals as goal
 
@@ -28,7 +28,7 @@ returns-then-sheet-end-ne-CR c =
 
 pub returns-then-sheet-end-lt2 : goal.returns-then-sheet-end-lt2
 returns-then-sheet-end-lt2 c =
-    no_end _ _ (omega arith) c.if-sheet-end-eq-LF.false (λ q r. omega (arith, r, beyond c.args.sheet.now (c.args.at + 17 + 1) (omega arith)))
+    no_end _ _ (omega arith) c.if-sheet-end-eq-LF.false (λ q r. omega (arith, r, get_or_past c.args.sheet.now (c.args.at + 17 + 1) 0 (omega arith)))
 
 pub returns-then-sheet-end-eq-LF-2 : goal.returns-then-sheet-end-eq-LF-2
 returns-then-sheet-end-eq-LF-2 c =
