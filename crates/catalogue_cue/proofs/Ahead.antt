@@ -2,7 +2,7 @@
 use mathlib.Core.Path.{◌≡◌, refl, sym, ap, ◌∙◌}
 use mathlib.Core.Bool.{Bool, true, false}
 use mathlib.Core.List.{List, [], ◌∷◌, ◌++◌}
-use Prim.Native.Nat.{ℕ, zero, suc, ◌+◌, ◌-◌, ◌<◌, ◌≤◌, zero-le, suc-le-suc}
+use Prim.Native.Nat.{ℕ, zero, suc, ◌+◌, ◌<◌, ◌≤◌, zero-le, suc-le-suc}
 use native.Mathlib.Numerals.{add-one}
 use native.Mathlib.Omega.{arith}
 use borrow.Author.Tests.{ne_eqb}
@@ -47,14 +47,8 @@ module _ (test : ℕ → Bool) where
       let e : i + suc n ≡ i + n + 1 = omega arith in
       rw e (ahead_goes s (i + n) (omega arith) (g n (omega arith)) ∙ ahead_past n s i (omega arith) (λ j k. g j (omega arith)))
 
-  -- a search from a place on: at its start, one octet further, and as far as another search went
+  -- a search from a place on, as far as another search went
   module _ (s : List ℕ) (at : ℕ) where
-    pub passes_none : at ≤ length s → Passes test s at at
-    passes_none h = record { low = omega arith; high = h; same = refl }
-
-    pub passes_one : (i : ℕ) → i < length s → test (get_or s i 0) ≡ false → Passes test s at i → Passes test s at (i + 1)
-    passes_one i h e p = record { low = omega (arith, p.low); high = omega arith; same = ahead_goes s i h e ∙ p.same }
-
     pub passes_more : (i to : ℕ) → Passes test s at i → Passes test s i to → Passes test s at to
     passes_more i to p q = record { low = omega (arith, p.low, q.low); high = q.high; same = q.same ∙ p.same }
 
@@ -79,6 +73,10 @@ module _ (test : ℕ → Bool) where
           → pick t zero (suc (ahead test s)) < suc (length s) → test (get_or (x ∷ s) (pick t zero (suc (ahead test s))) 0) ≡ true
       by true e f k = e
       by false e f k = f (omega arith)
+
+-- one octet further
+pub passes_one : {test : ℕ → Bool} {s : List ℕ} {at i : ℕ} → Passes test s at i → i < length s → test (get_or s i 0) ≡ false → Passes test s at (i + 1)
+passes_one {test} {s} {at} {i} p h e = record { low = omega (arith, p.low); high = omega arith; same = ahead_goes test s i h e ∙ p.same }
 
 -- a piece of n octets that stands at a place, with the rest behind it
 module _ (s piece rest : List ℕ) (i n : ℕ) (splits : drop i s ≡ piece ++ rest) (long : length piece ≡ n) where

@@ -7,6 +7,7 @@ use native.Mathlib.Omega.{arith}
 use borrow.Author.Tests.{eqb-true, leb-true, eq-eqb, le-leb}
 use lib.Dec.{eqb, leb}
 use lib.ListN.{length, get_or}
+use Rattle.std.proofs.lemmas.List.{get_or_past}
 use Rattle.ground.proofs.Cases.{and_left, and_right, and_both, and_fails, clash}
 use Rattle.ground.specs.Lists.{all_below}
 use Rattle.ground.proofs.Bounded.{all_at, all_intro}
@@ -81,16 +82,10 @@ start_form line e =
       frames = leb-true _ _ (and_right (a && b && d9 && c11 && d12 && c14 && d15 && s) f e);
     }
 
--- behind the end stands 0
-pub beyond : (s : List ℕ) (i : ℕ) → length s ≤ i → get_or s i 0 ≡ 0
-beyond [] i h = refl
-beyond (x ∷ s) zero h = absurd (omega arith)
-beyond (x ∷ s) (suc i) h = beyond s i (omega arith)
-
 pub short_index : (line : List ℕ) → length line < 8 → is_other_index line ≡ false
 unfolding is_other_index digits_at
 short_index line h =
-    let digits : (is_digit (get_or line 6 0) && is_digit (get_or line 7 0)) ≡ false = and_fails (is_digit (get_or line 6 0)) (ap is_digit (beyond line 7 (omega arith))) in
+    let digits : (is_digit (get_or line 6 0) && is_digit (get_or line 7 0)) ≡ false = and_fails (is_digit (get_or line 6 0)) (ap is_digit (get_or_past line 7 0 (omega arith))) in
     rw (and_fails (begins (octets "INDEX ") line) digits)
 
 -- what a word at the front tells of each of its places

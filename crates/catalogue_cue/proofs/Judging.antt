@@ -2,11 +2,10 @@
 use mathlib.Core.Path.{◌≡◌, refl, sym, ap, ◌∙◌}
 use mathlib.Core.Bool.{Bool, true, false}
 use mathlib.Core.List.{List, [], ◌∷◌, map}
-use Prim.Native.Nat.{ℕ, zero, suc, ◌+◌, ◌<◌, ◌≤◌}
+use Prim.Native.Nat.{ℕ, suc, ◌+◌, ◌<◌, ◌≤◌}
 use native.Mathlib.Nat.{zero-add, add-zero}
 use native.Mathlib.Numerals.{add-one}
 use native.Mathlib.Omega.{arith}
-use lib.Dec.{eqb, ltb}
 use lib.ListN.{length, get_or}
 use Rattle.ground.specs.Cases.{pick}
 use Rattle.ground.specs.Refusals.{Said, refused_with}
@@ -14,24 +13,8 @@ use Rattle.catalogue_cue.specs.declared.Line.{Line}
 use Rattle.catalogue_cue.specs.declared.Line.TheVariants.{Start, Passed, NotUnderstood}
 use Rattle.catalogue_cue.specs.declared.Weighed.{Weighed}
 use Rattle.catalogue_cue.specs.Sheet.{line_of, sheet_lines, starts_of, may_follow}
-use Rattle.catalogue_cue.specs.Scan.{lines_from, rises, weighed_of, judged}
+use Rattle.catalogue_cue.specs.Scan.{lines_from, ReadAt, rises, weighed_of, judged}
 use Rattle.catalogue_cue.proofs.Lines.{from_zero, from_beyond}
-
--- whether a start may follow: where there is none before it, and where there is one
-pub rises_first : (count last start : ℕ) → count ≡ 0 → eqb start 0 ≡ rises count last start
-rises_first zero last start e = refl
-rises_first (suc n) last start e = absurd (omega arith)
-
-pub rises_next : (count last start : ℕ) → (count ≡ 0 → ⊥) → ltb last start ≡ rises count last start
-rises_next zero last start e = absurd (e refl)
-rises_next (suc n) last start e = refl
-
--- a start that may follow, and one that may not
-pub weighed_risen : (n count last : ℕ) → rises count last n ≡ true → weighed_of (Start n) count last ≡ record { fault = 0; count = count + 1; last = n }
-weighed_risen n count last e = rw e
-
-pub weighed_fallen : (n count last : ℕ) → rises count last n ≡ false → weighed_of (Start n) count last ≡ record { fault = 2; count = count + 1; last = n }
-weighed_fallen n count last e = rw e
 
 -- behind the starts before, as the code knows them: how many, and the last
 rises_is : (before : List ℕ) (count last start : ℕ) → length before ≡ count → get_or before 0 0 ≡ last → rises count last start ≡ may_follow before start
@@ -55,19 +38,19 @@ pub record Turned (sheet : List ℕ) (behind : Said) (number count next : ℕ) (
   pub goes : (w.fault ≡ 1 → ⊥) → (w.fault ≡ 2 → ⊥) → Judging sheet behind next (number + 1) w.count w.last
   pub counts : w.count ≤ count + 1
 
-module _ (sheet : List ℕ) (behind : Said) where
-  pub judging_starts : Judging sheet behind 0 1 0 0
-  judging_starts =
-      record {
-        before = [];
-        many = refl;
-        latest = refl;
-        left = ap (λ (ls : List (List ℕ)). judged 1 [] (map line_of ls) behind) (from_zero sheet);
-        total = zero-add _ ∙ ap (λ (ls : List (List ℕ)). length (starts_of (map line_of ls))) (from_zero sheet);
-      }
+pub judging_starts : (sheet : List ℕ) (behind : Said) → Judging sheet behind 0 1 0 0
+judging_starts sheet behind =
+    record {
+      before = [];
+      many = refl;
+      latest = refl;
+      left = ap (λ (ls : List (List ℕ)). judged 1 [] (map line_of ls) behind) (from_zero sheet);
+      total = zero-add _ ∙ ap (λ (ls : List (List ℕ)). length (starts_of (map line_of ls))) (from_zero sheet);
+    }
 
+module _ {sheet : List ℕ} {behind : Said} {at number count last : ℕ} (J : Judging sheet behind at number count last) where
   -- behind the last line
-  module _ (at number count last : ℕ) (J : Judging sheet behind at number count last) (h : length sheet < at) where
+  module _ (h : length sheet < at) where
     pub judging_ends : judged 1 [] (sheet_lines sheet) behind ≡ behind
     unfolding judged
     judging_ends = sym J.left ∙ ap (λ (ls : List (List ℕ)). judged number J.before (map line_of ls) behind) (from_beyond sheet at h)
@@ -77,13 +60,13 @@ module _ (sheet : List ℕ) (behind : Said) where
     all_counted = sym (add-zero count) ∙ sym (ap (λ (ls : List (List ℕ)). count + length (starts_of (map line_of ls))) (from_beyond sheet at h)) ∙ J.total
 
   -- one line
-  module _ (at number count last : ℕ) (J : Judging sheet behind at number count last) (line : Line) (next : ℕ) (gives : map line_of (lines_from sheet at) ≡ line ∷ map line_of (lines_from sheet next)) where
+  module _ {line : Line} {next : ℕ} (R : ReadAt sheet at line next) where
     rest : List Line
     rest = map line_of (lines_from sheet next)
 
     split : map line_of (lines_from sheet at) ≡ line ∷ rest
     unfolding rest
-    split = gives
+    split = R.gives
 
     judged_here : judged number J.before (line ∷ rest) behind ≡ judged 1 [] (sheet_lines sheet) behind
     judged_here = sym (ap (λ (ls : List Line). judged number J.before ls behind) split) ∙ J.left
@@ -116,14 +99,14 @@ module _ (sheet : List ℕ) (behind : Said) where
           by true e g = absurd (omega arith)
           by false e g = rw (sym e) at j
 
-    goes_on_lem : (ln : Line) → judged number J.before (ln ∷ rest) behind ≡ judged 1 [] (sheet_lines sheet) behind
+    goes_on : (ln : Line) → judged number J.before (ln ∷ rest) behind ≡ judged 1 [] (sheet_lines sheet) behind
         → count + length (starts_of (ln ∷ rest)) ≡ length (starts_of (sheet_lines sheet))
         → ((weighed_of ln count last).fault ≡ 1 → ⊥) → ((weighed_of ln count last).fault ≡ 2 → ⊥)
         → Judging sheet behind next (number + 1) (weighed_of ln count last).count (weighed_of ln count last).last
     unfolding judged starts_of rest
-    goes_on_lem Passed j t a b = record { before = J.before; many = J.many; latest = J.latest; left = rw add-one j; total = t }
-    goes_on_lem NotUnderstood j t a b = absurd (a refl)
-    goes_on_lem (Start n) j t a b = by (rises count last n) (rises_is J.before count last n J.many J.latest) b
+    goes_on Passed j t a b = record { before = J.before; many = J.many; latest = J.latest; left = rw add-one j; total = t }
+    goes_on NotUnderstood j t a b = absurd (a refl)
+    goes_on (Start n) j t a b = by (rises count last n) (rises_is J.before count last n J.many J.latest) b
       where
         by : (u : Bool) → u ≡ may_follow J.before n → (pick {A = ℕ} u 0 2 ≡ 2 → ⊥) → Judging sheet behind next (number + 1) (count + 1) n
         by true e g =
@@ -141,7 +124,7 @@ module _ (sheet : List ℕ) (behind : Said) where
     counts NotUnderstood = omega arith
     counts (Start n) = omega arith
 
-    pub turned : (w : Weighed) → w ≡ weighed_of line count last → Turned sheet behind number count next w
-    turned w e =
+    pub turned : {w : Weighed} → w ≡ weighed_of line count last → Turned sheet behind number count next w
+    turned {w} e =
         rw e
-        (record { bad = bad _ line judged_here; fallen = fallen _ line judged_here; goes = goes_on_lem line judged_here counted_here; counts = counts line })
+        (record { bad = bad _ line judged_here; fallen = fallen _ line judged_here; goes = goes_on line judged_here counted_here; counts = counts line })

@@ -1,14 +1,15 @@
 -- The line at a place, behind its spaces: what it gives. Assumes nothing.
-use mathlib.Core.Path.{◌≡◌, refl, sym, ap, ◌∙◌}
+use mathlib.Core.Path.{◌≡◌, sym, ap, ◌∙◌}
 use mathlib.Core.Bool.{true, false, not}
-use mathlib.Core.List.{List, [], ◌∷◌, map}
-use Prim.Native.Nat.{ℕ, ◌+◌, ◌-◌, ◌<◌, ◌≤◌}
+use mathlib.Core.List.{List, ◌∷◌, map}
+use Prim.Native.Nat.{ℕ, ◌+◌, ◌<◌, ◌≤◌}
 use native.Mathlib.Omega.{arith}
 use borrow.Author.Tests.{eqb-true, eqb-false, not-true, not-false}
 use lib.Dec.{eqb}
 use lib.ListN.{length, get_or, drop, length-drop}
 use lib.Seq.{get_or-drop}
 use mathlib.Core.Logic.{⊎_elim}
+use Rattle.std.proofs.lemmas.List.{get_or_past}
 use Rattle.ground.specs.Lists.{part}
 use Rattle.ground.proofs.Cases.{le_or}
 use Rattle.catalogue_cue.specs.declared.Line.{Line}
@@ -24,14 +25,10 @@ pub unspaced_cut : (sheet : List ℕ) (from end : ℕ) → (from < length sheet 
     → part sheet from end ≡ unspaced (part sheet from end)
 unspaced_cut sheet from end first h = sym (unspaced_same (part sheet from end) none)
   where
-    short : (s : List ℕ) → length s ≤ 0 → get_or s 0 0 ≡ 0
-    short [] z = refl
-    short (x ∷ s) z = absurd (omega arith)
-
     none : get_or (part sheet from end) 0 0 ≡ space → ⊥
     none q =
         ⊎_elim
-        (λ z. omega (arith, q, short (part sheet from end) z))
+        (λ z. omega (arith, q, get_or_past (part sheet from end) 0 0 z))
         (λ z.
         let more : from < end = omega (arith, part_length sheet from end h) in
         let e : from + 0 ≡ from = omega arith in

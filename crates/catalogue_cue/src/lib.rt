@@ -1,7 +1,7 @@
 // Cue sheets: the segment starts of one track, out of a sheet's octets (SCOPE 6). A sheet is gone through twice, so that a refusal has written nothing.
 #![tactic(auto)]
 
-ghost use Rattle.std.specs.Prelude.{◌≡◌, true, not, [], ◌∷◌, map, ◌+◌, ◌-◌, ◌<◌, ◌≤◌, length, get_or};
+ghost use Rattle.std.specs.Prelude.{◌≡◌, MatchOption, true, not, [], ◌∷◌, map, ◌+◌, ◌-◌, ◌<◌, ◌≤◌, length, get_or};
 ghost use Rattle.std.proofs.Math.Seq.{paste};
 ghost use Rattle.ground.specs.Refusals.{count_said};
 ghost use Rattle.ground.specs.Lists.{filled, table_after, all_below};
@@ -70,6 +70,7 @@ fn by_fours(s: &[u8], at: usize, x: u8, equal: bool) -> usize
     ensures { Passes (is_it x equal) s.now at result }
 {
     let mut i = at;
+    // Stays a while: the shape of this search was chosen among some dozens by its time (docs/PERFORMANCE.md, "Cue sheets on x86-64").
     while 4 <= s.len() - i {
         if is_it(s[i], x, equal) {
             return i;
@@ -282,34 +283,34 @@ fn is_passed(line: &[u8]) -> bool
     }
 }
 
-// Where the next line starts, if the line at a place is `INDEX 01 mm:ss:ff` with nothing before it; else 0. Its end is known, so no LF is searched for.
-fn start_line(sheet: &[u8], at: usize) -> usize
+// Where the next line starts, if the line at a place is `INDEX 01 mm:ss:ff` with nothing before it. Its end is known, so no LF is searched for.
+fn start_line(sheet: &[u8], at: usize) -> Option<usize>
     requires { at ≤ length sheet.now }
-    ensures { (0 < result → StartLine sheet.now at result) × (result ≡ 0 → NoStartLine sheet.now at) }
+    ensures { MatchOption result (NoStartLine sheet.now at) (λ next. StartLine sheet.now at next) }
 {
     if sheet.len() - at < START_OCTETS {
-        return 0;
+        return None;
     }
     let end = at + START_OCTETS;
     if !is_start(&sheet[at..end]) {
-        return 0;
+        return None;
     }
     if end == sheet.len() {
-        return end + 1;
+        return Some(end + 1);
     }
     if sheet[end] == LF {
-        return end + 1;
+        return Some(end + 1);
     }
     if sheet[end] != CR {
-        return 0;
+        return None;
     }
     if sheet.len() - end < 2 {
-        return 0;
+        return None;
     }
     if sheet[end + 1] == LF {
-        return end + 2;
+        return Some(end + 2);
     }
-    0
+    None
 }
 
 // The line at a place.
@@ -318,8 +319,7 @@ fn read_line(sheet: &[u8], at: usize) -> LineRead
     ensures { ReadAt sheet.now at result.line result.next }
 {
     let from = first_from(sheet, at, SPACE, false);
-    let next = start_line(sheet, from);
-    if next != 0 {
+    if let Some(next) = start_line(sheet, from) {
         let end = from + START_OCTETS;
         let line = Line::Start(start_of(&sheet[from..end]));
         return LineRead {
@@ -433,6 +433,7 @@ fn survey(sheet: &[u8], room: usize) -> Result<usize, Refusal>
     let mut number: usize = 1;
     let mut count: usize = 0;
     let mut last: u32 = 0;
+    // Stays a while: a step is as long as its line, which is known only once the line is read.
     while at <= sheet.len() {
         let read = read_line(sheet, at);
         let line = read.line;
@@ -479,6 +480,7 @@ fn fill(sheet: &[u8], starts: &mut [u32], count: usize)
 {
     let mut at: usize = 0;
     let mut n: usize = 0;
+    // Stays a while: a step is as long as its line, and a line that is passed over fills no place.
     while n < count {
         let read = skim_line(sheet, at);
         let line = read.line;

@@ -1,9 +1,8 @@
 -- A loop that counts entries: what is left is whole exactly where all is, and what is counted and what is left make up all. Assumes nothing.
-use mathlib.Core.Path.{◌≡◌, refl, sym, ap, ◌∙◌}
+use mathlib.Core.Path.{◌≡◌, sym, ap, ◌∙◌}
 use mathlib.Core.Bool.{true, false}
 use mathlib.Core.List.{List}
 use Prim.Native.Nat.{ℕ, ◌+◌, ◌<◌, ◌≤◌}
-use native.Mathlib.Nat.{zero-add}
 use native.Mathlib.Omega.{arith}
 use lib.ListN.{length, drop, drop_of_length-le}
 use Rattle.catalogue_objects.specs.declared.Kind.{Kind}
@@ -13,9 +12,6 @@ use Rattle.catalogue_objects.proofs.Steps.{entries_end, some_left, entries_stop,
 pub record Counting (kind : Kind) (octets : List ℕ) (at count : ℕ) : Type 0 where
   pub whole : (entries_of kind (drop at octets)).whole ≡ (entries_of kind octets).whole
   pub total : count + (entries_of kind (drop at octets)).count ≡ (entries_of kind octets).count
-
-pub counting_starts : (kind : Kind) (octets : List ℕ) → Counting kind octets 0 0
-counting_starts kind octets = record { whole = refl; total = zero-add _ }
 
 module _ {kind : Kind} {octets : List ℕ} {at count : ℕ} (C : Counting kind octets at count) where
   -- at the end all are whole, and are counted

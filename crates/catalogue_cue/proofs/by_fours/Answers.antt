@@ -1,58 +1,27 @@
 -- `catalogue_cue::by_fours`: each octet is one step.
 use mathlib.Core.Path.{sym, ◌∙◌}
-use Prim.Native.Nat.{◌+◌, ◌-◌}
 use native.Mathlib.Omega.{arith}
-use Rattle.catalogue_cue.specs.Scan.{is_it, Passes}
-use Rattle.catalogue_cue.proofs.Ahead.{passes_none, passes_one}
+use Rattle.catalogue_cue.proofs.Ahead.{passes_one}
 use Rattle.catalogue_cue.proofs.by_fours.Goals as goal
-
-pub loop-i-init : goal.loop-i-init
-loop-i-init c =
-    passes_none _ _ _ c.requires
-
-pub overflow_sub-s : goal.overflow_sub-s
-overflow_sub-s c =
-    c.loop-i.invariant.high
-
-pub returns-then-is_it : goal.returns-then-is_it
-returns-then-is_it c =
-    c.loop-i.invariant
 
 pub returns-then-is_it-2 : goal.returns-then-is_it-2
 returns-then-is_it-2 c =
-    let first : let a = c.args in Passes (is_it a.x a.equal) a.s.now a.at (c.loop-i.i + 1) = let a = c.args in
-    passes_one _ a.s.now a.at c.loop-i.i (omega arith) (sym c.is_it.ensures ∙ c.if-is_it.false) c.loop-i.invariant in
-    first
+    passes_one c.loop-i.invariant (omega arith) (sym c.is_it.ensures ∙ c.if-is_it.false)
 
 pub returns-then-is_it-3 : goal.returns-then-is_it-3
 returns-then-is_it-3 c =
-    let first : let a = c.args in Passes (is_it a.x a.equal) a.s.now a.at (c.loop-i.i + 1) = let a = c.args in
-    passes_one _ a.s.now a.at c.loop-i.i (omega arith) (sym c.is_it.ensures ∙ c.if-is_it.false) c.loop-i.invariant in
-    let second : let a = c.args in Passes (is_it a.x a.equal) a.s.now a.at (c.loop-i.i + 1 + 1) = let a = c.args in
-    passes_one _ a.s.now a.at (c.loop-i.i + 1) (omega arith) (sym c.is_it-in-loop-i.ensures ∙ c.if-is_it-2.false) (first) in
-    second
+    let one = passes_one c.loop-i.invariant (omega arith) (sym c.is_it.ensures ∙ c.if-is_it.false) in
+    passes_one one (omega arith) (sym c.is_it-in-loop-i.ensures ∙ c.if-is_it-2.false)
 
 pub returns-then-is_it-4 : goal.returns-then-is_it-4
 returns-then-is_it-4 c =
-    let first : let a = c.args in Passes (is_it a.x a.equal) a.s.now a.at (c.loop-i.i + 1) = let a = c.args in
-    passes_one _ a.s.now a.at c.loop-i.i (omega arith) (sym c.is_it.ensures ∙ c.if-is_it.false) c.loop-i.invariant in
-    let second : let a = c.args in Passes (is_it a.x a.equal) a.s.now a.at (c.loop-i.i + 1 + 1) = let a = c.args in
-    passes_one _ a.s.now a.at (c.loop-i.i + 1) (omega arith) (sym c.is_it-in-loop-i.ensures ∙ c.if-is_it-2.false) (first) in
-    let third : let a = c.args in Passes (is_it a.x a.equal) a.s.now a.at (c.loop-i.i + 1 + 1 + 1) = let a = c.args in
-    passes_one _ a.s.now a.at (c.loop-i.i + 1 + 1) (omega arith) (sym c.is_it-in-loop-i-2.ensures ∙ c.if-is_it-3.false) (second) in
-    third
+    let one = passes_one c.loop-i.invariant (omega arith) (sym c.is_it.ensures ∙ c.if-is_it.false) in
+    let two = passes_one one (omega arith) (sym c.is_it-in-loop-i.ensures ∙ c.if-is_it-2.false) in
+    passes_one two (omega arith) (sym c.is_it-in-loop-i-2.ensures ∙ c.if-is_it-3.false)
 
 pub loop-i-preserved : goal.loop-i-preserved
 loop-i-preserved c =
-    let first : let a = c.args in Passes (is_it a.x a.equal) a.s.now a.at (c.loop-i.i + 1) = let a = c.args in
-    passes_one _ a.s.now a.at c.loop-i.i (omega arith) (sym c.is_it.ensures ∙ c.if-is_it.false) c.loop-i.invariant in
-    let second : let a = c.args in Passes (is_it a.x a.equal) a.s.now a.at (c.loop-i.i + 1 + 1) = let a = c.args in
-    passes_one _ a.s.now a.at (c.loop-i.i + 1) (omega arith) (sym c.is_it-in-loop-i.ensures ∙ c.if-is_it-2.false) (first) in
-    let third : let a = c.args in Passes (is_it a.x a.equal) a.s.now a.at (c.loop-i.i + 1 + 1 + 1) = let a = c.args in
-    passes_one _ a.s.now a.at (c.loop-i.i + 1 + 1) (omega arith) (sym c.is_it-in-loop-i-2.ensures ∙ c.if-is_it-3.false) (second) in
-    let a = c.args in
-    passes_one _ a.s.now a.at (c.loop-i.i + 1 + 1 + 1) (omega arith) (sym c.is_it-in-loop-i-3.ensures ∙ c.if-is_it-4.false) (third)
-
-pub returns : goal.returns
-returns c =
-    c.loop-i.invariant
+    let one = passes_one c.loop-i.invariant (omega arith) (sym c.is_it.ensures ∙ c.if-is_it.false) in
+    let two = passes_one one (omega arith) (sym c.is_it-in-loop-i.ensures ∙ c.if-is_it-2.false) in
+    let three = passes_one two (omega arith) (sym c.is_it-in-loop-i-2.ensures ∙ c.if-is_it-3.false) in
+    passes_one three (omega arith) (sym c.is_it-in-loop-i-3.ensures ∙ c.if-is_it-4.false)

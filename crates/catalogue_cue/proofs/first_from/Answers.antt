@@ -12,8 +12,7 @@ returns-then-is_it c =
 
 pub loop-i-preserved : goal.loop-i-preserved
 loop-i-preserved c =
-    let a = c.args in
-    passes_one _ a.s.now a.at c.loop-i.i c.loop-i-test.true (sym c.is_it.ensures ∙ c.if-is_it.false) c.loop-i.invariant
+    passes_one c.loop-i.invariant c.loop-i-test.true (sym c.is_it.ensures ∙ c.if-is_it.false)
 
 pub returns : goal.returns
 returns c =

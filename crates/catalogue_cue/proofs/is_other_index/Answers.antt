@@ -1,46 +1,31 @@
 -- `catalogue_cue::is_other_index`: the tests of the definition, in its order.
 use mathlib.Core.Path.{◌≡◌, sym, ap, ◌∙◌}
-use mathlib.Core.Bool.{Bool, true, not, ◌&&◌}
+use mathlib.Core.Bool.{Bool, not, ◌&&◌}
+use mathlib.Core.List.{List}
+use Prim.Native.Nat.{ℕ}
 use lib.Dec.{eqb}
-use Rattle.ground.proofs.Cases.{and_right}
-use native.Mathlib.Omega.{arith}
 use Rattle.catalogue_cue.specs.Sheet.{octets, begins, digits_at, number_at, is_other_index}
 use Rattle.catalogue_cue.proofs.Form.{short_index}
--- both tests, as the code asks them
 use Rattle.catalogue_cue.proofs.is_other_index.Goals as goal
 
 pub returns-then-line-lt8 : goal.returns-then-line-lt8
 returns-then-line-lt8 c =
     sym (short_index _ c.if-line-lt8.true)
 
+-- both tests, as the code asks them
+asked : (line : List ℕ) {index digits : Bool} → index ≡ begins (octets "INDEX ") line → digits ≡ digits_at line 6
+    → (index && digits) ≡ (begins (octets "INDEX ") line && digits_at line 6)
+asked line b d = λ i. b i && d i
+
 pub returns-then-not-index-digits : goal.returns-then-not-index-digits
 unfolding is_other_index
 returns-then-not-index-digits c =
-    let both : let line = c.args.line.now in
-    (c.begins_with-index.result && c.digits_at-digits.result) ≡ (begins (octets "INDEX ") line && digits_at line 6) = λ i. c.begins_with-index.ensures i && c.digits_at-digits.ensures i in
-    sym (ap (λ (t : Bool). t && not (eqb (number_at c.args.line.now 6) 1)) (sym (both) ∙ c.if-not-index-digits.true))
-
-pub number_at-number-requires-clause-at_in_bounds : goal.number_at-number-requires-clause-at_in_bounds
-number_at-number-requires-clause-at_in_bounds c =
-    let both : let line = c.args.line.now in
-    (c.begins_with-index.result && c.digits_at-digits.result) ≡ (begins (octets "INDEX ") line && digits_at line 6) = λ i. c.begins_with-index.ensures i && c.digits_at-digits.ensures i in
-    let right : let line = c.args.line.now in
-    (begins (octets "INDEX ") line && digits_at line 6) ≡ true = sym (both) ∙ c.if-not-index-digits.false in
-    omega arith
-
-pub number_at-number-requires-clause-at_value : goal.number_at-number-requires-clause-at_value
-number_at-number-requires-clause-at_value c =
-    let both : let line = c.args.line.now in
-    (c.begins_with-index.result && c.digits_at-digits.result) ≡ (begins (octets "INDEX ") line && digits_at line 6) = λ i. c.begins_with-index.ensures i && c.digits_at-digits.ensures i in
-    let right : let line = c.args.line.now in
-    (begins (octets "INDEX ") line && digits_at line 6) ≡ true = sym (both) ∙ c.if-not-index-digits.false in
-    and_right (begins (octets "INDEX ") c.args.line.now) _ (right)
+    let line = c.args.line.now in
+    let wrong = sym (asked line c.begins_with-index.ensures c.digits_at-digits.ensures) ∙ c.if-not-index-digits.true in
+    sym (ap (λ (t : Bool). t && not (eqb (number_at line 6) 1)) wrong)
 
 pub returns : goal.returns
 unfolding is_other_index
 returns c =
-    let both : let line = c.args.line.now in
-    (c.begins_with-index.result && c.digits_at-digits.result) ≡ (begins (octets "INDEX ") line && digits_at line 6) = λ i. c.begins_with-index.ensures i && c.digits_at-digits.ensures i in
-    let right : let line = c.args.line.now in
-    (begins (octets "INDEX ") line && digits_at line 6) ≡ true = sym (both) ∙ c.if-not-index-digits.false in
+    let right = sym (asked c.args.line.now c.begins_with-index.ensures c.digits_at-digits.ensures) ∙ c.if-not-index-digits.false in
     sym (λ i. right i && not (eqb (sym c.number_at-number.ensures.0 i) 1))

@@ -38,7 +38,7 @@ returns-in-70 c =
 
 pub returns-in_default : goal.returns-in_default
 returns-in_default c =
-    let line = c.args.line.now in
-    let no = c.in_default.in_default-own.rest in
-    let by = passed_by line c.octet_or_zero-first.result (sym c.octet_or_zero-first.ensures) in
-    sym (by ∙ rw (ne_eqb _ _ no.0.0.0.0.1, ne_eqb _ _ no.0.0.0.1, ne_eqb _ _ no.0.0.1, ne_eqb _ _ no.0.1, ne_eqb _ _ no.1) (simp or-false))
+    let first = c.octet_or_zero-first.result in
+    sym
+    (passed_by c.args.line.now first (sym c.octet_or_zero-first.ensures)
+    ∙ rw (ne_eqb first 73 (λ q. omega arith), ne_eqb first 82 (λ q. omega arith), ne_eqb first 84 (λ q. omega arith), ne_eqb first 80 (λ q. omega arith), ne_eqb first 70 (λ q. omega arith)) (simp or-false))

@@ -1,14 +1,12 @@
 -- `catalogue_cue::is_start`: the tests of the definition.
 use borrow.Author.Tests.{ne_eqb, eq-eqb}
-use mathlib.Core.Path.{◌≡◌, sym, ap, ◌∙◌}
-use mathlib.Core.Bool.{Bool, true, ◌&&◌}
+use mathlib.Core.Path.{◌≡◌, sym, ◌∙◌}
+use mathlib.Core.Bool.{Bool, ◌&&◌}
 use mathlib.Core.List.{List}
 use Prim.Native.Nat.{ℕ}
-use native.Mathlib.Omega.{arith}
 use lib.Dec.{leb}
-use Rattle.catalogue_cue.specs.Sheet.{number_at, colon_at, is_start}
-use Rattle.catalogue_cue.proofs.Form.{time_form, start_by, digits_12, digits_15}
--- length and word are right
+use Rattle.catalogue_cue.specs.Sheet.{digits_at, colon_at, is_start}
+use Rattle.catalogue_cue.proofs.Form.{time_form, start_by}
 use Rattle.catalogue_cue.proofs.is_start.Goals as goal
 
 pub returns-then-line-ne-START_OCTETS : goal.returns-then-line-ne-START_OCTETS
@@ -21,51 +19,21 @@ unfolding is_start
 returns-then-not-is_index_01 c =
     rw (eq-eqb _ _ c.if-line-ne-START_OCTETS.false, sym c.is_index_01.ensures ∙ c.if-not-is_index_01.true)
 
+-- the five tests, as the code asks them
+asked : (line : List ℕ) {mm ss ff : Bool} → mm ≡ digits_at line 9 → ss ≡ digits_at line 12 → ff ≡ digits_at line 15
+    → (mm && colon_at line 11 && ss && colon_at line 14 && ff) ≡ time_form line
+asked line m s f = λ i. m i && colon_at line 11 && s i && colon_at line 14 && f i
+
 pub returns-then-not-mm-line : goal.returns-then-not-mm-line
 returns-then-not-mm-line c =
-    let line_of : List ℕ = c.args.line.now in
-    let by_form : is_start (line_of) ≡ (time_form (line_of) && leb (number_at (line_of) 12) 59 && leb (number_at (line_of) 15) 74) = start_by (line_of) c.if-line-ne-START_OCTETS.false (sym c.is_index_01.ensures ∙ c.if-not-is_index_01.false) in
-    let form : (c.digits_at-mm.result && colon_at (line_of) 11 && c.digits_at-ss.result && colon_at (line_of) 14 && c.digits_at-ff.result)
-    ≡ time_form (line_of) = λ i. c.digits_at-mm.ensures i && colon_at (line_of) 11 && c.digits_at-ss.ensures i && colon_at (line_of) 14 && c.digits_at-ff.ensures i in
-    sym (by_form ∙ ap (λ (t : Bool). t && leb (number_at (line_of) 12) 59 && leb (number_at (line_of) 15) 74) (sym (form) ∙ c.if-not-mm-line.true))
-
-pub number_at-seconds-requires-clause-at_in_bounds : goal.number_at-seconds-requires-clause-at_in_bounds
-number_at-seconds-requires-clause-at_in_bounds c =
-    let line_of : List ℕ = c.args.line.now in
-    let form : (c.digits_at-mm.result && colon_at (line_of) 11 && c.digits_at-ss.result && colon_at (line_of) 14 && c.digits_at-ff.result)
-    ≡ time_form (line_of) = λ i. c.digits_at-mm.ensures i && colon_at (line_of) 11 && c.digits_at-ss.ensures i && colon_at (line_of) 14 && c.digits_at-ff.ensures i in
-    let right : time_form (line_of) ≡ true = sym (form) ∙ c.if-not-mm-line.false in
-    omega arith
-
-pub number_at-seconds-requires-clause-at_value : goal.number_at-seconds-requires-clause-at_value
-number_at-seconds-requires-clause-at_value c =
-    let line_of : List ℕ = c.args.line.now in
-    let form : (c.digits_at-mm.result && colon_at (line_of) 11 && c.digits_at-ss.result && colon_at (line_of) 14 && c.digits_at-ff.result)
-    ≡ time_form (line_of) = λ i. c.digits_at-mm.ensures i && colon_at (line_of) 11 && c.digits_at-ss.ensures i && colon_at (line_of) 14 && c.digits_at-ff.ensures i in
-    let right : time_form (line_of) ≡ true = sym (form) ∙ c.if-not-mm-line.false in
-    digits_12 _ (right)
-
-pub number_at-frames-requires-clause-at_in_bounds : goal.number_at-frames-requires-clause-at_in_bounds
-number_at-frames-requires-clause-at_in_bounds c =
-    let line_of : List ℕ = c.args.line.now in
-    let form : (c.digits_at-mm.result && colon_at (line_of) 11 && c.digits_at-ss.result && colon_at (line_of) 14 && c.digits_at-ff.result)
-    ≡ time_form (line_of) = λ i. c.digits_at-mm.ensures i && colon_at (line_of) 11 && c.digits_at-ss.ensures i && colon_at (line_of) 14 && c.digits_at-ff.ensures i in
-    let right : time_form (line_of) ≡ true = sym (form) ∙ c.if-not-mm-line.false in
-    omega arith
-
-pub number_at-frames-requires-clause-at_value : goal.number_at-frames-requires-clause-at_value
-number_at-frames-requires-clause-at_value c =
-    let line_of : List ℕ = c.args.line.now in
-    let form : (c.digits_at-mm.result && colon_at (line_of) 11 && c.digits_at-ss.result && colon_at (line_of) 14 && c.digits_at-ff.result)
-    ≡ time_form (line_of) = λ i. c.digits_at-mm.ensures i && colon_at (line_of) 11 && c.digits_at-ss.ensures i && colon_at (line_of) 14 && c.digits_at-ff.ensures i in
-    let right : time_form (line_of) ≡ true = sym (form) ∙ c.if-not-mm-line.false in
-    digits_15 _ (right)
+    let line = c.args.line.now in
+    let wrong = sym (asked line c.digits_at-mm.ensures c.digits_at-ss.ensures c.digits_at-ff.ensures) ∙ c.if-not-mm-line.true in
+    sym (start_by line c.if-line-ne-START_OCTETS.false (sym c.is_index_01.ensures ∙ c.if-not-is_index_01.false) ∙ rw wrong)
 
 pub returns : goal.returns
 returns c =
-    let line_of : List ℕ = c.args.line.now in
-    let by_form : is_start (line_of) ≡ (time_form (line_of) && leb (number_at (line_of) 12) 59 && leb (number_at (line_of) 15) 74) = start_by (line_of) c.if-line-ne-START_OCTETS.false (sym c.is_index_01.ensures ∙ c.if-not-is_index_01.false) in
-    let form : (c.digits_at-mm.result && colon_at (line_of) 11 && c.digits_at-ss.result && colon_at (line_of) 14 && c.digits_at-ff.result)
-    ≡ time_form (line_of) = λ i. c.digits_at-mm.ensures i && colon_at (line_of) 11 && c.digits_at-ss.ensures i && colon_at (line_of) 14 && c.digits_at-ff.ensures i in
-    let right : time_form (line_of) ≡ true = sym (form) ∙ c.if-not-mm-line.false in
-    sym (by_form ∙ (λ i. right i && leb (sym c.number_at-seconds.ensures.0 i) 59 && leb (sym c.number_at-frames.ensures.0 i) 74))
+    let line = c.args.line.now in
+    let right = sym (asked line c.digits_at-mm.ensures c.digits_at-ss.ensures c.digits_at-ff.ensures) ∙ c.if-not-mm-line.false in
+    sym
+    (start_by line c.if-line-ne-START_OCTETS.false (sym c.is_index_01.ensures ∙ c.if-not-is_index_01.false)
+    ∙ (λ i. right i && leb (sym c.number_at-seconds.ensures.0 i) 59 && leb (sym c.number_at-frames.ensures.0 i) 74))

@@ -6,7 +6,12 @@ use Rattle.catalogue_cue.proofs.Judging.{Judging}
 use Rattle.catalogue_cue.proofs.survey.Given as goal
 
 abbrev pub invariant-loop-at : goal.invariant-loop-at
-invariant-loop-at l = (l.at ≤ length l.sheet + 1) × (l.number ≤ l.at + 1) × (l.count ≤ l.number) × Judging l.sheet (behind_of l.sheet l.room) l.at l.number l.count l.last
+invariant-loop-at l = record {
+  within : l.at ≤ length l.sheet + 1;
+  numbered : l.number ≤ l.at + 1;
+  few : l.count ≤ l.number;
+  judging : Judging l.sheet (behind_of l.sheet l.room) l.at l.number l.count l.last;
+}
 
 abbrev pub decreases-loop-at : goal.decreases-loop-at
 decreases-loop-at l = length l.sheet + 1 - l.at

@@ -5,7 +5,7 @@ use native.Mathlib.Omega.{arith}
 use lib.ListN.{length}
 use borrow.Author.Rules.{rules}
 use Rattle.catalogue_tables.specs.Tables.{group_count}
-use Rattle.catalogue_objects.proofs.Left.{children_all, child_taken, child_passed, children_none}
+use Rattle.catalogue_objects.proofs.Left.{children_all, child_taken, child_passed}
 use Rattle.catalogue_objects.proofs.count_children.Goals as goal
 use Rattle.catalogue_objects.proofs.count_children.Goals.{then-is_child, else-is_child}
 
@@ -28,7 +28,3 @@ loop-h-preserved c =
           let e = child_passed groups g h below (sym c.is_child.ensures ∙ w.if-is_child.false) in
           record { few = omega (arith, w.n-is, inv.few); total = omega (arith, w.n-is, ap length e, inv.total) }
     ]
-
-pub returns : goal.returns
-returns c =
-    (omega (arith, c.loop-h.invariant.total, ap length (children_none c.args.groups.now c.args.g.0 c.loop-h.h (omega (arith, c.group_count-h-end.ensures)))), search rules)

@@ -2,7 +2,7 @@
 use mathlib.Core.Path.{◌≡◌, refl}
 use mathlib.Core.Bool.{true, false, ◌&&◌}
 use mathlib.Core.List.{List}
-use Prim.Native.Nat.{ℕ, ◌+◌, ◌-◌, ◌*◌, ◌≤◌, ◌<◌}
+use Prim.Native.Nat.{ℕ, ◌+◌, ◌*◌, ◌≤◌, ◌<◌}
 use native.Mathlib.Omega.{arith}
 use borrow.Author.Tests.{le-leb, lt-leb}
 use lib.Dec.{leb}
@@ -11,7 +11,7 @@ use Rattle.catalogue_objects.specs.declared.Kind.TheVariants.{Group}
 use Rattle.catalogue_objects.specs.Reading.{is_entry, no_entries, entries_of}
 use Rattle.catalogue_objects.proofs.Stores.{first_of}
 use Rattle.catalogue_objects.proofs.Steps.{entries_stop}
-use Rattle.catalogue_objects.proofs.Counting.{counting_starts, counting_ends, counting_broken, counting_goes}
+use Rattle.catalogue_objects.proofs.Counting.{counting_ends, counting_broken, counting_goes}
 -- a record at a place, by its type; and what is too short for one
 use Rattle.catalogue_objects.proofs.members_over.Goals as goal
 
@@ -30,10 +30,6 @@ module _ (octets : List ℕ) (at : ℕ) where
   unfolding is_entry
   cut_short h t =
       entries_stop Group (drop at octets) (omega (arith, length-drop at octets)) (λ k. lt-leb 7 (length (drop at octets)) (omega (arith, length-drop at octets)) k && leb (get_or (drop at octets) 0 0) 1)
-
-pub loop-i-init : goal.loop-i-init
-loop-i-init c =
-    counting_starts Group c.args.octets.now
 
 pub returns-then-octets-at-gt-GROUP : goal.returns-then-octets-at-gt-GROUP
 returns-then-octets-at-gt-GROUP c =

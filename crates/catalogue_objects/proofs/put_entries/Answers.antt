@@ -1,7 +1,5 @@
 -- `catalogue_objects::put_entries`: the words of the entries before the place are laid, and those of the others are left.
 use mathlib.Core.Path.{refl}
-use Prim.Native.Nat.{◌-◌}
-use native.Mathlib.Omega.{arith}
 use Rattle.catalogue_objects.proofs.Writing.{writing_starts, writing_ends, entry_within, words_fit, writing_goes}
 use Rattle.catalogue_objects.proofs.put_entries.Goals as goal
 
@@ -16,18 +14,6 @@ put_entry-requires-clause-at_in_bounds c =
 pub put_entry-requires-clause-kind_in_bounds : goal.put_entry-requires-clause-kind_in_bounds
 put_entry-requires-clause-kind_in_bounds c =
     words_fit c.loop-at.invariant c.loop-at-test.true
-
-pub overflow_add-at : goal.overflow_add-at
-overflow_add-at c =
-    omega (arith, entry_within c.loop-at.invariant c.loop-at-test.true c.size_at-at.ensures.0)
-
-pub overflow_add-to : goal.overflow_add-to
-overflow_add-to c =
-    omega (arith, words_fit c.loop-at.invariant c.loop-at-test.true, c.loop-at.auto.out, c.width_of-width.ensures.0)
-
-pub loop-at-smaller : goal.loop-at-smaller
-loop-at-smaller c =
-    omega (arith, entry_within c.loop-at.invariant c.loop-at-test.true c.size_at-at.ensures.0, c.size_at-at.ensures.1)
 
 pub loop-at-preserved : goal.loop-at-preserved
 loop-at-preserved c =

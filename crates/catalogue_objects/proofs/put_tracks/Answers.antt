@@ -6,7 +6,7 @@ use Rattle.ground.specs.Lists.{span, laid}
 use Rattle.catalogue_objects.specs.Entries.{track_member, member_octets}
 use Rattle.catalogue_objects.proofs.Octets.{member_long, members_long}
 use Rattle.catalogue_objects.proofs.Left.{tracks_left, tracks_all, tracks_next, tracks_none}
-use Rattle.catalogue_objects.proofs.Pieces.{pieces_start, pieces_end, pieces_room, pieces_go}
+use Rattle.catalogue_objects.proofs.Pieces.{pieces_start, pieces_end, pieces_go}
 use Rattle.catalogue_objects.proofs.Spans.{span_long}
 use Rattle.catalogue_objects.proofs.put_tracks.Goals as goal
 
@@ -15,13 +15,6 @@ loop-i-init c =
     let a = c.args in
     pieces_start a.out.now a.at (tracks_all a.first a.count)
     (omega (arith, members_long track_member (span a.first a.count), span_long a.first a.count, c.requires.count_in_bounds))
-
-pub put_member-requires : goal.put_member-requires
-put_member-requires c =
-    let a = c.args in
-    let i = c.loop-i.i in
-    let fits = pieces_room c.loop-i.invariant (member_octets (track_member (a.first + i))) (tracks_left a.first a.count (i + 1)) (tracks_next a.first a.count i c.loop-i-test.true) in
-    omega (arith, c.wide_word.ensures.0, member_long (track_member (a.first + i)), fits)
 
 pub loop-i-preserved : goal.loop-i-preserved
 loop-i-preserved c =
