@@ -11,11 +11,6 @@ loop-i-init c =
     let a = c.args in
     laying_start (word_blocks a.kind a.unit a.first a.src.now) a.first a.card.now
 
-pub words_block-b-requires-clause-count_bound : goal.words_block-b-requires-clause-count_bound
-words_block-b-requires-clause-count_bound c =
-    let m = c.min-m.result in
-    let u = c.args.unit in omega (arith, div-le_self m u)
-
 pub loop-i-preserved : goal.loop-i-preserved
 loop-i-preserved c =
     let p = c.put_block in

@@ -56,18 +56,6 @@ returns-then-not-parents_right c =
       parents_fails,
     )
 
-pub runs_right-requires-clause-width_in_bounds : goal.runs_right-requires-clause-width_in_bounds
-runs_right-requires-clause-width_in_bounds c =
-    let lent : Tables = tables c.args.groups.now c.args.tracks.now c.args.segments.now c.args.text.now in
-    let sizes_holds : let k = lent in sizes_rule (length k.groups) (length k.tracks) (length k.segments) (length k.text) ≡ true = sym c.sizes_right.ensures ∙ c.if-not-sizes_right.false in
-    omega (arith, few_groups _ _ _ _ (sizes_holds))
-
-pub runs_right-requires-clause-at_bound : goal.runs_right-requires-clause-at_bound
-runs_right-requires-clause-at_bound c =
-    let lent : Tables = tables c.args.groups.now c.args.tracks.now c.args.segments.now c.args.text.now in
-    let sizes_holds : let k = lent in sizes_rule (length k.groups) (length k.tracks) (length k.segments) (length k.text) ≡ true = sym c.sizes_right.ensures ∙ c.if-not-sizes_right.false in
-    omega (arith, few_groups _ _ _ _ (sizes_holds))
-
 pub runs_right-requires-clause-n_bound : goal.runs_right-requires-clause-n_bound
 runs_right-requires-clause-n_bound c =
     let lent : Tables = tables c.args.groups.now c.args.tracks.now c.args.segments.now c.args.text.now in

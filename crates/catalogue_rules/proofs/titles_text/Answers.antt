@@ -34,10 +34,6 @@ loop-i-init c =
     let z : n - n ≡ 0 = omega arith in
     sym (ap (λ (m : ℕ). bad_title_from a.tracks.now a.text.now m n) z)
 
-pub slice_bounds-check-end : goal.slice_bounds-check-end
-slice_bounds-check-end c =
-    omega (arith, c.requires (c.loop-i.i - 1) (omega arith))
-
 pub loop-i-preserved : goal.loop-i-preserved
 unfolding title_of
 loop-i-preserved c =
@@ -53,10 +49,3 @@ loop-i-preserved c =
     c.with_title-found.ensures
     ∙ (λ k. pick (said k).is_granted (behind k) (i ∷ (said k).values))
     ∙ sym (lower tracks text n i (omega arith))
-
-pub returns : goal.returns
-returns c =
-    let a = c.args in
-    let z : c.loop-i.i ≡ 0 = omega arith in
-    let e : track_count a.tracks.now - c.loop-i.i ≡ track_count a.tracks.now = omega arith in
-    c.loop-i.invariant ∙ (λ k. bad_title_from a.tracks.now a.text.now (e k) (z k))
