@@ -1,6 +1,5 @@
 -- `card_write::write_words`: the first i blocks are laid (`Laying`), and a turn lays the next.
 use mathlib.Core.Path.{◌∙◌}
-use native.Mathlib.Nat.{div-le_self}
 use native.Mathlib.Omega.{arith}
 use Rattle.card_write.specs.Card.{word_blocks}
 use Rattle.card_write.proofs.Joining.{laying_start, laying_next, laying_end, words_many, words_long, words_next}

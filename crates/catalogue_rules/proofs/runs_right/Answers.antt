@@ -1,8 +1,6 @@
 -- `catalogue_rules::runs_right`: the loop's state is `Following`.
-use Prim.Native.Nat.{◌≤◌, ◌+◌, ◌*◌}
 use native.Mathlib.Omega.{arith}
-use lib.ListN.{length}
-use Rattle.catalogue_rules.proofs.Runs.{record_inside, start, turn, end}
+use Rattle.catalogue_rules.proofs.Runs.{start, turn, end}
 use Rattle.catalogue_rules.proofs.runs_right.Goals as goal
 
 pub loop-i-init : goal.loop-i-init
