@@ -23,12 +23,10 @@ fn headed(number: usize, kind: u8, count: usize) -> [u8; 512]
     requires count_bound { count < 65536 }
     ensures { result ≡ head_of number kind count ++ zeros 507 }
 {
+    let [n0, n1] = (number as u16).to_le_bytes();
+    let [c0, c1] = (count as u16).to_le_bytes();
     let mut b = [0u8; 512];
-    b[0] = (number % 256) as u8;
-    b[1] = (number / 256) as u8;
-    b[2] = kind;
-    b[3] = (count % 256) as u8;
-    b[4] = (count / 256) as u8;
+    b[..card_block::HEAD].copy_from_slice(&[n0, n1, kind, c0, c1]);
     b
 }
 

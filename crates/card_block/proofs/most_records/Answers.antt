@@ -1,5 +1,6 @@
 -- `card_block::most_records`: in each arm the key says which case of `most_records` holds.
 use mathlib.Core.Path.{refl, sym, ap}
+use native.Mathlib.Omega.{arith}
 use borrow.Author.Tests.{ne_eqb}
 use Rattle.ground.proofs.Cases.{past}
 use Rattle.card_block.specs.Block.{most_records}
@@ -23,4 +24,4 @@ returns-in-3 c =
 pub returns-in_default : goal.returns-in_default
 unfolding most_records
 returns-in_default c =
-    past 42 (ne_eqb _ _ c.in_default.in_default-own.rest.0.0.1) (past 21 (ne_eqb _ _ c.in_default.in_default-own.rest.0.1) (past 126 (ne_eqb _ _ c.in_default.in_default-own.rest.1) refl))
+    past 42 (ne_eqb c.args.kind 1 (λ e. omega (arith, e))) (past 21 (ne_eqb c.args.kind 2 (λ e. omega (arith, e))) (past 126 (ne_eqb c.args.kind 3 (λ e. omega (arith, e))) refl))

@@ -5,14 +5,6 @@ use Rattle.ground.specs.Lists.{part}
 use Rattle.card_block.specs.Block.{all_zero, padding_rule}
 use Rattle.card_block.proofs.padding_right.Goals as goal
 
-pub slice_bounds-all_zero-count : goal.slice_bounds-all_zero-count
-slice_bounds-all_zero-count c =
-    c.records_end-end.ensures.2
-
-pub slice_bounds-all_zero-start : goal.slice_bounds-all_zero-start
-slice_bounds-all_zero-start c =
-    c.records_end-end.ensures.2
-
 pub returns : goal.returns
 unfolding padding_rule
 returns c =

@@ -1,5 +1,6 @@
 -- `card_block::record_size`: in each arm the key says which case of `record_size` holds.
 use mathlib.Core.Path.{refl, sym, ap}
+use native.Mathlib.Omega.{arith}
 use borrow.Author.Tests.{ne_eqb}
 use Rattle.ground.proofs.Cases.{past}
 use Rattle.card_block.specs.Block.{record_size}
@@ -23,4 +24,4 @@ returns-in-3 c =
 pub returns-in_default : goal.returns-in_default
 unfolding record_size
 returns-in_default c =
-    past 12 (ne_eqb _ _ c.in_default.in_default-own.rest.0.0.1) (past 24 (ne_eqb _ _ c.in_default.in_default-own.rest.0.1) (past 4 (ne_eqb _ _ c.in_default.in_default-own.rest.1) refl))
+    past 12 (ne_eqb c.args.kind 1 (λ e. omega (arith, e))) (past 24 (ne_eqb c.args.kind 2 (λ e. omega (arith, e))) (past 4 (ne_eqb c.args.kind 3 (λ e. omega (arith, e))) refl))

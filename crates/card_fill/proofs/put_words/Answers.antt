@@ -1,11 +1,10 @@
 -- `card_fill::put_words`: the octets of the first i words are laid, and a turn lays the next word's behind them.
 use mathlib.Core.Path.{◌≡◌, sym, ap, ◌∙◌}
-use mathlib.Core.List.{List}
-use Prim.Native.Nat.{ℕ, ◌+◌, ◌*◌}
+use Prim.Native.Nat.{◌+◌, ◌*◌}
 use native.Mathlib.Omega.{arith}
 use borrow.Author.Rules.{rules}
 use lib.ListN.{length, get_or, take}
-use lib.Seq.{length-take-le, take_all}
+use lib.Seq.{length-take-le}
 use Rattle.ground.specs.Lists.{laid}
 use Rattle.ground.specs.Words.{octets_of_word, octets_of}
 use Rattle.ground.proofs.Laying.{laid_nothing, laid_length, turn}
@@ -30,8 +29,3 @@ loop-i-preserved c =
       turn a.b.now a.at (octets_of (take l.i s)) next l.b p.new.b (a.at + l.i * 4) l.invariant.1 p.ensures (omega arith) (omega arith)
           ∙ ap (laid a.b.now a.at) (sym (octets_more s l.i c.loop-i-test.true)),
     )
-
-pub returns : goal.returns
-returns c =
-    let a = c.args in
-    c.loop-i.invariant.1 ∙ ap (λ (s : List ℕ). laid a.b.now a.at (octets_of s)) (take_all c.loop-i.i a.src.now (omega arith))

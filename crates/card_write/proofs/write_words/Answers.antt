@@ -1,6 +1,5 @@
 -- `card_write::write_words`: the first i blocks are laid (`Laying`), and a turn lays the next.
 use mathlib.Core.Path.{◌∙◌}
-use native.Mathlib.Nat.{div-le_self}
 use native.Mathlib.Omega.{arith}
 use Rattle.card_write.specs.Card.{word_blocks}
 use Rattle.card_write.proofs.Joining.{laying_start, laying_next, laying_end, words_many, words_long, words_next}
@@ -10,11 +9,6 @@ pub loop-i-init : goal.loop-i-init
 loop-i-init c =
     let a = c.args in
     laying_start (word_blocks a.kind a.unit a.first a.src.now) a.first a.card.now
-
-pub words_block-b-requires-clause-count_bound : goal.words_block-b-requires-clause-count_bound
-words_block-b-requires-clause-count_bound c =
-    let m = c.min-m.result in
-    let u = c.args.unit in omega (arith, div-le_self m u)
 
 pub loop-i-preserved : goal.loop-i-preserved
 loop-i-preserved c =

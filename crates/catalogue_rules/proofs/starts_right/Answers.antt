@@ -18,10 +18,6 @@ unfolding all_below
 loop-i-init c =
     refl
 
-pub slice_bounds-starts_of_track_right-end : goal.slice_bounds-starts_of_track_right-end
-slice_bounds-starts_of_track_right-end c =
-    omega (arith, c.requires c.loop-i.i (omega arith))
-
 pub loop-i-preserved : goal.loop-i-preserved
 unfolding end_of starts_of
 loop-i-preserved c =
