@@ -212,14 +212,12 @@ pub fn next_client(owed: [u32; 4], after: u32) -> u32
     requires { after < client_count }
     ensures { (result ≤ client_count) × (result ≡ next client_count (owing owed) after) }
 {
-    let mut d: u32 = 1;
-    while d <= CLIENTS {
+    for d in 1..=CLIENTS {
         let c = (after + d) % CLIENTS;
         let i = c as usize;
         if owed[i] != 0 {
             return c;
         }
-        d += 1;
     }
     CLIENTS
 }
