@@ -55,11 +55,8 @@ fn codes_right(waiting: usize, results: [Entry; 8]) -> bool
     ensures { result ≡ codes_right waiting results }
 {
     let mut good = true;
-    let mut i: usize = 0;
-    while i < waiting {
-        let e = results[i];
+    for e in &results[..waiting] {
         good = good & ((1 <= e.code) & (e.code <= 4));
-        i += 1;
     }
     good
 }
@@ -139,12 +136,9 @@ fn accounts_fit(l: Link, accounts: [Account; 2]) -> bool
     ensures { result ≡ all_below service_count (λ v. account_fits l (get_or accounts v no_account)) }
 {
     let mut good = true;
-    let mut v: usize = 0;
-    while v < 2 {
-        let a = accounts[v];
-        let fits = account_fits(l, a);
+    for a in &accounts {
+        let fits = account_fits(l, *a);
         good = good & fits;
-        v += 1;
     }
     good
 }
