@@ -15,17 +15,7 @@ ghost use Rattle.desk_notices.specs.Owed.{spared, falls, noticed, settled, no_wr
 pub fn same(a: &[u8], b: &[u8]) -> bool
     ensures { result ≡ same_octets a.now b.now }
 {
-    if a.len() != b.len() {
-        return false;
-    }
-    let mut i: usize = 0;
-    while i < a.len() {
-        if a[i] != b[i] {
-            return false;
-        }
-        i += 1;
-    }
-    true
+    a == b
 }
 
 fn octets_differ(a: u8, b: u8) -> bool
@@ -245,14 +235,12 @@ fn due_to(altered: u32, track: bool, cause: Cause, who: u32) -> u32
     ensures { result ≡ set_of slot_count (falls altered track cause who) }
 {
     let mut due: u32 = 0;
-    let mut s: u32 = 0;
-    while s < desk_slots::SLOTS {
+    for s in 0..desk_slots::SLOTS {
         let c = desk_slots::characteristic_of(s);
         let spare = is_spared(cause, who, c);
         let changed = ground::has_bit(altered, c);
         let falls = (changed | (track & ((c == 4) | (c == 7)))) & !spare;
         due = desk_slots::with_if(due, s, falls);
-        s += 1;
     }
     due
 }
@@ -266,13 +254,11 @@ fn note_all(
     ensures { result ≡ map_from (noticed altered track cause) 0 accounts }
 {
     let mut out = accounts;
-    let mut i: usize = 0;
-    while i < 4 {
+    for i in 0..4 {
         let who = i as u32;
         let due = due_to(altered, track, cause, who);
         let a = out[i];
         out[i] = desk_client::note(a, due, altered);
-        i += 1;
     }
     out
 }
