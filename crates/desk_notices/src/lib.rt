@@ -12,6 +12,7 @@ ghost use Rattle.ground.specs.Lists.{map_from};
 ghost use Rattle.desk_slots.specs.Slots.{slot_count};
 ghost use Rattle.desk_notices.specs.Owed.{spared, falls, noticed, settled, no_writer, by_writer};
 
+#[tactic(auto, unfolding(crate::specs::Changes::same_octets))]
 pub fn same(a: &[u8], b: &[u8]) -> bool
     ensures { result ≡ same_octets a.now b.now }
 {
