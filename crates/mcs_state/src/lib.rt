@@ -342,11 +342,7 @@ fn put(s: &mut [u8], at: usize, src: &[u8])
     requires { at + length src.now ≤ length s.old }
     ensures { s.new ≡ paste s.old at src.now (length src.now) }
 {
-    let mut i: usize = 0;
-    while i < src.len() {
-        s[at + i] = src[i];
-        i += 1;
-    }
+    s[at..at + src.len()].copy_from_slice(src);
 }
 
 // What owning an array tells, for the proof of a caller: no code comes of these.
@@ -520,13 +516,11 @@ fn accounts_fit(s: &[u8], service: u32) -> bool
     ensures { result ≡ accounts_fit (desk_of s.now).links (service_at (desk_of s.now) service).accounts }
 {
     let mut good = true;
-    let mut i: u32 = 0;
-    while i < desk_slots::CLIENTS {
+    for i in 0..desk_slots::CLIENTS {
         let l = link_at(s, i);
         let a = account_at(s, service, i);
         let fits = desk_client::account_fits(l, a);
         good = good & fits;
-        i += 1;
     }
     good
 }
@@ -536,13 +530,11 @@ fn services_right(groups: &[u32], tracks: &[u32], s: &[u8]) -> bool
     ensures { result ≡ services_rule groups.now tracks.now (desk_of s.now).links (desk_of s.now).services }
 {
     let mut good = true;
-    let mut v: u32 = 0;
-    while v < desk_slots::SERVICES {
+    for v in 0..desk_slots::SERVICES {
         let p = player_at(s, v);
         let player = player_check::player_right(groups, tracks, p);
         let fit = accounts_fit(s, v);
         good = good & (player & fit);
-        v += 1;
     }
     good
 }
@@ -552,12 +544,10 @@ fn links_right(s: &[u8]) -> bool
     ensures { result ≡ links_rule (desk_of s.now).links }
 {
     let mut good = true;
-    let mut i: u32 = 0;
-    while i < desk_slots::CLIENTS {
+    for i in 0..desk_slots::CLIENTS {
         let l = link_at(s, i);
         let right = desk_client::link_right(l);
         good = good & right;
-        i += 1;
     }
     good
 }
