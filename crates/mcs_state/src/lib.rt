@@ -345,23 +345,6 @@ fn put(s: &mut [u8], at: usize, src: &[u8])
     s[at..at + src.len()].copy_from_slice(src);
 }
 
-// What owning an array tells, for the proof of a caller: no code comes of these.
-fn eight_results(rs: [Entry; 8])
-    ensures { length rs ≡ 8 }
-{}
-
-fn four_accounts(accounts: [Account; 4])
-    ensures { length accounts ≡ 4 }
-{}
-
-fn four_links(links: [Link; 4])
-    ensures { length links ≡ 4 }
-{}
-
-fn two_services(services: [Service; 2])
-    ensures { length services ≡ 2 }
-{}
-
 fn lay_turn(s: &mut [u8], turn: u32)
     requires { 649 ≤ length s.old }
     ensures { s.new ≡ paste s.old 0 (turn_octets turn) 5 }
@@ -400,8 +383,6 @@ fn lay_account(s: &mut [u8], at: usize, who: usize, a: Account)
     ensures s_after { s.new ≡ paste s.old (at + (158 + who * 36)) (account_octets a) 36 }
     ensures kept { Kept account_from account_octets 36 a }
 {
-    let rs = a.results;
-    eight_results(rs);
     let octets = account_octets(a);
     put(s, at + (ACCOUNTS + who * ACCOUNT), &octets);
 }
@@ -415,7 +396,6 @@ fn lay_service(s: &mut [u8], service: usize, v: Service)
     let p = v.player;
     let name = p.name.octets;
     let accounts = v.accounts;
-    four_accounts(accounts);
     lay_name(s, at, name);
     lay_player(s, at, p);
     lay_account(s, at, 0, accounts[0]);
@@ -432,8 +412,6 @@ pub fn encode(d: Desk, s: &mut [u8])
 {
     let links = d.links;
     let services = d.services;
-    four_links(links);
-    two_services(services);
     lay_turn(s, d.turn);
     lay_link(s, 0, links[0]);
     lay_link(s, 1, links[1]);
@@ -566,9 +544,7 @@ pub fn desk_right(groups: &[u32], tracks: &[u32], s: &[u8]) -> bool
 // What being lent octets tells, for the proof of a caller: no code comes of it.
 pub fn are_octets(s: &[u8])
     ensures { Octets s.now }
-{
-    eight_results([Entry { opcode: 0, code: 0 }; 8]);
-}
+{}
 
 // One part of the state written back, where the octets are those that their state is written as: the octets of the other parts stay. Over what one of
 // these leaves the next may write.
