@@ -49,6 +49,7 @@ fn wide_at(s: &[u8], at: usize) -> usize
 }
 
 // The turn; none that a state may have where the layout is another.
+#[tactic(auto, unfolding(crate::specs::Codec::turn_from))]
 fn turn_from(s: &[u8]) -> u32
     requires { 5 ≤ length s.now }
     ensures { result ≡ turn_from s.now }
@@ -59,6 +60,7 @@ fn turn_from(s: &[u8]) -> u32
     NO_TURN
 }
 
+#[tactic(auto, unfolding(crate::specs::Codec::turn_octets))]
 fn turn_octets(turn: u32) -> [u8; 5]
     ensures { result ≡ turn_octets turn }
 {
@@ -72,6 +74,7 @@ fn turn_octets(turn: u32) -> [u8; 5]
 }
 
 // The ATT_MTU of a link; 0, which 201 refuses, where a yes-or-no octet is neither 0 nor 1.
+#[tactic(auto, unfolding(crate::specs::Codec::mtu_from))]
 fn mtu_from(s: &[u8]) -> u32
     requires { 10 ≤ length s.now }
     ensures { result ≡ mtu_from s.now }
@@ -99,6 +102,7 @@ fn link_from(s: &[u8], who: usize) -> Link
     }
 }
 
+#[tactic(auto, unfolding(crate::specs::Codec::link_octets))]
 fn link_octets(l: Link) -> [u8; 10]
     ensures { result ≡ link_octets l }
 {
@@ -167,6 +171,7 @@ fn account_from(s: &[u8], who: usize) -> Account
     }
 }
 
+#[tactic(auto, unfolding(crate::specs::Codec::account_octets))]
 fn account_octets(a: Account) -> [u8; 36]
     ensures { result ≡ account_octets a }
 {
@@ -254,6 +259,7 @@ fn player_from(name: &[u8], s: &[u8]) -> Player
 }
 
 // The 30 octets behind the name's.
+#[tactic(auto, unfolding(crate::specs::Codec::player_octets))]
 fn player_octets(p: Player) -> [u8; 30]
     ensures { result ≡ player_octets p }
 {
@@ -345,6 +351,7 @@ fn put(s: &mut [u8], at: usize, src: &[u8])
     s[at..at + src.len()].copy_from_slice(src);
 }
 
+#[tactic(auto, unfolding(crate::specs::Codec::turn_octets))]
 fn lay_turn(s: &mut [u8], turn: u32)
     requires { 649 ≤ length s.old }
     ensures { s.new ≡ paste s.old 0 (turn_octets turn) 5 }
@@ -353,6 +360,7 @@ fn lay_turn(s: &mut [u8], turn: u32)
     put(s, 0, &octets);
 }
 
+#[tactic(auto, unfolding(crate::specs::Codec::link_octets))]
 fn lay_link(s: &mut [u8], who: usize, l: Link)
     requires { (who < 4) × (649 ≤ length s.old) }
     ensures { s.new ≡ paste s.old (5 + who * 10) (link_octets l) 10 }
@@ -369,6 +377,7 @@ fn lay_name(s: &mut [u8], at: usize, name: [u8; 128])
     put(s, at, &name);
 }
 
+#[tactic(auto, unfolding(crate::specs::Codec::player_octets))]
 fn lay_player(s: &mut [u8], at: usize, p: Player)
     requires { at + 302 ≤ length s.old }
     ensures { s.new ≡ paste s.old (at + 128) (player_octets p) 30 }
