@@ -19,6 +19,7 @@ pub fn same(a: &[u8], b: &[u8]) -> bool
     a == b
 }
 
+#[tactic(auto, unfolding(crate::specs::Changes::same_octets))]
 fn octets_differ(a: u8, b: u8) -> bool
     ensures { result ≡ not (same_octets (a ∷ []) (b ∷ [])) }
 {
@@ -198,6 +199,7 @@ pub fn changed_word<'a>(
 }
 
 // 0 where no track is current, else its number and one.
+#[tactic(auto, unfolding(crate::specs::Changes::track_number))]
 fn track_number(p: player_state::Player) -> u64
     ensures { result ≡ track_number p }
 {
@@ -207,6 +209,7 @@ fn track_number(p: player_state::Player) -> u64
     (p.place.track.0 as u64) + 1
 }
 
+#[tactic(auto, unfolding(crate::specs::Changes::track_changed))]
 pub fn track_changed(p: player_state::Player, q: player_state::Player) -> bool
     ensures { result ≡ track_changed p q }
 {
@@ -224,6 +227,7 @@ pub struct Cause {
 }
 
 // Whether a characteristic is not owed to a client, although it changed.
+#[tactic(auto, unfolding(crate::specs::Owed::spared))]
 fn is_spared(cause: Cause, who: u32, c: u32) -> bool
     ensures { result ≡ spared cause who c }
 {
