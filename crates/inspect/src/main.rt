@@ -3,56 +3,55 @@
 // UTF-8 the refusal number, its track and the octet; or the refusal number alone.
 #![tactic(auto)]
 
-ghost use Rattle.std.specs.Prelude.{◌≤◌};
-
-use card_load::{Counts, Loaded};
-use catalogue_check::Catalogue;
+use card_load::Counts;
+use ground::{Carried, Reason, Refusal};
 
 fn write_number(n: usize) {
     io::print_decimal(1, n as u64);
 }
 
-// What is wrong with a block that is refused by this number.
-fn write_reason(number: u32) {
-    if number == ground::BAD_CHECK {
-        io::write_all(1, b"its check octets do not fit its contents");
-    }
-    if number == ground::BAD_BLOCK_NUMBER {
-        io::write_all(1, b"its number is not its place on the card");
-    }
-    if number == ground::BAD_KIND {
-        io::write_all(
-            1,
-            b"its kind is not 1 to 4, or below that of the block before",
-        );
-    }
-    if number == ground::BAD_COUNT {
-        io::write_all(
-            1,
-            b"its record count is 0, or more than a block of its kind holds",
-        );
-    }
-    if number == ground::NOT_FULL {
-        io::write_all(1, b"it is not full, and the block behind it is of its kind");
-    }
-    if number == ground::BAD_PADDING {
-        io::write_all(1, b"an octet behind its records is not 0");
+// What is wrong with a block that is refused for this reason.
+fn write_reason(reason: Reason) {
+    match reason {
+        Reason::BadCheck => {
+            io::write_all(1, b"its check octets do not fit its contents");
+        }
+        Reason::BadBlockNumber => {
+            io::write_all(1, b"its number is not its place on the card");
+        }
+        Reason::BadKind => {
+            io::write_all(
+                1,
+                b"its kind is not 1 to 4, or below that of the block before",
+            );
+        }
+        Reason::BadCount => {
+            io::write_all(
+                1,
+                b"its record count is 0, or more than a block of its kind holds",
+            );
+        }
+        Reason::NotFull => {
+            io::write_all(1, b"it is not full, and the block behind it is of its kind");
+        }
+        Reason::BadPadding => {
+            io::write_all(1, b"an octet behind its records is not 0");
+        }
+        _ => {}
     }
 }
 
-fn refuse(r: ground::Refusal) {
-    let number = r.number;
-    let carried = r.carried;
-    write_number(ground::wide_word(number));
-    match carried {
-        ground::Carried::Nothing => {}
-        ground::Carried::One(block) => {
+fn refuse(refusal: Refusal) {
+    write_number(ground::wide_word(u32::from(refusal.reason)));
+    match refusal.carried {
+        Carried::Nothing => {}
+        Carried::One(block) => {
             io::write_all(1, b": block ");
             write_number(block);
             io::write_all(1, b", ");
-            write_reason(number);
+            write_reason(refusal.reason);
         }
-        ground::Carried::Two(track, offset) => {
+        Carried::Two(track, offset) => {
             io::write_all(1, b": title of track ");
             write_number(track);
             io::write_all(1, b", octet ");
@@ -75,26 +74,15 @@ fn write_counts(counts: Counts) {
 
 // The loaded records alone are the catalogue.
 fn check(counts: Counts, groups: &[u32], tracks: &[u32], segments: &[u32], text: &[u8]) {
-    let answer = catalogue_check::check(groups, tracks, segments, text);
-    match answer {
-        Catalogue::Refused(r) => {
-            refuse(r);
+    match catalogue_check::check(groups, tracks, segments, text) {
+        Err(refusal) => {
+            refuse(refusal);
         }
-        Catalogue::Fine => {
+        Ok(()) => {
             write_counts(counts);
             io::write_all(1, b"catalogue fine\n");
         }
     }
-}
-
-// A count that keeps within its limit, as every count of a loaded card does.
-fn within(count: usize, limit: usize) -> usize
-    ensures { result ≤ limit }
-{
-    if count < limit {
-        return count;
-    }
-    limit
 }
 
 fn inspect(card: &[u8]) {
@@ -102,16 +90,16 @@ fn inspect(card: &[u8]) {
     let mut tracks = [0u32; 1536];
     let mut segments = [0u32; 1024];
     let mut text = [0u8; 32768];
-    let answer = card_load::load(card, &mut groups, &mut tracks, &mut segments, &mut text);
-    match answer {
-        Loaded::Refused(r) => {
-            refuse(r);
+    match card_load::load(card, &mut groups, &mut tracks, &mut segments, &mut text) {
+        Err(refusal) => {
+            refuse(refusal);
         }
-        Loaded::Done(counts) => {
-            let g = within(counts.groups, ground::MOST_GROUPS) * 3;
-            let t = within(counts.tracks, ground::MOST_TRACKS) * 6;
-            let s = within(counts.segments, ground::MOST_SEGMENTS);
-            let x = within(counts.text, ground::MOST_TEXT);
+        Ok(counts) => {
+            // Every count of a loaded card keeps within its limit.
+            let g = counts.groups.min(ground::MOST_GROUPS) * 3;
+            let t = counts.tracks.min(ground::MOST_TRACKS) * 6;
+            let s = counts.segments.min(ground::MOST_SEGMENTS);
+            let x = counts.text.min(ground::MOST_TEXT);
             check(
                 counts,
                 &groups[0..g],

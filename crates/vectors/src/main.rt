@@ -6,25 +6,14 @@
 
 ghost use Rattle.std.specs.Prelude.{◌-◌, ◌≤◌, length};
 
-use card_load::Loaded;
-use card_write::Written;
-use catalogue_check::Catalogue;
-use catalogue_cue::Cued;
-use catalogue_objects::{Answer, Kind};
-use text::Checked;
-
-fn at_most(n: usize, most: usize) -> usize
-    ensures { result ≤ most }
-{
-    if n < most {
-        return n;
-    }
-    most
-}
+use card_load::Counts;
+use catalogue_objects::Kind;
+use catalogue_titles::Loan;
+use ground::{Carried, Refusal};
 
 // The first n octets, or all where there are fewer.
 fn front(s: &[u8], n: usize) -> &[u8] {
-    let e = at_most(n, s.len());
+    let e = n.min(s.len());
     &s[0..e]
 }
 
@@ -60,11 +49,9 @@ fn write_number(n: usize) {
 fn sum_of_words(s: &[u32]) -> u32 {
     let mut sum: u32 = 0;
     let mut sums: u32 = 0;
-    let mut i = 0;
-    while i < s.len() {
-        sum = std::num::wrapping_add_u32(sum, s[i]);
+    for word in s {
+        sum = std::num::wrapping_add_u32(sum, *word);
         sums = std::num::wrapping_add_u32(sums, sum);
-        i += 1;
     }
     sums
 }
@@ -72,11 +59,9 @@ fn sum_of_words(s: &[u32]) -> u32 {
 fn sum_of_octets(s: &[u8]) -> u32 {
     let mut sum: u32 = 0;
     let mut sums: u32 = 0;
-    let mut i = 0;
-    while i < s.len() {
-        sum = std::num::wrapping_add_u32(sum, ground::wide_octet(s[i]));
+    for octet in s {
+        sum = std::num::wrapping_add_u32(sum, u32::from(*octet));
         sums = std::num::wrapping_add_u32(sums, sum);
-        i += 1;
     }
     sums
 }
@@ -91,37 +76,34 @@ fn write_sum_of_octets(s: &[u8]) {
 
 // What a table of words holds before a load: each word another.
 fn prefill(s: &mut [u32]) {
-    let mut word: u32 = 0xA5A50000;
-    let mut i = 0;
-    while i < s.len() {
-        s[i] = word;
-        word = std::num::wrapping_add_u32(word, 1);
-        i += 1;
+    let mut next: u32 = 0xA5A50000;
+    for word in s.iter_mut() {
+        *word = next;
+        next = std::num::wrapping_add_u32(next, 1);
     }
 }
 
 // A refusal: its number, and what it carries.
-fn write_refusal(r: ground::Refusal) {
-    write_number(ground::wide_word(r.number));
-    let carried = r.carried;
-    match carried {
-        ground::Carried::Nothing => {}
-        ground::Carried::One(place) => {
+fn write_refusal(refusal: Refusal) {
+    write_number(ground::wide_word(u32::from(refusal.reason)));
+    match refusal.carried {
+        Carried::Nothing => {}
+        Carried::One(place) => {
             write_number(place);
         }
-        ground::Carried::Two(track, offset) => {
+        Carried::Two(track, offset) => {
             write_number(track);
             write_number(offset);
         }
     }
 }
 
-fn write_answer(answer: Loaded) {
+fn write_answer(answer: Result<Counts, Refusal>) {
     match answer {
-        Loaded::Refused(r) => {
-            write_refusal(r);
+        Err(refusal) => {
+            write_refusal(refusal);
         }
-        Loaded::Done(counts) => {
+        Ok(counts) => {
             write_number(counts.groups);
             write_number(counts.tracks);
             write_number(counts.segments);
@@ -153,10 +135,10 @@ fn load_into(card: &[u8], groups: usize, tracks: usize, segments: usize, text: u
     let mut track_table = [0u32; 2048];
     let mut segment_table = [0u32; 2048];
     let mut text_table = [0xA5u8; 40000];
-    let g = at_most(groups, 2048);
-    let t = at_most(tracks, 2048);
-    let s = at_most(segments, 2048);
-    let x = at_most(text, 40000);
+    let g = groups.min(2048);
+    let t = tracks.min(2048);
+    let s = segments.min(2048);
+    let x = text.min(40000);
     load(
         card,
         &mut group_table[0..g],
@@ -185,17 +167,15 @@ fn card_case(s: &[u8]) -> &[u8]
 
 // Fills the front of the table with the little endian words of s.
 fn read_words(table: &mut [u32; 2048], s: &[u8]) {
-    let mut i: usize = 0;
-    while i < 2048 {
+    for i in 0..2048 {
         table[i] = word(rest(s, i * 4));
-        i += 1;
     }
 }
 
 // The first n words, or all where there are fewer.
 fn front_of_words(table: &[u32; 2048], n: usize) -> &[u32] {
     let whole = &table[..];
-    let e = at_most(n, whole.len());
+    let e = n.min(whole.len());
     &whole[0..e]
 }
 
@@ -203,16 +183,16 @@ fn front_of_words(table: &[u32; 2048], n: usize) -> &[u32] {
 fn rest_of_words(s: &[u8], n: usize) -> &[u8]
     ensures { length result.now ≤ length s.now }
 {
-    rest(s, at_most(n, 2048) * 4)
+    rest(s, n.min(2048) * 4)
 }
 
-fn write_checked(answer: Catalogue) {
+fn write_checked(answer: Result<(), Refusal>) {
     match answer {
-        Catalogue::Fine => {
+        Ok(()) => {
             io::write_all(1, b" fine");
         }
-        Catalogue::Refused(r) => {
-            write_refusal(r);
+        Err(refusal) => {
+            write_refusal(refusal);
         }
     }
 }
@@ -224,49 +204,39 @@ fn check_titles(groups: &[u32], tracks: &[u32], segments: &[u32], text: &[u8], b
     let entries = rest(behind, 8);
     let mut renames = [0u32; 2048];
     read_words(&mut renames, entries);
-    write_checked(catalogue_titles::check(
-        groups,
-        tracks,
-        segments,
-        text,
-        front_of_words(&renames, n),
-        front(rest_of_words(entries, n), m),
-    ));
+    let loan = Loan {
+        groups: groups,
+        tracks: tracks,
+        segments: segments,
+        text: text,
+        renames: front_of_words(&renames, n),
+        office: front(rest_of_words(entries, n), m),
+    };
+    write_checked(catalogue_titles::check(&loan));
 }
 
-fn write_written(answer: Written) {
+// The answer of what is written or read: how much of it, or the refusal.
+fn write_count(answer: Result<usize, Refusal>) {
     match answer {
-        Written::Done(blocks) => {
-            write_number(blocks);
+        Ok(count) => {
+            write_number(count);
         }
-        Written::Refused(r) => {
-            write_refusal(r);
+        Err(refusal) => {
+            write_refusal(refusal);
         }
     }
 }
 
 // Writes the answer and the check number of the whole lent card, so that what lies behind the last block is seen too.
 fn write_card(groups: &[u32], tracks: &[u32], segments: &[u32], text: &[u8], card: &mut [u8]) {
-    write_written(card_write::write(groups, tracks, segments, text, card));
+    write_count(card_write::write(groups, tracks, segments, text, card));
     write_sum_of_octets(card);
 }
 
 fn write_card_into(groups: &[u32], tracks: &[u32], segments: &[u32], text: &[u8], room: usize) {
     let mut card = [0xA5u8; 66048];
-    let n = at_most(room, 66048);
+    let n = room.min(66048);
     write_card(groups, tracks, segments, text, &mut card[0..n]);
-}
-
-// The answer of an object that is written or read: how much of it, or the refusal.
-fn write_filled(answer: Answer) {
-    match answer {
-        Answer::Filled(count) => {
-            write_number(count);
-        }
-        Answer::Refused(r) => {
-            write_refusal(r);
-        }
-    }
 }
 
 // Writes the answer and the check number of all lent octets, so that those behind the object are seen too.
@@ -279,7 +249,7 @@ fn write_group(
     out: &mut [u8],
 ) {
     let group = catalogue_tables::GroupNo(g);
-    write_filled(catalogue_objects::write_group(groups, tracks, segments, text, group, out));
+    write_count(catalogue_objects::write_group(groups, tracks, segments, text, group, out));
     write_sum_of_octets(out);
 }
 
@@ -292,7 +262,7 @@ fn write_group_into(
     room: usize,
 ) {
     let mut out = [0xA5u8; 8192];
-    let n = at_most(room, 8192);
+    let n = room.min(8192);
     write_group(groups, tracks, segments, text, g, &mut out[0..n]);
 }
 
@@ -305,7 +275,7 @@ fn write_segments(
     out: &mut [u8],
 ) {
     let track = catalogue_tables::TrackNo(t);
-    write_filled(catalogue_objects::write_segments(groups, tracks, segments, text, track, out));
+    write_count(catalogue_objects::write_segments(groups, tracks, segments, text, track, out));
     write_sum_of_octets(out);
 }
 
@@ -318,7 +288,7 @@ fn write_segments_into(
     room: usize,
 ) {
     let mut out = [0xA5u8; 8192];
-    let n = at_most(room, 8192);
+    let n = room.min(8192);
     write_segments(groups, tracks, segments, text, t, &mut out[0..n]);
 }
 
@@ -423,39 +393,27 @@ fn text_case(s: &[u8]) -> &[u8]
 {
     let len = number(s);
     let octets = rest(s, 4);
-    let answer = text::check(front(octets, len));
-    match answer {
-        Checked::Fine => {
+    match text::check(front(octets, len)) {
+        Ok(()) => {
             io::write_all(1, b" fine");
         }
-        Checked::BadAt(at) => {
+        Err(bad) => {
             io::write_all(1, b" bad at");
-            write_number(at);
+            write_number(bad.at);
         }
     }
     rest(octets, len)
 }
 
-fn write_cued(answer: Cued) {
-    match answer {
-        Cued::Done(count) => {
-            write_number(count);
-        }
-        Cued::Refused(r) => {
-            write_refusal(r);
-        }
-    }
-}
-
 fn read_sheet(sheet: &[u8], starts: &mut [u32]) {
     prefill(starts);
-    write_cued(catalogue_cue::read(sheet, starts));
+    write_count(catalogue_cue::read(sheet, starts));
     write_sum_of_words(starts);
 }
 
 fn read_sheet_into(sheet: &[u8], room: usize) {
     let mut table = [0u32; 4096];
-    let n = at_most(room, 4096);
+    let n = room.min(4096);
     read_sheet(sheet, &mut table[0..n]);
 }
 
@@ -472,25 +430,25 @@ fn sheet_case(s: &[u8]) -> &[u8]
 
 fn read_group(octets: &[u8], words: &mut [u32]) {
     prefill(words);
-    write_filled(catalogue_objects::read(octets, Kind::Group, words));
+    write_count(catalogue_objects::read(octets, Kind::Group, words));
     write_sum_of_words(words);
 }
 
 fn read_group_into(octets: &[u8], room: usize) {
     let mut table = [0u32; 4096];
-    let n = at_most(room, 4096);
+    let n = room.min(4096);
     read_group(octets, &mut table[0..n]);
 }
 
 fn read_segments(octets: &[u8], positions: &mut [u32]) {
     prefill(positions);
-    write_filled(catalogue_objects::read(octets, Kind::Segments, positions));
+    write_count(catalogue_objects::read(octets, Kind::Segments, positions));
     write_sum_of_words(positions);
 }
 
 fn read_segments_into(octets: &[u8], room: usize) {
     let mut table = [0u32; 4096];
-    let n = at_most(room, 4096);
+    let n = room.min(4096);
     read_segments(octets, &mut table[0..n]);
 }
 
@@ -546,6 +504,7 @@ fn frame(s: &[u8]) -> &[u8]
 
 fn frames(s: &[u8]) {
     let mut left = s;
+    // Stays a while: a turn goes on by the length of a frame.
     while 0 < left.len() {
         let after = frame(left);
         left = &after[0..];
