@@ -16,6 +16,8 @@ pub struct Entry {
 }
 
 // The link of a device: `mark` is the place of its round that was served last.
+// Stays a flag with values beside: a link has these values where nobody is connected too, 201 names them there (SCOPE 20.5), and the octets of a state hold
+// them (SCOPE 17.17).
 #[derive(Clone, Copy)]
 pub struct Link {
     pub connected: bool,
@@ -26,6 +28,7 @@ pub struct Link {
 
 // What a service owes to a device. `subscribed` and `owed` are words of slots, `fresh` a word of characteristics that were read at 0 and have not
 // changed since. The first `waiting` of the results wait, oldest first; the others are dead.
+// Stays an array with a number beside: no heap, and the octets of a state hold all eight results and the number (SCOPE 17.17).
 #[derive(Clone, Copy)]
 pub struct Account {
     pub subscribed: u32,
