@@ -6,8 +6,7 @@ ghost use Rattle.ground.specs.Refusals.{said_by, done_said};
 ghost use Rattle.card_block.specs.Sums.{sum_of, running_sums, sums_of};
 ghost use Rattle.card_block.specs.Block.{block_size, head_size, summed, kind_of, count_of, record_size, most_records, records_end, all_zero, check_rule, number_rule, kind_rule, count_rule, full_rule, padding_rule, block_rows};
 
-use ground::Reason;
-use ground::Refusal;
+use ground::{Reason, Refusal};
 
 // The octets in a block, in its head, and in head and records; behind those stand the two check octets.
 pub const BLOCK: usize = 512;

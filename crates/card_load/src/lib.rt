@@ -9,8 +9,7 @@ ghost use Rattle.card_block.specs.Block.{block_size};
 ghost use Rattle.card_load.specs.Card.{most_blocks, blocks, blocks_of, block_at, last_of_kind, blocks_rows, record_count, gather, octets, CountsFit};
 ghost use Rattle.card_load.specs.Load.{fits, room_row, counted, said_of, load_said};
 
-use ground::Reason;
-use ground::Refusal;
+use ground::{Reason, Refusal};
 
 // The octets in the longest card (SCOPE 3.1).
 const MOST_CARD: usize = 65536;
@@ -166,7 +165,13 @@ fn count(
 }
 
 // What loading a card into tables of these lengths answers. It writes nothing.
-fn survey(card: &[u8], groups: usize, tracks: usize, segments: usize, text: usize) -> Result<Counts, Refusal>
+fn survey(
+    card: &[u8],
+    groups: usize,
+    tracks: usize,
+    segments: usize,
+    text: usize,
+) -> Result<Counts, Refusal>
     ensures { said_of result ≡ load_said card.now groups tracks segments text }
 {
     let len = card.len();

@@ -1,11 +1,9 @@
 -- The contract of `write` settles the answer and the card: two outcomes that meet it at the same arguments are the same. Assumes nothing.
-use mathlib.Core.Path.{◌≡◌, refl, sym, ap, ◌∙◌}
+use mathlib.Core.Path.{◌≡◌, sym, ◌∙◌}
 use mathlib.Core.List.{List}
 use Prim.Native.Nat.{ℕ}
 use contract.Lifetimes.{Lfts}
 use denote.Ref.{Bor, MutBor}
-use lib.ListN.{get_or}
-use Rattle.ground.specs.Cases.{pick}
 use Rattle.ground.specs.Refusals.{count_said}
 use Rattle.ground.proofs.Settled.{count_settles, table_settled}
 use Rattle.catalogue_tables.specs.Tables.{tables}

@@ -10,8 +10,7 @@ ghost use Rattle.catalogue_tables.specs.Tables.{tables};
 ghost use Rattle.card_write.specs.Card.{words_take, octets_take, word_blocks, text_blocks, joined, blocks_taken, card_of};
 ghost use Rattle.card_write.specs.Write.{room_row, write_said};
 
-use ground::Reason;
-use ground::Refusal;
+use ground::{Reason, Refusal};
 
 // The words in a full block of records, and the octets in a full block of text (SCOPE 3.3).
 const FULL_WORDS: usize = 126;

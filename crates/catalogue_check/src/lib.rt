@@ -6,8 +6,7 @@ ghost use Rattle.ground.specs.Refusals.{done_said};
 ghost use Rattle.catalogue_tables.specs.Tables.{tables};
 ghost use Rattle.catalogue_check.specs.Catalogue.{plain_rule, check_said};
 
-use ground::Reason;
-use ground::Refusal;
+use ground::{Reason, Refusal};
 
 // Whether every rule is kept but the one that titles are UTF-8 (SCOPE 4.12).
 fn plain_right(groups: &[u32], tracks: &[u32], segments: &[u32], text: &[u8]) -> bool

@@ -8,8 +8,7 @@ ghost use Rattle.ground.specs.Lists.{filled, table_after, all_below};
 ghost use Rattle.catalogue_cue.specs.Sheet.{octets, begins, is_digit, digits_at, number_at, hundredths, is_start, start_of, is_other_index, is_passed, line_of, sheet_lines, starts_of, cue_said};
 ghost use Rattle.catalogue_cue.specs.Scan.{is_it, is_lf, ahead_end, Passes, CutAt, StartLine, NoStartLine, lines_from, ReadAt, looks_start, AllUnderstood, rises, weighed_of};
 
-use ground::Reason;
-use ground::Refusal;
+use ground::{Reason, Refusal};
 
 // What a line gives (SCOPE 6.5 to 6.8).
 #[derive(Clone, Copy)]

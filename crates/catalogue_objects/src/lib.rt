@@ -11,8 +11,7 @@ ghost use Rattle.catalogue_objects.specs.Entries.{track_member, group_member, is
 ghost use Rattle.catalogue_objects.specs.Objects.{group_octets, segments_octets, has_group, has_segments, write_said};
 ghost use Rattle.catalogue_objects.specs.Reading.{label_head, label_sound, size_of, is_entry, words_of, width_of, entries_of, CountsEntries, read_said};
 
-use ground::Reason;
-use ground::Refusal;
+use ground::{Reason, Refusal};
 
 // The types of a Group object's entries (SCOPE 7.2; the standard, Table 4.3).
 const TRACK: u8 = 0;
@@ -89,7 +88,11 @@ fn put_tracks(out: &mut [u8], at: usize, first: u32, count: u32)
 }
 
 // Writes the Group object of a group of a right catalogue (SCOPE 7.3).
-fn fill_group(groups: &[u32], g: catalogue_tables::GroupNo, out: &mut [u8]) -> Result<usize, Refusal>
+fn fill_group(
+    groups: &[u32],
+    g: catalogue_tables::GroupNo,
+    out: &mut [u8],
+) -> Result<usize, Refusal>
     requires groups_bound { group_count groups.now ≤ most_groups }
     requires g_bound { first_track_of groups.now g.0 + tracks_in groups.now g.0 ≤ most_tracks }
     ensures result_value { count_said result ≡ said_through (row 223 (ltb (length out.old) (length (group_octets groups.now g.0))) ∷ []) (granted (length (group_octets groups.now g.0) ∷ [])) }

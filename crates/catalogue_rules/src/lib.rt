@@ -6,8 +6,7 @@ ghost use Rattle.ground.specs.Refusals.{refused_with, refusal_of};
 ghost use Rattle.catalogue_tables.specs.Tables.{word_in, track_count};
 ghost use Rattle.catalogue_rules.specs.Rules.{sizes_rule, parent_right, parents_rule, follow, segment_runs_rule, durations_rule, rise_rule, starts_right, starts_rule, titles_placed_rule, bad_title, titles_of, RunsInside, TitlesInside};
 
-use ground::Reason;
-use ground::Refusal;
+use ground::{Reason, Refusal};
 
 // A title that is not UTF-8: the lowest such track, and the offset of the octet where its title is not.
 #[derive(Clone, Copy, PartialEq, Eq)]

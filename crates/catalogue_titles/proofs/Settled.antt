@@ -1,7 +1,5 @@
 -- The contract of `check` settles its answer, as the catalogue check's does. Assumes nothing.
 use mathlib.Core.Path.{◌≡◌}
-use mathlib.Core.List.{List}
-use Prim.Native.Nat.{ℕ}
 use contract.Lifetimes.{Lfts}
 use denote.Ref.{Bor}
 use Rattle.ground.proofs.Settled.{settled, done_settles}

@@ -9,9 +9,8 @@ ghost use Rattle.ground.specs.Lists.{all_below};
 ghost use Rattle.catalogue_titles.specs.Titles.{entry_rule, entries_rule, renames_rule, part_of, front, octets_at, Inside, IsPart};
 ghost use Rattle.catalogue_titles.specs.Lent.{lent, lent_said};
 
-use ground::Reason;
-use ground::Refusal;
 use catalogue_tables::TrackNo;
+use ground::{Reason, Refusal};
 
 // The words of an entry, and the place of each in it (SCOPE 5.1).
 pub const RENAME_WORDS: usize = 2;

@@ -12,8 +12,7 @@ ghost use Rattle.desk_links.specs.Links.{connect_call, disconnect_call, slot_cal
 
 use catalogue_titles::Loan;
 use desk_replies::Reply;
-use ground::Reason;
-use ground::Refusal;
+use ground::{Reason, Refusal};
 
 // A device connects, with its ATT_MTU, encrypted or not.
 pub fn connect(
@@ -41,11 +40,7 @@ pub fn connect(
 }
 
 // A device leaves.
-pub fn disconnect(
-    loan: &Loan,
-    state: &mut [u8; 649],
-    who: u32,
-) -> Result<Reply, Refusal>
+pub fn disconnect(loan: &Loan, state: &mut [u8; 649], who: u32) -> Result<Reply, Refusal>
     ensures { Answers (disconnect_call (lent loan.now) (desk_of state.old) who) state.old result state.new }
 {
     desk_replies::client_gate(loan, false, state, who)?;

@@ -8,8 +8,7 @@ ghost use Rattle.mcs_state.specs.Codec.{desk_of};
 ghost use Rattle.desk_replies.specs.Replies.{lent_rows, fronted, on_service, client_row, of_caller, of_characteristic, link_of};
 
 use catalogue_titles::Loan;
-use ground::Reason;
-use ground::Refusal;
+use ground::{Reason, Refusal};
 
 // What a call on the whole answers where it is accepted; where it is not, its answer is a refusal.
 #[derive(Clone, Copy, PartialEq, Eq)]

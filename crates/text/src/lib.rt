@@ -6,8 +6,7 @@ ghost use Rattle.ground.specs.Cases.{pick, within};
 ghost use Rattle.ground.specs.Refusals.{refused_with, refusal_of};
 ghost use Rattle.text.specs.Utf8.{is_tail, char_of, char_length, text_of, is_fine, said_of, text_said};
 
-use ground::Reason;
-use ground::Refusal;
+use ground::{Reason, Refusal};
 
 // Why octets are not text: the offset of the first one that does not start a whole valid character. All before it are whole valid characters.
 #[derive(Clone, Copy, PartialEq, Eq)]

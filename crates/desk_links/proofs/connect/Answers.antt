@@ -76,4 +76,3 @@ returns c =
     (past _ (sym (ap not c.mtu_right.ensures) ∙ ap not c.if-not-mtu_right.false)
     (ap (λ (r : Client). leaves (granted []) (with_client a.who r d)) (c.blank_client-fresh.ensures ∙ ap blank_client c.connected_link-link.ensures)))))
     refl c.put_client.ensures
-

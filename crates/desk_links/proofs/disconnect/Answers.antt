@@ -65,4 +65,3 @@ returns c =
     (past _ (sym (ap (λ (l : Link). not l.connected) c.link_at-old.ensures) ∙ c.if-not-old.false)
     (ap (λ (r : Client). leaves (granted []) (with_client a.who r d)) (c.blank_client-fresh.ensures ∙ ap blank_client c.fresh_link-link.ensures))))
     refl c.put_client.ensures
-

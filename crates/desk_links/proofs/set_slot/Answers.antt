@@ -82,4 +82,3 @@ returns c =
     (through (keeping d) (asked (lent a.loan.now) (desk_of a.state.now) a.who a.service a.characteristic) (none (asked (lent a.loan.now) (desk_of a.state.now) a.who a.service a.characteristic) (asked_by (lent a.loan.now) (desk_of a.state.now) a.who a.service a.characteristic c.slot_of-s.result (ap (λ (x : ℕ). ltb x slot_count) c.slot_of-s.ensures.1) c.in_ok-characteristic_gate.ensures) refl)
     (ap (λ (x : Account). leaves (granted []) (with_service a.service (with_account a.who x (service_at d a.service)) d)) next))
     refl c.put_account.ensures
-

@@ -45,4 +45,3 @@ returns c =
     says_behind (fronted (lent a.loan.now) a.small (desk_of a.state.now) ++ (client_row a.who ∷ [])) c.in_ok-client_gate.ensures refl
     (service_row a.service ∷ connected_row (link_of (desk_of a.state.now) a.who).connected ∷ [])
     (past (refused 219) (lt-leb _ _ c.if-service-ge-SERVICES.false) (past (refused 203) (sym (ap (λ (l : Link). not l.connected) c.link_at-l.ensures) ∙ c.if-not-l.false) refl))
-

@@ -52,4 +52,3 @@ returns c =
     says_behind (fronted (lent a.loan.now) a.small (desk_of a.state.now) ++ of_caller a.who a.service (link_of (desk_of a.state.now) a.who).connected) c.in_ok-caller_gate.ensures refl
     (of_characteristic (link_of (desk_of a.state.now) a.who).encrypted a.characteristic (number_of a.reason) a.allowed)
     (past (refused 0x01) (sym (ap not c.is_characteristic.ensures) ∙ ap not c.if-not-is_characteristic.false) (past (refused (number_of a.reason)) (ap not c.if-not-allowed.false) (past (refused 0x0F) (sym (ap (λ (l : Link). not l.encrypted) c.link_at-l.ensures) ∙ c.if-not-l.false) refl)))
-

@@ -32,4 +32,3 @@ returns c =
     says_behind (fronted (lent a.loan.now) a.small (desk_of a.state.now)) c.in_ok-front_gate.ensures refl
     (client_row a.who ∷ [])
     (past (refused 202) (lt-leb _ _ c.if-who-ge-CLIENTS.false) refl)
-

@@ -31,4 +31,3 @@ returns c =
     says_behind (lent_rows (lent a.loan.now) a.small) c.in_ok-lent_gate.ensures refl
     (state_row (state_right (lent a.loan.now) (desk_of a.state.now)) ∷ [])
     (past (refused 201) (ap not (sym c.desk_right.ensures ∙ c.if-not-desk_right.false)) refl)
-

@@ -32,4 +32,3 @@ returns c =
     says_behind (fit_rows (lent a.loan.now)) c.in_ok-check.ensures refl
     (row 205 a.small ∷ [])
     (past (refused 205) c.if-small.false refl)
-

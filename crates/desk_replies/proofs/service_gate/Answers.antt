@@ -32,4 +32,3 @@ returns c =
     says_behind (fronted (lent a.loan.now) false (desk_of a.state.now)) c.in_ok-front_gate.ensures refl
     (service_row a.service ∷ [])
     (past (refused 219) (lt-leb _ _ c.if-service-ge-SERVICES.false) refl)
-
