@@ -39,7 +39,7 @@ fn steps_on(
         }
         made += 1;
         let p = player_walk::place_after(step, repeat, len, at);
-        let player_walk::Near::At(next) = p else {
+        let Some(next) = p else {
             return Made::Stopped(made);
         };
         at = next;
@@ -66,8 +66,8 @@ fn from_end(
     }
     let p = player_walk::place_after(end, repeat, len, k);
     match p {
-        player_walk::Near::At(start) => steps_on(step, repeat, len, start, wanted, allowed),
-        player_walk::Near::Nothing => Made::Stopped(1),
+        Some(start) => steps_on(step, repeat, len, start, wanted, allowed),
+        None => Made::Stopped(1),
     }
 }
 

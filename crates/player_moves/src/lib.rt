@@ -50,14 +50,14 @@ fn undone(p: player_state::Player, res: u8) -> Controlled
 }
 
 // What Next Segment leads to past the last start of a track (SCOPE 10.4).
-pub fn past_last(tracks: &[u32], t: catalogue_tables::TrackNo) -> player_segments::NearPosition
+pub fn past_last(tracks: &[u32], t: catalogue_tables::TrackNo) -> Option<catalogue_tables::Position>
     ensures { near_position result ≡ past_last tracks.now t.0 }
 {
     if catalogue_tables::is_running(tracks, t) {
-        return player_segments::NearPosition::None;
+        return None;
     }
     let end = catalogue_tables::end(tracks, t);
-    player_segments::NearPosition::Found(end)
+    Some(end)
 }
 
 // Goto Segment 0 sets no position (SCOPE 10.7).
@@ -93,11 +93,11 @@ fn move_segment(
     let starts = catalogue_tables::starts(tracks, segments, t);
     let near = player_segments::segment_after(starts, past, from, step);
     match near {
-        player_segments::NearPosition::Found(to) => {
+        Some(to) => {
             let q = player_state::at_position(p, to);
             done(q)
         }
-        player_segments::NearPosition::None => undone(p, CANNOT_COMPLETE),
+        None => undone(p, CANNOT_COMPLETE),
     }
 }
 
@@ -106,7 +106,7 @@ fn near_track(
     tracks: &[u32],
     p: player_state::Player,
     step: player_walk::Step,
-) -> player_orders::NearTrack
+) -> Option<catalogue_tables::TrackNo>
     requires { Seated groups.now tracks.now p }
     ensures { near_track result ≡ track_after groups.now tracks.now step p }
 {
@@ -122,20 +122,20 @@ pub fn next_track(
     groups: &[u32],
     tracks: &[u32],
     p: player_state::Player,
-) -> player_orders::NearTrack
+) -> Option<catalogue_tables::TrackNo>
     requires { Seated groups.now tracks.now p }
     ensures { near_track result ≡ next_track groups.now tracks.now p }
 {
     if p.upcoming != 0 {
         let t = catalogue_tables::TrackNo(p.upcoming - 1);
-        return player_orders::NearTrack::Found(t);
+        return Some(t);
     }
     near_track(groups, tracks, p, player_walk::Step::Next)
 }
 
 // The player `from` goes to the track that was found in a group. Where none was found, the result is 4 and the player is p.
 fn go_to(
-    near: player_orders::NearTrack,
+    near: Option<catalogue_tables::TrackNo>,
     g: catalogue_tables::GroupNo,
     from: player_state::Player,
     p: player_state::Player,
@@ -143,11 +143,11 @@ fn go_to(
     ensures { result ≡ onward (near_track near) (λ (t : ℕ). success (moved_to g.0 t from)) p }
 {
     match near {
-        player_orders::NearTrack::Found(t) => {
+        Some(t) => {
             let q = player_state::move_to(from, g, t);
             done(q)
         }
-        player_orders::NearTrack::None => undone(p, CANNOT_COMPLETE),
+        None => undone(p, CANNOT_COMPLETE),
     }
 }
 
@@ -194,7 +194,7 @@ fn entry(
     tracks: &[u32],
     order: u8,
     g: catalogue_tables::GroupNo,
-) -> player_orders::NearTrack
+) -> Option<catalogue_tables::TrackNo>
     requires { RunOf groups.now tracks.now g.0 }
     ensures { near_track result ≡ entry_of groups.now tracks.now order g.0 }
 {
@@ -229,8 +229,8 @@ fn move_group(
     let g = p.place.group;
     let near = player_groups::group_after(groups, g, step);
     match near {
-        player_groups::NearGroup::Found(h) => enter(groups, tracks, p, h),
-        player_groups::NearGroup::None => undone(p, CANNOT_COMPLETE),
+        Some(h) => enter(groups, tracks, p, h),
+        None => undone(p, CANNOT_COMPLETE),
     }
 }
 
@@ -350,13 +350,13 @@ fn play_on(groups: &[u32], tracks: &[u32], p: player_state::Player, d: u32) -> p
     }
     let near = next_track(groups, tracks, p);
     match near {
-        player_orders::NearTrack::Found(t) => {
+        Some(t) => {
             let g = p.place.group;
             let begin = catalogue_tables::Position(0);
             let used = player_state::drop_named(p);
             player_state::at_place(used, g, t, begin)
         }
-        player_orders::NearTrack::None => {
+        None => {
             let q = player_state::in_mode(p, player_state::PAUSED, 0);
             let end = catalogue_tables::end(tracks, p.place.track);
             player_state::at_position(q, end)
@@ -434,11 +434,11 @@ pub fn activate(
 {
     let near = entry(groups, tracks, p.mode.order, g);
     match near {
-        player_orders::NearTrack::Found(t) => {
+        Some(t) => {
             let q = player_state::in_mode(p, player_state::PAUSED, 0);
             let begin = catalogue_tables::Position(0);
             player_state::at_place(q, g, t, begin)
         }
-        player_orders::NearTrack::None => p,
+        None => p,
     }
 }

@@ -67,11 +67,7 @@ pub fn fill(octets: [u8; ground::MOST_TITLE], name: &[u8]) -> [u8; ground::MOST_
     ensures { result ≡ filled name.now octets }
 {
     let mut out = octets;
-    let mut i: usize = 0;
-    while i < name.len() {
-        out[i] = name[i];
-        i += 1;
-    }
+    out[..name.len()].copy_from_slice(name);
     out
 }
 
@@ -232,6 +228,7 @@ pub fn with_speed(p: Player, speed: u8) -> Player
     q
 }
 
+#[tactic(auto, using(crate::proofs::Rungs::top), unfolding(crate::specs::Modes::rung_up))]
 fn rung_up(s: u8) -> u8
     ensures { result ≡ rung_up s }
 {
@@ -247,6 +244,7 @@ fn rung_up(s: u8) -> u8
     }
 }
 
+#[tactic(auto, using(crate::proofs::Rungs::bottom), unfolding(crate::specs::Modes::rung_down))]
 fn rung_down(s: u8) -> u8
     ensures { result ≡ rung_down s }
 {

@@ -1,9 +1,8 @@
 -- The five moves along a group's tracks, along groups and along a track's segments, each made from where the last step led (SCOPE 15.1); and the outcomes of
 -- the functions as plain numbers.
 -- Assumes nothing.
-use Rattle.std.specs.Prelude.{false, List, ℕ}
+use Rattle.std.specs.Prelude.{false, List, ℕ, Option}
 use Rattle.player_walk.specs.Steps.{move_in}
-use Rattle.player_walk.specs.declared.Near.{Near}
 use Rattle.player_walk.specs.declared.Step.{Step}
 use Rattle.player_manual.specs.declared.Made.{Made}
 use Rattle.player_manual.specs.declared.Made.TheVariants.{All, Stopped, RanOut}
@@ -18,15 +17,15 @@ use Rattle.player_steps.specs.declared.SegmentsMade.{SegmentsMade}
 use Rattle.player_steps.specs.declared.SegmentsMade.TheVariants as segment
 
 -- From a track t of a group's run. In orders 1 and 2 the list is t alone (SCOPE 11.1).
-abbrev pub along_tracks : ℕ → List ℕ → ℕ → ℕ → Step → ℕ → Near
+abbrev pub along_tracks : ℕ → List ℕ → ℕ → ℕ → Step → ℕ → Option ℕ
 along_tracks order tracks first count step t = move_in step (repeats order) (tracks_in_order order tracks first count t) t
 
 -- from a group, over the groups that a move from it runs over (SCOPE 12.1)
-abbrev pub along_groups : List ℕ → Step → ℕ → Near
+abbrev pub along_groups : List ℕ → Step → ℕ → Option ℕ
 along_groups groups step g = move_in step false (siblings groups g) g
 
 -- from a position of a track (SCOPE 10)
-abbrev pub along_segments : List ℕ → Near → Step → ℕ → Near
+abbrev pub along_segments : List ℕ → Option ℕ → Step → ℕ → Option ℕ
 along_segments starts past step position = segment_move step starts past position
 
 -- outcomes, as plain numbers

@@ -55,8 +55,8 @@ fn along_run(
         Made::All(j, steps) => {
             let near = player_orders::nth(tracks, by, first, count, j);
             match near {
-                player_orders::NearTrack::Found(to) => TracksMade::All(to, steps),
-                player_orders::NearTrack::None => TracksMade::Stopped(steps),
+                Some(to) => TracksMade::All(to, steps),
+                None => TracksMade::Stopped(steps),
             }
         }
         Made::Stopped(steps) => TracksMade::Stopped(steps),
@@ -77,7 +77,7 @@ pub fn goto_track(
     requires { InRun (length tracks.now) first.0 count t.0 }
     ensures { tracks_made result ≡ by_steps (along_tracks order tracks.now first.0 count) n allowed t.0 }
 {
-    let by = player_orders::by_of(order);
+    let by = player_orders::By::from(order);
     let repeat = order % 2 == 0;
     if order <= 2 {
         return along_run(tracks, by, repeat, t, 1, t, n, allowed);
@@ -113,8 +113,8 @@ pub fn goto_group(groups: &[u32], g: catalogue_tables::GroupNo, n: u32, allowed:
         Made::All(j, steps) => {
             let near = player_groups::nth_sibling(groups, g, bound, j);
             match near {
-                player_groups::NearGroup::Found(to) => GroupsMade::All(to, steps),
-                player_groups::NearGroup::None => GroupsMade::Stopped(steps),
+                Some(to) => GroupsMade::All(to, steps),
+                None => GroupsMade::Stopped(steps),
             }
         }
         Made::Stopped(steps) => GroupsMade::Stopped(steps),
@@ -125,7 +125,7 @@ pub fn goto_group(groups: &[u32], g: catalogue_tables::GroupNo, n: u32, allowed:
 // The steps behind the first one, which is counted already: `wanted` more, from a position.
 fn segments_on(
     starts: &[u32],
-    past: player_segments::NearPosition,
+    past: Option<catalogue_tables::Position>,
     step: player_walk::Step,
     from: catalogue_tables::Position,
     wanted: u32,
@@ -145,7 +145,7 @@ fn segments_on(
         }
         made += 1;
         let near = player_segments::segment_after(starts, past, at, step);
-        let player_segments::NearPosition::Found(next) = near else {
+        let Some(next) = near else {
             return SegmentsMade::Stopped(made);
         };
         at = next;
@@ -157,7 +157,7 @@ fn segments_on(
 // First or Last, and then the steps.
 fn segments_from_end(
     starts: &[u32],
-    past: player_segments::NearPosition,
+    past: Option<catalogue_tables::Position>,
     end: player_walk::Step,
     step: player_walk::Step,
     position: catalogue_tables::Position,
@@ -173,17 +173,15 @@ fn segments_from_end(
     }
     let near = player_segments::segment_after(starts, past, position, end);
     match near {
-        player_segments::NearPosition::Found(start) => {
-            segments_on(starts, past, step, start, wanted, allowed)
-        }
-        player_segments::NearPosition::None => SegmentsMade::Stopped(1),
+        Some(start) => { segments_on(starts, past, step, start, wanted, allowed) }
+        None => SegmentsMade::Stopped(1),
     }
 }
 
 // Goto Segment by single steps, from a position of a track. `past` is what Next Segment leads to past the last start: D, or nothing.
 pub fn goto_segment(
     starts: &[u32],
-    past: player_segments::NearPosition,
+    past: Option<catalogue_tables::Position>,
     position: catalogue_tables::Position,
     n: u32,
     allowed: u32,

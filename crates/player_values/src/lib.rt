@@ -183,8 +183,8 @@ pub fn next_now(groups: &[u32], tracks: &[u32], p: player_state::Player) -> usiz
     }
     let near = player_moves::next_track(groups, tracks, p);
     match near {
-        player_orders::NearTrack::Found(t) => catalogue_tables::track_object(t),
-        player_orders::NearTrack::None => 0,
+        Some(t) => catalogue_tables::track_object(t),
+        None => 0,
     }
 }
 

@@ -11,19 +11,19 @@ returns-then-allowed-eq0 c =
 
 pub steps_on-requires-clause-k_lt_len : goal.steps_on-requires-clause-k_lt_len
 steps_on-requires-clause-k_lt_len c =
-    let a = c.args in stays a.len a.end a.repeat a.k _ (omega arith) (sym c.place_after-p.ensures ∙ c.in-At.is)
+    let a = c.args in stays a.len a.end a.repeat a.k _ (omega arith) (sym c.place_after-p.ensures ∙ c.in-Some.is)
 
 pub steps_on-requires-clause-allowed_nonzero : goal.steps_on-requires-clause-allowed_nonzero
 steps_on-requires-clause-allowed_nonzero c =
     let a = c.args in omega arith
 
-pub returns-in-At : goal.returns-in-At
-returns-in-At c =
+pub returns-in-Some : goal.returns-in-Some
+returns-in-Some c =
     let a = c.args in
     c.steps_on.ensures
-    ∙ at_end_lem _ _ _ a.allowed _ (omega arith) (sym c.place_after-p.ensures ∙ c.in-At.is)
+    ∙ at_end_lem _ _ _ a.allowed _ (omega arith) (sym c.place_after-p.ensures ∙ c.in-Some.is)
 
-pub returns-in-Nothing : goal.returns-in-Nothing
-returns-in-Nothing c =
+pub returns-in-None : goal.returns-in-None
+returns-in-None c =
     let a = c.args in
-    no_end _ _ _ a.allowed (omega arith) (sym c.place_after-p.ensures ∙ c.in-Nothing.is)
+    no_end _ _ _ a.allowed (omega arith) (sym c.place_after-p.ensures ∙ c.in-None.is)

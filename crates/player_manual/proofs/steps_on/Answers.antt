@@ -26,7 +26,7 @@ loop-left-preserved c =
     let l = c.loop-left in
     let a = c.args in
     let e : a.allowed - l.made - 1 ≡ a.allowed - (l.made + 1) = omega arith in
-    let met = sym c.place_after-p.ensures ∙ c.in-At.is in (
+    let met = sym c.place_after-p.ensures ∙ c.in-Some.is in (
       stays _ _ _ _ _ l.invariant.0 met,
       omega arith,
       omega arith,

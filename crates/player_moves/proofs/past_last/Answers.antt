@@ -1,8 +1,8 @@
 -- `player_moves::past_last`: nothing where the duration is not yet known, else the end.
 use mathlib.Core.Path.{refl, sym, ap, ◌∙◌}
 use Prim.Native.Nat.{ℕ}
+use Rattle.std.specs.Prelude.{Some}
 use Rattle.ground.proofs.Cases.{past, here}
-use Rattle.player_walk.specs.declared.Near.TheVariants.{At}
 use Rattle.player_moves.proofs.past_last.Goals as goal
 
 pub returns-then-is_running : goal.returns-then-is_running
@@ -11,4 +11,4 @@ returns-then-is_running c =
 
 pub returns : goal.returns
 returns c =
-    past _ (sym c.is_running.ensures ∙ c.if-is_running.false) (ap (λ (d : ℕ). At d) c.end-end.ensures)
+    past _ (sym c.is_running.ensures ∙ c.if-is_running.false) (ap (λ (d : ℕ). Some d) c.end-end.ensures)

@@ -3,7 +3,7 @@ use mathlib.Core.Path.{◌≡◌, sym, ap, ◌∙◌}
 use Prim.Native.Nat.{ℕ, ◌+◌, ◌*◌}
 use native.Mathlib.Omega.{arith}
 use borrow.Author.Tests.{ltb-true}
-use Rattle.player_walk.specs.declared.Near.{Near}
+use Rattle.std.specs.Prelude.{Option}
 use Rattle.ground.proofs.Cases.{past, here}
 use Rattle.player_clock.specs.declared.Stepped.{Stepped}
 use Rattle.player_state.specs.Player.{clocked_to, at_position, at_place}
@@ -39,18 +39,18 @@ returns-then-running c =
     (here _ (sym c.is_running-running.ensures ∙ c.if-running.true)
     (c.clocked_to-then-running.ensures ∙ ap (λ (x : ℕ). clocked_to x a.p.place.rest a.p) c.end-last.ensures))
 
-pub returns-in-Found : goal.returns-in-Found
+pub returns-in-Some : goal.returns-in-Some
 unfolding played_on
-returns-in-Found c =
+returns-in-Some c =
     let asked : let a = c.args in c.is_below-below.result ≡ stays_below a.tracks.now a.d a.p = let a = c.args in
     c.is_below-below.ensures ∙ ap (λ (t : Stepped). is_below a.tracks.now t.whole a.p) c.step-step.ensures in
     let a = c.args in
-    let found = sym (ap near_track c.in-Found.is) ∙ c.next_track-near.ensures in
+    let found = sym (ap near_track c.in-Some.is) ∙ c.next_track-near.ensures in
     past _ (sym (asked) ∙ c.if-below.false)
     (past _ (sym c.is_running-running.ensures ∙ c.if-running.false)
     (c.at_place.ensures
     ∙ ap (at_place a.p.place.group.0 _ 0) c.drop_named-used.ensures
-    ∙ ap (λ (x : Near). after_end a.tracks.now x a.p) found))
+    ∙ ap (λ (x : Option ℕ). after_end a.tracks.now x a.p) found))
 
 pub returns-in-None : goal.returns-in-None
 unfolding played_on
@@ -61,4 +61,4 @@ returns-in-None c =
     let found = sym (ap near_track c.in-None.is) ∙ c.next_track-near.ensures in
     past _ (sym (asked) ∙ c.if-below.false)
     (past _ (sym c.is_running-running.ensures ∙ c.if-running.false)
-    (c.at_position.ensures ∙ (λ k. at_position (c.end-end.ensures k) (c.in_mode-q.ensures k)) ∙ ap (λ (x : Near). after_end a.tracks.now x a.p) found))
+    (c.at_position.ensures ∙ (λ k. at_position (c.end-end.ensures k) (c.in_mode-q.ensures k)) ∙ ap (λ (x : Option ℕ). after_end a.tracks.now x a.p) found))

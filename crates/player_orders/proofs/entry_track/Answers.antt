@@ -17,5 +17,5 @@ pub returns : goal.returns
 returns c =
     let a = c.args in
     c.nth.ensures
-    ∙ ap (λ (by : By). at (ordered by a.tracks.now a.first.0 a.count) 0) c.by_of-by.ensures
+    ∙ ap (λ (by : By). at (ordered by a.tracks.now a.first.0 a.count) 0) c.from-by.ensures
     ∙ ap first_of (many a.order a.tracks.now a.first.0 a.count a.first.0 (omega arith))

@@ -10,4 +10,4 @@ returns-then-order-le2 c =
 
 pub returns : goal.returns
 returns c =
-    c.moved-2.ensures ∙ along_run c.args.order _ _ _ _ _ _ c.by_of-by.ensures (omega arith)
+    c.moved-2.ensures ∙ along_run c.args.order _ _ _ _ _ _ c.from-by.ensures (omega arith)

@@ -1,7 +1,7 @@
 -- `player_segments::segment_after`: a case for each of the five moves.
 use mathlib.Core.Path.{sym, ap, ◌∙◌}
 use Prim.Native.Nat.{ℕ}
-use Rattle.player_walk.specs.declared.Near.TheVariants.{At}
+use Rattle.std.specs.Prelude.{Some}
 use Rattle.player_segments.specs.Segments.{move_along}
 use Rattle.player_segments.proofs.Whole.{some, from_zero}
 use Rattle.player_segments.proofs.Steps.{last_is}
@@ -10,7 +10,7 @@ use Rattle.player_segments.proofs.segment_after.Goals as goal
 pub returns-in-Previous : goal.returns-in-Previous
 unfolding move_along
 returns-in-Previous c =
-    rw c.in-Previous.is (ap (λ (n : ℕ). At n) c.previous_start-x.ensures)
+    rw c.in-Previous.is (ap (λ (n : ℕ). Some n) c.previous_start-x.ensures)
 
 pub returns-in-Next : goal.returns-in-Next
 unfolding move_along
@@ -20,12 +20,12 @@ returns-in-Next c =
 pub returns-in-First : goal.returns-in-First
 unfolding move_along
 returns-in-First c =
-    rw c.in-First.is (ap (λ (n : ℕ). At n) (sym (from_zero _ c.requires.rising)))
+    rw c.in-First.is (ap (λ (n : ℕ). Some n) (sym (from_zero _ c.requires.rising)))
 
 pub returns-in-Last : goal.returns-in-Last
 unfolding move_along
 returns-in-Last c =
-    rw c.in-Last.is (ap (λ (n : ℕ). At n) (c.start_back-x.ensures ∙ last_is _ (some _)))
+    rw c.in-Last.is (ap (λ (n : ℕ). Some n) (c.start_back-x.ensures ∙ last_is _ (some _)))
 
 pub returns-in-Goto : goal.returns-in-Goto
 returns-in-Goto c =

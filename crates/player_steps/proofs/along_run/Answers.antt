@@ -10,13 +10,13 @@ use Rattle.player_manual.proofs.Along.{landing}
 use Rattle.player_orders.specs.Order.{ordered, near_track}
 use Rattle.player_steps.proofs.along_run.Goals as goal
 
-pub returns-in-Found : goal.returns-in-Found
-returns-in-Found c =
+pub returns-in-Some : goal.returns-in-Some
+returns-in-Some c =
     let line : List ℕ = ordered c.args.by c.args.tracks.now c.args.first.0 c.args.count in
     let came : (r : Made) → c.goto_by_steps-made.result ≡ r
     → r ≡ by_steps (on_places c.args.repeat c.args.count) c.args.n c.args.allowed (place c.args.t.0 (line)) = λ r e. let a = c.args in
     sym e ∙ c.goto_by_steps-made.ensures ∙ ap (by_steps (on_places a.repeat a.count) a.n a.allowed) c.rank-k.ensures.0 in
-    landing (at (line)) _ _ _ _ (sym (ap near_track c.in-Found.is) ∙ c.nth-near.ensures) (came _ c.in-All.is)
+    landing (at (line)) _ _ _ _ (sym (ap near_track c.in-Some.is) ∙ c.nth-near.ensures) (came _ c.in-All.is)
 
 pub returns-in-None : goal.returns-in-None
 returns-in-None c =

@@ -2,8 +2,8 @@
 use mathlib.Core.Path.{◌≡◌, sym, ap, ◌∙◌}
 use mathlib.Core.List.{List}
 use Prim.Native.Nat.{ℕ}
+use Rattle.std.specs.Prelude.{Some}
 use Rattle.ground.specs.Lists.{span, those}
-use Rattle.player_walk.specs.declared.Near.TheVariants.{At}
 use Rattle.player_walk.specs.Steps.{at}
 use Rattle.player_manual.specs.declared.Made.{Made}
 use Rattle.player_manual.specs.Made.{by_steps}
@@ -19,22 +19,22 @@ use Rattle.player_steps.proofs.goto_group.Goals as goal
 pub returns-in-All : goal.returns-in-All
 returns-in-All c =
     let alone : (r : Made) → c.goto_by_steps-alone.result ≡ r
-    → let a = c.args in onto (λ k. At a.g.0) r ≡ by_steps (along_groups a.groups.now) a.n a.allowed a.g.0 = λ r e. let a = c.args in
-    ap (onto (λ k. At a.g.0)) (sym e ∙ c.goto_by_steps-alone.ensures) ∙ walked_alone a.groups.now a.g.0 c.if-g-eq0.true a.n a.allowed in
+    → let a = c.args in onto (λ k. Some a.g.0) r ≡ by_steps (along_groups a.groups.now) a.n a.allowed a.g.0 = λ r e. let a = c.args in
+    ap (onto (λ k. Some a.g.0)) (sym e ∙ c.goto_by_steps-alone.ensures) ∙ walked_alone a.groups.now a.g.0 c.if-g-eq0.true a.n a.allowed in
     alone _ c.in-All.is
 
 pub returns-in-Stopped : goal.returns-in-Stopped
 returns-in-Stopped c =
     let alone : (r : Made) → c.goto_by_steps-alone.result ≡ r
-    → let a = c.args in onto (λ k. At a.g.0) r ≡ by_steps (along_groups a.groups.now) a.n a.allowed a.g.0 = λ r e. let a = c.args in
-    ap (onto (λ k. At a.g.0)) (sym e ∙ c.goto_by_steps-alone.ensures) ∙ walked_alone a.groups.now a.g.0 c.if-g-eq0.true a.n a.allowed in
+    → let a = c.args in onto (λ k. Some a.g.0) r ≡ by_steps (along_groups a.groups.now) a.n a.allowed a.g.0 = λ r e. let a = c.args in
+    ap (onto (λ k. Some a.g.0)) (sym e ∙ c.goto_by_steps-alone.ensures) ∙ walked_alone a.groups.now a.g.0 c.if-g-eq0.true a.n a.allowed in
     alone _ c.in-Stopped.is
 
 pub returns-in-RanOut : goal.returns-in-RanOut
 returns-in-RanOut c =
     let alone : (r : Made) → c.goto_by_steps-alone.result ≡ r
-    → let a = c.args in onto (λ k. At a.g.0) r ≡ by_steps (along_groups a.groups.now) a.n a.allowed a.g.0 = λ r e. let a = c.args in
-    ap (onto (λ k. At a.g.0)) (sym e ∙ c.goto_by_steps-alone.ensures) ∙ walked_alone a.groups.now a.g.0 c.if-g-eq0.true a.n a.allowed in
+    → let a = c.args in onto (λ k. Some a.g.0) r ≡ by_steps (along_groups a.groups.now) a.n a.allowed a.g.0 = λ r e. let a = c.args in
+    ap (onto (λ k. Some a.g.0)) (sym e ∙ c.goto_by_steps-alone.ensures) ∙ walked_alone a.groups.now a.g.0 c.if-g-eq0.true a.n a.allowed in
     alone _ c.in-RanOut.is
 
 pub goto_by_steps-made-requires : goal.goto_by_steps-made-requires
@@ -42,14 +42,14 @@ goto_by_steps-made-requires c =
     let b = c.group_count-count in
     place_within c.args.groups.now c.args.g.0 c.requires c.if-g-eq0.false b.result _ _ b.ensures c.siblings_below-k.ensures.0 c.siblings_below-len.ensures.0
 
-pub returns-in-Found : goal.returns-in-Found
-returns-in-Found c =
+pub returns-in-Some : goal.returns-in-Some
+returns-in-Some c =
     let line : List ℕ = those (is_sibling c.args.groups.now c.args.g.0) (span 0 c.group_count-count.result) in
     let came : let a = c.args in onto (at (line)) c.goto_by_steps-made.result ≡ by_steps (along_groups a.groups.now) a.n a.allowed a.g.0 = let a = c.args in
     let b = c.group_count-count in
     ap (onto (at (line))) c.goto_by_steps-made.ensures
     ∙ walked_line a.groups.now a.g.0 c.requires c.if-g-eq0.false a.n a.allowed b.result _ _ b.ensures c.siblings_below-k.ensures.0 c.siblings_below-len.ensures.0 in
-    landing (at (line)) _ _ _ _ (sym (ap near_group c.in-Found.is) ∙ c.nth_sibling-near.ensures) (sym c.in-All-made.is) ∙ came
+    landing (at (line)) _ _ _ _ (sym (ap near_group c.in-Some.is) ∙ c.nth_sibling-near.ensures) (sym c.in-All-made.is) ∙ came
 
 pub returns-in-None : goal.returns-in-None
 returns-in-None c =

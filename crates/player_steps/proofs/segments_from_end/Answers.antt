@@ -9,11 +9,11 @@ pub returns-then-allowed-eq0 : goal.returns-then-allowed-eq0
 returns-then-allowed-eq0 c =
     none_allowed _ _ _ _ c.if-allowed-eq0.true
 
-pub returns-in-Found : goal.returns-in-Found
-returns-in-Found c =
+pub returns-in-Some : goal.returns-in-Some
+returns-in-Some c =
     let a = c.args in
     c.segments_on.ensures
-    ∙ at_end_lem _ _ _ a.allowed _ (omega arith) (sym c.segment_after-near.ensures ∙ ap near_position c.in-Found.is)
+    ∙ at_end_lem _ _ _ a.allowed _ (omega arith) (sym c.segment_after-near.ensures ∙ ap near_position c.in-Some.is)
 
 pub returns-in-None : goal.returns-in-None
 returns-in-None c =

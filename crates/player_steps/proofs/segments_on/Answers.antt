@@ -26,7 +26,7 @@ loop-left-preserved c =
     let l = c.loop-left in
     let a = c.args in
     let e : a.allowed - l.made - 1 ≡ a.allowed - (l.made + 1) = omega arith in
-    let met = sym c.segment_after-near.ensures ∙ ap near_position c.in-Found.is in
+    let met = sym c.segment_after-near.ensures ∙ ap near_position c.in-Some.is in
     (omega arith, omega arith, (rw e at (goes_on_lem _ _ l.made l.left _ _ l.invariant.2 (omega arith) (omega arith) _ met)))
 
 pub returns : goal.returns

@@ -1,6 +1,6 @@
 -- `player_values::copy`: after i turns the first i octets are copied.
 use mathlib.Core.Path.{◌≡◌, refl}
-use Prim.Native.Nat.{◌<◌, ◌-◌}
+use Prim.Native.Nat.{◌<◌}
 use native.Mathlib.Omega.{arith}
 use lib.ListN.{length, length-set}
 use Rattle.ground.proofs.Sweep.{copy_turn, copy_end}

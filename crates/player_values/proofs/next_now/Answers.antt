@@ -15,10 +15,10 @@ pub next_track-near-requires : goal.next_track-near-requires
 next_track-near-requires c =
     c.requires (omega (arith, c.if-p-eq-INACTIVE.false))
 
-pub returns-in-Found : goal.returns-in-Found
+pub returns-in-Some : goal.returns-in-Some
 unfolding next_now
-returns-in-Found c =
-    (rw (ne_eqb _ _ c.if-p-eq-INACTIVE.false) (c.track_object.ensures.0 ∙ ap track_found (sym (ap near_track c.in-Found.is) ∙ c.next_track-near.ensures)), c.track_object.ensures.1)
+returns-in-Some c =
+    (rw (ne_eqb _ _ c.if-p-eq-INACTIVE.false) (c.track_object.ensures.0 ∙ ap track_found (sym (ap near_track c.in-Some.is) ∙ c.next_track-near.ensures)), c.track_object.ensures.1)
 
 pub returns-in-None : goal.returns-in-None
 unfolding next_now

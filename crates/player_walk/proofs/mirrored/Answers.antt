@@ -4,8 +4,8 @@ use Rattle.player_walk.proofs.mirrored.Goals as goal
 
 pub returns-then-k-len : goal.returns-then-k-len
 returns-then-k-len c =
-    rw (c.in-At.is, lt-ltb _ _ c.if-k-len.true)
+    simp (c.in_ok-k.was, lt-ltb _ _ c.if-k-len.true)
 
-pub returns-else-k-len : goal.returns-else-k-len
-returns-else-k-len c =
-    rw (c.in-At.is, le-ltb _ _ c.if-k-len.false)
+pub returns : goal.returns
+returns c =
+    simp (c.in_ok-k.was, le-ltb _ _ c.if-k-len.false)
