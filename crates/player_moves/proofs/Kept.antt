@@ -64,12 +64,12 @@ module _ (groups tracks : List ℕ) where
   Stands q = player_rule groups tracks q ≡ true
 
   -- g is a group of the catalogue and t a track of it
-  record Some (g t : ℕ) : Type 0 where
+  record Found (g t : ℕ) : Type 0 where
     pub exists : g < group_count groups
     pub from : first_track_of groups g ≤ t
     pub to : t < first_track_of groups g + tracks_in groups g
 
-  in_found : (g t : ℕ) → in_group groups g t ≡ true → Some g t
+  in_found : (g t : ℕ) → in_group groups g t ≡ true → Found g t
   in_found g t within =
       let start = and_left (ltb g (group_count groups) && leb (first_track_of groups g) t) _ within in
       record {
@@ -109,7 +109,7 @@ module _ (groups tracks : List ℕ) where
         (true_or (eqb p.upcoming 0))
 
     -- at a track of a group, at a position up to the end
-    at_stands : (m : Mode) → mode_rule m ≡ true → 0 < m.media → (g t x : ℕ) → Some g t → x ≤ end_of tracks t → Stands (at_place g t x (with_mode m p))
+    at_stands : (m : Mode) → mode_rule m ≡ true → 0 < m.media → (g t x : ℕ) → Found g t → x ≤ end_of tracks t → Stands (at_place g t x (with_mode m p))
     at_stands m h active g t x f held =
         let q = at_place g t x (with_mode m p) in
         laws.stands groups tracks q (laws.name_kept groups tracks p right) h (laws.place_stands groups tracks q active f.exists f.from f.to held)
@@ -171,7 +171,7 @@ module _ (groups tracks : List ℕ) where
       position_stands : (x : ℕ) → x ≤ end_now tracks p → Stands (at_position x p)
       position_stands x h = clocked_stands x 0 h refl
 
-      moved_stands : (g t : ℕ) → Some g t → Stands (moved_to g t p)
+      moved_stands : (g t : ℕ) → Found g t → Stands (moved_to g t p)
       unfolding moved_to
       moved_stands g t f =
           by_test (λ q. Stands (at_place g t 0 q)) (eqb p.mode.media seeking) (in_mode playing 0 p) p
@@ -203,7 +203,7 @@ module _ (groups tracks : List ℕ) where
 
   module _ (segments : List ℕ) (s : Shaped groups tracks segments) where
     -- the entry to a group that is there and has tracks
-    entry_found : (order g t : ℕ) → Current groups g → entry_of groups tracks order g ≡ Some t → Some g t
+    entry_found : (order g t : ℕ) → Current groups g → entry_of groups tracks order g ≡ Some t → Found g t
     unfolding entry_of
     entry_found order g t c e =
         let r = entry_in_run order tracks (length tracks) (first_track_of groups g) (tracks_in groups g) (ready.current_run groups tracks segments s g c) c.used t e in
@@ -211,7 +211,7 @@ module _ (groups tracks : List ℕ) where
 
     module _ (p : Player) (right : Stands p) where
       module _ (active : 0 < p.mode.media) where
-        track_found_lem : (step : Step) (t : ℕ) → track_after groups tracks step p ≡ Some t → Some p.place.group.0 t
+        track_found_lem : (step : Step) (t : ℕ) → track_after groups tracks step p ≡ Some t → Found p.place.group.0 t
         unfolding track_after
         track_found_lem step t e =
             let g = p.place.group.0 in
@@ -221,7 +221,7 @@ module _ (groups tracks : List ℕ) where
             record { exists = laws.group_exists groups tracks p right active; from = r.0; to = r.1 }
 
         -- the next track, and where any track move leads; what that leaves of the name
-        next_found : (t : ℕ) → next_track groups tracks p ≡ Some t → Some p.place.group.0 t
+        next_found : (t : ℕ) → next_track groups tracks p ≡ Some t → Found p.place.group.0 t
         next_found t e =
             ⊎_elim
             (λ z. track_found_lem Next t (sym (next_ordered groups tracks p (eqb-true _ _ z)) ∙ e))
@@ -231,7 +231,7 @@ module _ (groups tracks : List ℕ) where
             in_found p.place.group.0 t (rw (sym one) (laws.named_within groups tracks p right some)))
             (true_or (eqb p.upcoming 0))
 
-        reached_found : (step : Step) (t : ℕ) → track_reached groups tracks step p ≡ Some t → Some p.place.group.0 t
+        reached_found : (step : Step) (t : ℕ) → track_reached groups tracks step p ≡ Some t → Found p.place.group.0 t
         reached_found Next t e = next_found t e
         reached_found Previous t e = track_found_lem Previous t e
         reached_found First t e = track_found_lem First t e

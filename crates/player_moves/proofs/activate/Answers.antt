@@ -1,6 +1,6 @@
 -- `player_moves::activate`: at the entry of the group.
 use mathlib.Core.Path.{sym, ap, ◌∙◌}
-use Rattle.std.specs.Prelude.{Option}
+use Rattle.std.specs.Prelude.{ℕ, Option}
 use Rattle.player_state.specs.Player.{at_place}
 use Rattle.player_orders.specs.Order.{near_track}
 use Rattle.player_moves.specs.Clock.{activated_on, activated}

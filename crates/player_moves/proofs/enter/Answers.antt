@@ -1,6 +1,6 @@
 -- `player_moves::enter`: at the entry of the group, or result 4.
 use mathlib.Core.Path.{ap, ◌∙◌}
-use Rattle.std.specs.Prelude.{Option}
+use Rattle.std.specs.Prelude.{ℕ, Option}
 use Rattle.player_state.specs.Modes.{moved_to}
 use Rattle.player_moves.specs.Control.{success, onward}
 use Rattle.player_moves.proofs.enter.Goals as goal

@@ -1,6 +1,6 @@
 -- `player_moves::go_to`: to the track that was found, or result 4.
 use mathlib.Core.Path.{sym, ap, ◌∙◌}
-use Rattle.std.specs.Prelude.{Option}
+use Rattle.std.specs.Prelude.{ℕ, Option}
 use Rattle.player_state.specs.Modes.{moved_to}
 use Rattle.player_orders.specs.Order.{near_track}
 use Rattle.player_moves.specs.Control.{success, onward}

@@ -1,6 +1,6 @@
 -- `player_moves::move_group`: to the entry of the group that was found, or result 4.
 use mathlib.Core.Path.{sym, ap, ◌∙◌}
-use Rattle.std.specs.Prelude.{Option}
+use Rattle.std.specs.Prelude.{ℕ, Option}
 use Rattle.player_groups.specs.Family.{near_group}
 use Rattle.player_moves.specs.Moves.{group_after}
 use Rattle.player_moves.specs.Control.{onward, entered}

@@ -1,7 +1,7 @@
 -- `player_moves::move_segment`: Goto 0; to the position that was found, or result 4.
 use mathlib.Core.Path.{◌≡◌, sym, ap, ◌∙◌}
 use mathlib.Core.Bool.{false}
-use Rattle.std.specs.Prelude.{Option}
+use Rattle.std.specs.Prelude.{ℕ, Option}
 use Rattle.ground.proofs.Cases.{past, here}
 use Rattle.catalogue_tables.specs.Tables.{starts_of}
 use Rattle.player_state.specs.Player.{at_position}
