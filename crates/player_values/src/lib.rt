@@ -1,7 +1,7 @@
 // The values of the characteristics (SCOPE 16): a part of each, put over the front of lent octets; and how many octets each value has.
 #![tactic(auto)]
 
-ghost use Rattle.std.specs.Prelude.{◌≡◌, ◌≤◌, ◌<◌, min, ◌∷◌, [], length};
+ghost use Rattle.std.specs.Prelude.{◌≡◌, ◌≤◌, ◌<◌, ◌∷◌, [], length};
 ghost use Rattle.ground.specs.Limits.{most_title};
 ghost use Rattle.ground.specs.Lists.{filled, part_from};
 ghost use Rattle.player_state.specs.Player.{name_of};
@@ -11,27 +11,6 @@ ghost use Rattle.player_moves.specs.Moves.{Sits};
 // What the duration and the position are while there is no current track (SCOPE 16.4).
 const MINUS_ONE: u32 = 0xFFFF_FFFF;
 
-fn lesser(a: usize, b: usize) -> usize
-    ensures { result ≡ min a b }
-{
-    if a < b {
-        return a;
-    }
-    b
-}
-
-// Copies s over the front of out.
-fn copy(out: &mut [u8], s: &[u8])
-    requires { length s.now ≤ length out.old }
-    ensures { out.new ≡ filled s.now out.old }
-{
-    let mut i: usize = 0;
-    while i < s.len() {
-        out[i] = s[i];
-        i += 1;
-    }
-}
-
 // Puts the octets of s, from a place on and at most so many, over the front of out; and answers how many they are.
 pub fn put(out: &mut [u8], s: &[u8], from: usize, most: usize) -> usize
     requires s_in_bounds { length s.now ≤ length out.old }
@@ -39,9 +18,9 @@ pub fn put(out: &mut [u8], s: &[u8], from: usize, most: usize) -> usize
     ensures value { result ≡ length (part_from from most s.now) }
     ensures out_after { out.new ≡ filled (part_from from most s.now) out.old }
 {
-    let n = lesser(most, s.len() - from);
+    let n = most.min(s.len() - from);
     let to = from + n;
-    copy(out, &s[from..to]);
+    out[..n].copy_from_slice(&s[from..to]);
     n
 }
 
@@ -225,6 +204,7 @@ fn put_object(out: &mut [u8], object: usize, from: usize, most: usize) -> usize
 
 // Puts the octets of a characteristic's value, from a place on and at most so many, over the front of out; and answers how many they are. 4, 18 and every
 // number that is no characteristic have no octets (SCOPE 16.1).
+#[tactic(auto, using(crate::proofs::Laws::value_none), unfolding(crate::specs::Values::value_of, crate::specs::Values::opcodes_value, crate::specs::Values::word_octets))]
 pub fn value<'a>(
     out: &mut [u8],
     groups: &[u32],
@@ -294,6 +274,7 @@ fn object_length(object: usize) -> usize
 }
 
 // How many octets the value of a characteristic has.
+#[tactic(auto, using(crate::proofs::Laws::value_none), unfolding(crate::specs::Values::value_of, crate::specs::Values::duration_value, crate::specs::Values::position_value, crate::specs::Values::opcodes_value, crate::specs::Values::word_octets))]
 pub fn length_of<'a>(
     groups: &[u32],
     tracks: &[u32],
