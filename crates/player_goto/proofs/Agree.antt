@@ -43,7 +43,7 @@ came g = record { result = g.outcome; player = g.player }
 
 module _ (n allowed : ℕ) (p : Player) where
   -- how a walk ends, where its steps were enough
-  ended_onward : (m : Made) (near : Option ℕ) (f : ℕ → Controlled) → Counts allowed (size (signed_word n)) m → size (signed_word n) ≤ allowed → found m ≡ near
+  ended_onward : (m : Made ℕ) (near : Option ℕ) (f : ℕ → Controlled) → Counts allowed (size (signed_word n)) m → size (signed_word n) ≤ allowed → found m ≡ near
       → came (ended m f p) ≡ onward near f p
   ended_onward (All x k) near f c enough e = ap (λ (q : Option ℕ). onward q f p) e
   ended_onward (Stopped k) near f c enough e = ap (λ (q : Option ℕ). onward q f p) e

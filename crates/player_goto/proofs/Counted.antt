@@ -50,7 +50,7 @@ Ends allowed m p g = AllMade allowed m g ⊎ (NotBegun p g ⊎ (CouldNot allowed
 
 module _ (n allowed : ℕ) (p : Player) where
   -- a walk that was counted, and what it ends with
-  counted_ends : (r : Made) (f : ℕ → Controlled) → Counts allowed (size (signed_word n)) r → ((x k : ℕ) → r ≡ All x k → (f x).result ≡ 1) → Ends allowed (size (signed_word n)) p (ended r f p)
+  counted_ends : (r : Made ℕ) (f : ℕ → Controlled) → Counts allowed (size (signed_word n)) r → ((x k : ℕ) → r ≡ All x k → (f x).result ≡ 1) → Ends allowed (size (signed_word n)) p (ended r f p)
   counted_ends (All x k) f c fine = inl (fine x k refl, c.0, c.1)
   counted_ends (Stopped k) f c fine = inr (inr (inl (refl, c.0, c.1, c.2, refl)))
   counted_ends (RanOut k) f c fine = inr (inr (inr (refl, c.0, c.1, refl)))

@@ -31,7 +31,7 @@ same_pick : (t : Bool) (a b c d : Gone) → Same a c → Same b d → Same (pick
 same_pick true a b c d e f = e
 same_pick false a b c d e f = f
 
-same_ended : (m : Made) (f g : ℕ → Controlled) (p q : Player) → p.place ≡ q.place → ((x : ℕ) → Alike (f x) (g x)) → Same (ended m f p) (ended m g q)
+same_ended : (m : Made ℕ) (f g : ℕ → Controlled) (p q : Player) → p.place ≡ q.place → ((x : ℕ) → Alike (f x) (g x)) → Same (ended m f p) (ended m g q)
 same_ended (All x n) f g p q e h = ((h x).0, refl, (h x).1)
 same_ended (Stopped n) f g p q e h = (refl, refl, e)
 same_ended (RanOut n) f g p q e h = (refl, refl, e)

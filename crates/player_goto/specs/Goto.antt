@@ -37,7 +37,7 @@ from_group groups p step g = group_after groups step (at_place g 0 0 p)
 
 -- How it ends. All steps were made: the player goes where they led. SCOPE 15.4: where a step cannot be made, "it stops there .. and result 4 stands".
 -- SCOPE 15.5: if the allowed steps run out, "it says so (outcome 0) .. and nothing moves".
-abbrev pub ended : Made → (ℕ → Controlled) → Player → Gone
+abbrev pub ended : Made ℕ → (ℕ → Controlled) → Player → Gone
 ended (All x steps) f p = went steps (f x)
 ended (Stopped steps) f p = went steps (failed 4 p)
 ended (RanOut steps) f p = went steps (failed ran_out p)

@@ -10,7 +10,7 @@ ghost use Rattle.player_check.specs.Standing.{player_rule};
 ghost use Rattle.player_moves.specs.Moves.{Shaped, Seated, RunOf};
 ghost use Rattle.player_goto.specs.Goto.{is_goto, segment_gone, track_gone, group_gone, gone};
 
-use player_steps::{GroupsMade, SegmentsMade, TracksMade};
+use player_manual::Made;
 
 // The opcodes of the three Gotos (SCOPE 9.1).
 const GOTO_SEGMENT: u32 = 0x24;
@@ -67,7 +67,7 @@ fn goto_segment(
     let starts = catalogue_tables::starts(tracks, segments, t);
     let made = player_steps::goto_segment(starts, past, from, n, allowed);
     match made {
-        SegmentsMade::All(to, steps) => {
+        Made::All(to, steps) => {
             let q = player_state::at_position(p, to);
             Gone {
                 outcome: player_moves::SUCCESS,
@@ -75,12 +75,12 @@ fn goto_segment(
                 player: q,
             }
         }
-        SegmentsMade::Stopped(steps) => Gone {
+        Made::Stopped(steps) => Gone {
             outcome: player_moves::CANNOT_COMPLETE,
             steps: steps,
             player: p,
         },
-        SegmentsMade::RanOut(steps) => Gone {
+        Made::RanOut(steps) => Gone {
             outcome: RAN_OUT,
             steps: steps,
             player: p,
@@ -98,7 +98,7 @@ fn goto_track(groups: &[u32], tracks: &[u32], p: player_state::Player, n: u32, a
     let count = catalogue_tables::tracks_in(groups, g);
     let made = player_steps::goto_track(tracks, p.mode.order, first, count, t, n, allowed);
     match made {
-        TracksMade::All(to, steps) => {
+        Made::All(to, steps) => {
             let q = player_state::move_to(p, g, to);
             Gone {
                 outcome: player_moves::SUCCESS,
@@ -106,12 +106,12 @@ fn goto_track(groups: &[u32], tracks: &[u32], p: player_state::Player, n: u32, a
                 player: q,
             }
         }
-        TracksMade::Stopped(steps) => Gone {
+        Made::Stopped(steps) => Gone {
             outcome: player_moves::CANNOT_COMPLETE,
             steps: steps,
             player: p,
         },
-        TracksMade::RanOut(steps) => Gone {
+        Made::RanOut(steps) => Gone {
             outcome: RAN_OUT,
             steps: steps,
             player: p,
@@ -127,7 +127,7 @@ fn goto_group(groups: &[u32], tracks: &[u32], p: player_state::Player, n: u32, a
     let g = p.place.group;
     let made = player_steps::goto_group(groups, g, n, allowed);
     match made {
-        GroupsMade::All(to, steps) => {
+        Made::All(to, steps) => {
             let entered = player_moves::enter(groups, tracks, p, to);
             let q = entered.player;
             Gone {
@@ -136,12 +136,12 @@ fn goto_group(groups: &[u32], tracks: &[u32], p: player_state::Player, n: u32, a
                 player: q,
             }
         }
-        GroupsMade::Stopped(steps) => Gone {
+        Made::Stopped(steps) => Gone {
             outcome: player_moves::CANNOT_COMPLETE,
             steps: steps,
             player: p,
         },
-        GroupsMade::RanOut(steps) => Gone {
+        Made::RanOut(steps) => Gone {
             outcome: RAN_OUT,
             steps: steps,
             player: p,

@@ -21,7 +21,7 @@ use Rattle.player_manual.proofs.Steps.{enough_steps}
 
 -- One walk stands for another: in the one the number k stands for what is at the place k. `P` says which k are places.
 module _ (what : ℕ → Option ℕ) (P : ℕ → Type 0) (there : (k : ℕ) → P k → (x : ℕ) × (what k ≡ Some x)) where
-  onto_more : (k : ℕ) (r : Made) → more k (onto what r) ≡ onto what (more k r)
+  onto_more : (k : ℕ) (r : Made ℕ) → more k (onto what r) ≡ onto what (more k r)
   onto_more k (All j n) = go (what j)
     where
       go : (p : Option ℕ) → more k (landed p n) ≡ landed p (k + n)
@@ -30,7 +30,7 @@ module _ (what : ℕ → Option ℕ) (P : ℕ → Type 0) (there : (k : ℕ) →
   onto_more k (Stopped n) = refl
   onto_more k (RanOut n) = refl
 
-  onto_counted : (p : Option ℕ) (go on : ℕ → Made) → Holds P p → ((k x : ℕ) → P k → what k ≡ Some x → go x ≡ onto what (on k)) → counted (then p what) go ≡ onto what (counted p on)
+  onto_counted : (p : Option ℕ) (go on : ℕ → Made ℕ) → Holds P p → ((k x : ℕ) → P k → what k ≡ Some x → go x ≡ onto what (on k)) → counted (then p what) go ≡ onto what (counted p on)
   onto_counted (Some k) go on h e = let t = there k h in ap (λ (q : Option ℕ). counted q go) t.1 ∙ ap (more 1) (e k t.0 h t.1) ∙ onto_more 1 (on k)
   onto_counted None go on h e = refl
 
@@ -102,5 +102,5 @@ along_agrees own x a n allowed enough =
     ∙ sym (ap (own (Goto n)) (sym a.stands) ∙ a.moves (Goto n) (place x l) a.within ∙ ap (move_in (Goto n) a.repeat l) a.stands)
 
 -- the place that all steps led to, and what stands there
-pub landing : (what : ℕ → Option ℕ) (j n : ℕ) (p : Option ℕ) (r : Made) → p ≡ what j → All j n ≡ r → landed p n ≡ onto what r
+pub landing : (what : ℕ → Option ℕ) (j n : ℕ) (p : Option ℕ) (r : Made ℕ) → p ≡ what j → All j n ≡ r → landed p n ≡ onto what r
 landing what j n p r e f = ap (λ (q : Option ℕ). landed q n) e ∙ ap (onto what) f

@@ -13,7 +13,7 @@ use Rattle.player_manual.proofs.Places.{Holds}
 use Rattle.player_manual.proofs.Steps.{found_more}
 
 module _ (P : ℕ → Type 0) where
-  keeps_counted : (p : Option ℕ) (go : ℕ → Made) → Holds P p → ((x : ℕ) → P x → Holds P (found (go x))) → Holds P (found (counted p go))
+  keeps_counted : (p : Option ℕ) (go : ℕ → Made ℕ) → Holds P p → ((x : ℕ) → P x → Holds P (found (go x))) → Holds P (found (counted p go))
   keeps_counted (Some x) go h e = subst (Holds P) (sym (found_more 1 (go x))) (e x h)
   keeps_counted None go h e = tt
 
@@ -38,4 +38,4 @@ module _ (P : ℕ → Type 0) where
 
     -- of the number that all steps led to
     pub leads_to : (y count : ℕ) → by_steps move n allowed x ≡ All y count → P y
-    leads_to y count e = subst (λ (r : Made). Holds P (found r)) e keeps
+    leads_to y count e = subst (λ (r : Made ℕ). Holds P (found r)) e keeps

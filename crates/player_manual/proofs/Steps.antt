@@ -17,13 +17,13 @@ use Rattle.player_manual.specs.Made.{more, counted, steps, from_end, goto_by_ste
 use Rattle.player_manual.specs.declared.Made.{Made}
 use Rattle.player_manual.specs.declared.Made.TheVariants.{All, Stopped, RanOut}
 
-more_more : (a b : ℕ) (r : Made) → more a (more b r) ≡ more (a + b) r
+more_more : (a b : ℕ) (r : Made ℕ) → more a (more b r) ≡ more (a + b) r
 more_more a b (All x n) = ap (All x) (sym (add_assoc a b n))
 more_more a b (Stopped n) = ap Stopped (sym (add_assoc a b n))
 more_more a b (RanOut n) = ap RanOut (sym (add_assoc a b n))
 
 -- A loop's turn and its three ends. `made` steps lie behind, `left` are wanted and `may` are allowed from x on; what follows is the outcome u of the whole.
-module _ (step : ℕ → Option ℕ) (u : Made) (made left may x : ℕ) (inv : more made (steps step may left x) ≡ u) where
+module _ (step : ℕ → Option ℕ) (u : Made ℕ) (made left may x : ℕ) (inv : more made (steps step may left x) ≡ u) where
   pub arrives : left ≡ 0 → All x made ≡ u
   arrives e = sym (ap (All x) (add-zero made)) ∙ (rw e at inv)
 
@@ -57,7 +57,7 @@ module _ (end : Option ℕ) (step : ℕ → Option ℕ) (m : ℕ) where
   at_end_lem (suc allowed) k h e = let a : suc allowed - 1 ≡ allowed = omega arith in rw (e, a)
 
 -- the same by the way that a number says
-abbrev pub by_way : Way → ℕ → ℕ → Option ℕ → (ℕ → Option ℕ) → Option ℕ → (ℕ → Option ℕ) → Made
+abbrev pub by_way : Way → ℕ → ℕ → Option ℕ → (ℕ → Option ℕ) → Option ℕ → (ℕ → Option ℕ) → Made ℕ
 by_way Stay allowed here first next last previous = All here 0
 by_way (Ahead m) allowed here first next last previous = from_end first next allowed m
 by_way (Back m) allowed here first next last previous = from_end last previous allowed m
@@ -69,12 +69,12 @@ by_way_lem (pos (suc m)) allowed here first next last previous = refl
 by_way_lem (negsuc m) allowed here first next last previous = refl
 
 -- with as many steps allowed as are wanted, it is the walk, for any step
-pub found_more : (k : ℕ) (r : Made) → found (more k r) ≡ found r
+pub found_more : (k : ℕ) (r : Made ℕ) → found (more k r) ≡ found r
 found_more k (All x n) = refl
 found_more k (Stopped n) = refl
 found_more k (RanOut n) = refl
 
-found_counted : (p : Option ℕ) (go : ℕ → Made) (on : ℕ → Option ℕ) → ((x : ℕ) → found (go x) ≡ on x) → found (counted p go) ≡ then p on
+found_counted : (p : Option ℕ) (go : ℕ → Made ℕ) (on : ℕ → Option ℕ) → ((x : ℕ) → found (go x) ≡ on x) → found (counted p go) ≡ then p on
 found_counted (Some x) go on e = found_more 1 (go x) ∙ e x
 found_counted None go on e = refl
 
@@ -88,17 +88,17 @@ from_enough end step zero m h = absurd (not-suc-le-zero h)
 from_enough end step (suc allowed) m h = found_counted end (steps step allowed m) (walk step m) (λ y. enough step allowed m y (omega arith))
 
 -- how many are counted when m are wanted: all of them; or some, up to the one that cannot be made; or those allowed, which are too few
-abbrev pub Counts : ℕ → ℕ → Made → Type 0
+abbrev pub Counts : ℕ → ℕ → Made ℕ → Type 0
 Counts allowed m (All x n) = (n ≡ m) × (m ≤ allowed)
 Counts allowed m (Stopped n) = (0 < n) × (n ≤ m) × (n ≤ allowed)
 Counts allowed m (RanOut n) = (n ≡ allowed) × (allowed < m)
 
-counts_more : (allowed m : ℕ) (r : Made) → Counts allowed m r → Counts (suc allowed) (suc m) (more 1 r)
+counts_more : (allowed m : ℕ) (r : Made ℕ) → Counts allowed m r → Counts (suc allowed) (suc m) (more 1 r)
 counts_more allowed m (All x n) c = omega arith
 counts_more allowed m (Stopped n) c = omega arith
 counts_more allowed m (RanOut n) c = omega arith
 
-counts_counted : (allowed m : ℕ) (p : Option ℕ) (go : ℕ → Made) → ((x : ℕ) → Counts allowed m (go x)) → Counts (suc allowed) (suc m) (counted p go)
+counts_counted : (allowed m : ℕ) (p : Option ℕ) (go : ℕ → Made ℕ) → ((x : ℕ) → Counts allowed m (go x)) → Counts (suc allowed) (suc m) (counted p go)
 counts_counted allowed m (Some x) go c = counts_more allowed m (go x) (c x)
 counts_counted allowed m None go c = omega arith
 
@@ -139,7 +139,7 @@ module _ (move : Step → ℕ → Option ℕ) (n allowed x : ℕ) where
   pub all_made : (y : ℕ) → move (Goto n) x ≡ goto (signed_word n) x (move First x) (move Next) (move Last x) (move Previous) → size (signed_word n) ≤ allowed → move (Goto n) x ≡ Some y → by_steps move n allowed x ≡ All y (size (signed_word n))
   all_made y e h f = arrived (by_steps move n allowed x) (enough_steps e h ∙ f) counts_steps
     where
-      arrived : (r : Made) → found r ≡ Some y → Counts allowed (size (signed_word n)) r → r ≡ All y (size (signed_word n))
+      arrived : (r : Made ℕ) → found r ≡ Some y → Counts allowed (size (signed_word n)) r → r ≡ All y (size (signed_word n))
       arrived (All z k) p c = λ i. All (same z p i) (c.0 i)
         where
           same : (z : ℕ) → Some z ≡ Some y → z ≡ y

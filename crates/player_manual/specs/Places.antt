@@ -11,11 +11,11 @@ abbrev pub on_places : Bool → ℕ → Step → ℕ → Option ℕ
 on_places repeat len step k = place_after step repeat len k
 
 -- an outcome on places, turned into one on what stands at the place
-abbrev pub landed : Option ℕ → ℕ → Made
+abbrev pub landed : Option ℕ → ℕ → Made ℕ
 landed (Some x) n = All x n
 landed None n = Stopped n
 
-abbrev pub onto : (ℕ → Option ℕ) → Made → Made
+abbrev pub onto : (ℕ → Option ℕ) → Made ℕ → Made ℕ
 onto what (All k n) = landed (what k) n
 onto what (Stopped n) = Stopped n
 onto what (RanOut n) = RanOut n

@@ -39,7 +39,7 @@ module _ (groups : List ℕ) (g : ℕ) where
     alone = along_from (along_groups groups) g (0 ∷ []) false lone_apart moves_alone (0, omega arith, sym zeroth)
 
     -- on one place, where group 0 stands
-    on_one : (r : Made) → Within 1 (found r) → onto (λ k. Some g) r ≡ onto (at (0 ∷ [])) r
+    on_one : (r : Made ℕ) → Within 1 (found r) → onto (λ k. Some g) r ≡ onto (at (0 ∷ [])) r
     on_one (All zero n) h = ap (λ (x : ℕ). All x n) zeroth
     on_one (All (suc k) n) h = absurd (not-suc-le-zero (le_of_suc-le-suc h))
     on_one (Stopped n) h = refl

@@ -13,28 +13,6 @@ ghost use Rattle.player_steps.specs.Stepping.{along_tracks, along_groups, along_
 
 use player_manual::Made;
 
-// The same three outcomes for each kind: all steps were made, and where they led; a step could not be made; the allowed steps ran out. Each has the count.
-#[derive(Clone, Copy)]
-pub enum TracksMade {
-    All(catalogue_tables::TrackNo, u32),
-    Stopped(u32),
-    RanOut(u32),
-}
-
-#[derive(Clone, Copy)]
-pub enum GroupsMade {
-    All(catalogue_tables::GroupNo, u32),
-    Stopped(u32),
-    RanOut(u32),
-}
-
-#[derive(Clone, Copy)]
-pub enum SegmentsMade {
-    All(catalogue_tables::Position, u32),
-    Stopped(u32),
-    RanOut(u32),
-}
-
 // From t along the run, put in order: on places, and then what stands there.
 fn along_run(
     tracks: &[u32],
@@ -45,7 +23,7 @@ fn along_run(
     t: catalogue_tables::TrackNo,
     n: u32,
     allowed: u32,
-) -> TracksMade
+) -> Made<catalogue_tables::TrackNo>
     requires { InRun (length tracks.now) first.0 count t.0 }
     ensures { tracks_made result ≡ onto (at (ordered by tracks.now first.0 count)) (by_steps (on_places repeat count) n allowed (place t.0 (ordered by tracks.now first.0 count))) }
 {
@@ -55,12 +33,12 @@ fn along_run(
         Made::All(j, steps) => {
             let near = player_orders::nth(tracks, by, first, count, j);
             match near {
-                Some(to) => TracksMade::All(to, steps),
-                None => TracksMade::Stopped(steps),
+                Some(to) => Made::All(to, steps),
+                None => Made::Stopped(steps),
             }
         }
-        Made::Stopped(steps) => TracksMade::Stopped(steps),
-        Made::RanOut(steps) => TracksMade::RanOut(steps),
+        Made::Stopped(steps) => Made::Stopped(steps),
+        Made::RanOut(steps) => Made::RanOut(steps),
     }
 }
 
@@ -73,7 +51,7 @@ pub fn goto_track(
     t: catalogue_tables::TrackNo,
     n: u32,
     allowed: u32,
-) -> TracksMade
+) -> Made<catalogue_tables::TrackNo>
     requires { InRun (length tracks.now) first.0 count t.0 }
     ensures { tracks_made result ≡ by_steps (along_tracks order tracks.now first.0 count) n allowed t.0 }
 {
@@ -86,7 +64,7 @@ pub fn goto_track(
 }
 
 // Goto Group by single steps, from the current group.
-pub fn goto_group(groups: &[u32], g: catalogue_tables::GroupNo, n: u32, allowed: u32) -> GroupsMade
+pub fn goto_group(groups: &[u32], g: catalogue_tables::GroupNo, n: u32, allowed: u32) -> Made<catalogue_tables::GroupNo>
     requires { Current groups.now g.0 }
     ensures { groups_made result ≡ by_steps (along_groups groups.now) n allowed g.0 }
 {
@@ -94,13 +72,13 @@ pub fn goto_group(groups: &[u32], g: catalogue_tables::GroupNo, n: u32, allowed:
         let alone = player_manual::goto_by_steps(n, allowed, false, 1, 0);
         match alone {
             Made::All(_, steps) => {
-                return GroupsMade::All(g, steps);
+                return Made::All(g, steps);
             }
             Made::Stopped(steps) => {
-                return GroupsMade::Stopped(steps);
+                return Made::Stopped(steps);
             }
             Made::RanOut(steps) => {
-                return GroupsMade::RanOut(steps);
+                return Made::RanOut(steps);
             }
         }
     }
@@ -113,12 +91,12 @@ pub fn goto_group(groups: &[u32], g: catalogue_tables::GroupNo, n: u32, allowed:
         Made::All(j, steps) => {
             let near = player_groups::nth_sibling(groups, g, bound, j);
             match near {
-                Some(to) => GroupsMade::All(to, steps),
-                None => GroupsMade::Stopped(steps),
+                Some(to) => Made::All(to, steps),
+                None => Made::Stopped(steps),
             }
         }
-        Made::Stopped(steps) => GroupsMade::Stopped(steps),
-        Made::RanOut(steps) => GroupsMade::RanOut(steps),
+        Made::Stopped(steps) => Made::Stopped(steps),
+        Made::RanOut(steps) => Made::RanOut(steps),
     }
 }
 
@@ -130,28 +108,26 @@ fn segments_on(
     from: catalogue_tables::Position,
     wanted: u32,
     allowed: u32,
-) -> SegmentsMade
+) -> Made<catalogue_tables::Position>
     requires rising { Rising starts.now }
     requires past { Past starts.now (near_position past) }
     requires allowed_nonzero { 0 < allowed }
     ensures { segments_made result ≡ more 1 (steps (along_segments starts.now (near_position past) step) (allowed - 1) wanted from.0) }
 {
     let mut at = from;
-    let mut left = wanted;
     let mut made: u32 = 1;
-    while 0 < left {
+    for i in 0..wanted {
         if made == allowed {
-            return SegmentsMade::RanOut(made);
+            return Made::RanOut(made);
         }
         made += 1;
         let near = player_segments::segment_after(starts, past, at, step);
         let Some(next) = near else {
-            return SegmentsMade::Stopped(made);
+            return Made::Stopped(made);
         };
         at = next;
-        left -= 1;
     }
-    SegmentsMade::All(at, made)
+    Made::All(at, made)
 }
 
 // First or Last, and then the steps.
@@ -163,18 +139,18 @@ fn segments_from_end(
     position: catalogue_tables::Position,
     wanted: u32,
     allowed: u32,
-) -> SegmentsMade
+) -> Made<catalogue_tables::Position>
     requires rising { Rising starts.now }
     requires past { Past starts.now (near_position past) }
     ensures { segments_made result ≡ from_end (along_segments starts.now (near_position past) end position.0) (along_segments starts.now (near_position past) step) allowed wanted }
 {
     if allowed == 0 {
-        return SegmentsMade::RanOut(0);
+        return Made::RanOut(0);
     }
     let near = player_segments::segment_after(starts, past, position, end);
     match near {
         Some(start) => { segments_on(starts, past, step, start, wanted, allowed) }
-        None => SegmentsMade::Stopped(1),
+        None => Made::Stopped(1),
     }
 }
 
@@ -185,14 +161,14 @@ pub fn goto_segment(
     position: catalogue_tables::Position,
     n: u32,
     allowed: u32,
-) -> SegmentsMade
+) -> Made<catalogue_tables::Position>
     requires rising { Rising starts.now }
     requires past { Past starts.now (near_position past) }
     ensures { segments_made result ≡ by_steps (along_segments starts.now (near_position past)) n allowed position.0 }
 {
     let way = player_walk::way_of(n);
     match way {
-        player_walk::Way::Stay => SegmentsMade::All(position, 0),
+        player_walk::Way::Stay => Made::All(position, 0),
         player_walk::Way::Ahead(m) => {
             let first = player_walk::Step::First;
             let next = player_walk::Step::Next;

@@ -1,5 +1,6 @@
 -- `player_goto::goto_group`: the walk along the groups, and how it ends: with the entry to the group that was reached.
 use mathlib.Core.Path.{◌≡◌, sym, ap, ◌∙◌}
+use Prim.Native.Nat.{ℕ}
 use Rattle.player_manual.specs.declared.Made.{Made}
 use Rattle.player_manual.specs.Made.{by_steps}
 use Rattle.player_steps.specs.Stepping.{groups_made}
@@ -27,11 +28,11 @@ unfolding group_after group_gone
 returns-in-Stopped c =
     let came : let a = c.args in groups_made c.goto_group-made.result ≡ by_steps (from_group a.groups.now a.p) a.n a.allowed a.p.place.group.0 = c.goto_group-made.ensures in
     let a = c.args in
-    ap (λ (m : Made). ended m (entered a.groups.now a.tracks.now a.p) a.p) (sym (ap groups_made c.in-Stopped.is) ∙ came)
+    ap (λ (m : Made ℕ). ended m (entered a.groups.now a.tracks.now a.p) a.p) (sym (ap groups_made c.in-Stopped.is) ∙ came)
 
 pub returns-in-RanOut : goal.returns-in-RanOut
 unfolding group_after group_gone
 returns-in-RanOut c =
     let came : let a = c.args in groups_made c.goto_group-made.result ≡ by_steps (from_group a.groups.now a.p) a.n a.allowed a.p.place.group.0 = c.goto_group-made.ensures in
     let a = c.args in
-    ap (λ (m : Made). ended m (entered a.groups.now a.tracks.now a.p) a.p) (sym (ap groups_made c.in-RanOut.is) ∙ came)
+    ap (λ (m : Made ℕ). ended m (entered a.groups.now a.tracks.now a.p) a.p) (sym (ap groups_made c.in-RanOut.is) ∙ came)

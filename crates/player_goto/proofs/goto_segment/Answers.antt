@@ -1,6 +1,7 @@
 -- `player_goto::goto_segment`: Goto 0; else the walk along the current track's segments, and how it ends.
 use mathlib.Core.Path.{◌≡◌, refl, sym, ap, ◌∙◌}
 use borrow.Author.Tests.{eq-eqb, ne_eqb}
+use Prim.Native.Nat.{ℕ}
 use Rattle.ground.proofs.Cases.{past, here}
 use Rattle.catalogue_tables.specs.Tables.{starts_of}
 use Rattle.player_manual.specs.declared.Made.{Made}
@@ -45,7 +46,7 @@ returns-in-Stopped c =
     c.goto_segment-made.ensures ∙ (λ k. by_steps (along_segments (c.starts-starts.ensures k) (c.past_last-past.ensures k)) a.n a.allowed a.p.place.position.0) in
     let a = c.args in
     past _ (ne_eqb _ _ c.if-n-eq0.false)
-    (ap (λ (m : Made). ended m (λ x. success (at_position x a.p)) a.p) (sym (ap segments_made c.in-Stopped.is) ∙ came))
+    (ap (λ (m : Made ℕ). ended m (λ x. success (at_position x a.p)) a.p) (sym (ap segments_made c.in-Stopped.is) ∙ came))
 
 pub returns-in-RanOut : goal.returns-in-RanOut
 unfolding segment_after segment_gone
@@ -54,4 +55,4 @@ returns-in-RanOut c =
     c.goto_segment-made.ensures ∙ (λ k. by_steps (along_segments (c.starts-starts.ensures k) (c.past_last-past.ensures k)) a.n a.allowed a.p.place.position.0) in
     let a = c.args in
     past _ (ne_eqb _ _ c.if-n-eq0.false)
-    (ap (λ (m : Made). ended m (λ x. success (at_position x a.p)) a.p) (sym (ap segments_made c.in-RanOut.is) ∙ came))
+    (ap (λ (m : Made ℕ). ended m (λ x. success (at_position x a.p)) a.p) (sym (ap segments_made c.in-RanOut.is) ∙ came))

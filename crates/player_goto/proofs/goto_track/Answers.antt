@@ -1,5 +1,6 @@
 -- `player_goto::goto_track`: the walk along the current group's tracks, and how it ends.
 use mathlib.Core.Path.{◌≡◌, sym, ap, ◌∙◌}
+use Prim.Native.Nat.{ℕ}
 use Rattle.player_manual.specs.declared.Made.{Made}
 use Rattle.player_manual.specs.Made.{by_steps}
 use Rattle.player_state.specs.Modes.{moved_to}
@@ -28,7 +29,7 @@ returns-in-Stopped c =
     let count = c.tracks_in-count.ensures in
     c.goto_track-made.ensures ∙ (λ k. by_steps (along_tracks a.p.mode.order a.tracks.now (first k) (count k)) a.n a.allowed a.p.place.track.0) in
     let a = c.args in
-    ap (λ (m : Made). ended m (λ t. success (moved_to a.p.place.group.0 t a.p)) a.p) (sym (ap tracks_made c.in-Stopped.is) ∙ came)
+    ap (λ (m : Made ℕ). ended m (λ t. success (moved_to a.p.place.group.0 t a.p)) a.p) (sym (ap tracks_made c.in-Stopped.is) ∙ came)
 
 pub returns-in-RanOut : goal.returns-in-RanOut
 unfolding track_after track_gone
@@ -38,4 +39,4 @@ returns-in-RanOut c =
     let count = c.tracks_in-count.ensures in
     c.goto_track-made.ensures ∙ (λ k. by_steps (along_tracks a.p.mode.order a.tracks.now (first k) (count k)) a.n a.allowed a.p.place.track.0) in
     let a = c.args in
-    ap (λ (m : Made). ended m (λ t. success (moved_to a.p.place.group.0 t a.p)) a.p) (sym (ap tracks_made c.in-RanOut.is) ∙ came)
+    ap (λ (m : Made ℕ). ended m (λ t. success (moved_to a.p.place.group.0 t a.p)) a.p) (sym (ap tracks_made c.in-RanOut.is) ∙ came)

@@ -13,7 +13,7 @@ use Rattle.player_steps.proofs.along_run.Goals as goal
 pub returns-in-Some : goal.returns-in-Some
 returns-in-Some c =
     let line : List ℕ = ordered c.args.by c.args.tracks.now c.args.first.0 c.args.count in
-    let came : (r : Made) → c.goto_by_steps-made.result ≡ r
+    let came : (r : Made ℕ) → c.goto_by_steps-made.result ≡ r
     → r ≡ by_steps (on_places c.args.repeat c.args.count) c.args.n c.args.allowed (place c.args.t.0 (line)) = λ r e. let a = c.args in
     sym e ∙ c.goto_by_steps-made.ensures ∙ ap (by_steps (on_places a.repeat a.count) a.n a.allowed) c.rank-k.ensures.0 in
     landing (at (line)) _ _ _ _ (sym (ap near_track c.in-Some.is) ∙ c.nth-near.ensures) (came _ c.in-All.is)
@@ -21,7 +21,7 @@ returns-in-Some c =
 pub returns-in-None : goal.returns-in-None
 returns-in-None c =
     let line : List ℕ = ordered c.args.by c.args.tracks.now c.args.first.0 c.args.count in
-    let came : (r : Made) → c.goto_by_steps-made.result ≡ r
+    let came : (r : Made ℕ) → c.goto_by_steps-made.result ≡ r
     → r ≡ by_steps (on_places c.args.repeat c.args.count) c.args.n c.args.allowed (place c.args.t.0 (line)) = λ r e. let a = c.args in
     sym e ∙ c.goto_by_steps-made.ensures ∙ ap (by_steps (on_places a.repeat a.count) a.n a.allowed) c.rank-k.ensures.0 in
     landing (at (line)) _ _ _ _ (sym (ap near_track c.in-None.is) ∙ c.nth-near.ensures) (came _ c.in-All.is)
@@ -29,7 +29,7 @@ returns-in-None c =
 pub returns-in-Stopped : goal.returns-in-Stopped
 returns-in-Stopped c =
     let line : List ℕ = ordered c.args.by c.args.tracks.now c.args.first.0 c.args.count in
-    let came : (r : Made) → c.goto_by_steps-made.result ≡ r
+    let came : (r : Made ℕ) → c.goto_by_steps-made.result ≡ r
     → r ≡ by_steps (on_places c.args.repeat c.args.count) c.args.n c.args.allowed (place c.args.t.0 (line)) = λ r e. let a = c.args in
     sym e ∙ c.goto_by_steps-made.ensures ∙ ap (by_steps (on_places a.repeat a.count) a.n a.allowed) c.rank-k.ensures.0 in
     ap (onto (at (line))) (came _ c.in-Stopped.is)
@@ -37,7 +37,7 @@ returns-in-Stopped c =
 pub returns-in-RanOut : goal.returns-in-RanOut
 returns-in-RanOut c =
     let line : List ℕ = ordered c.args.by c.args.tracks.now c.args.first.0 c.args.count in
-    let came : (r : Made) → c.goto_by_steps-made.result ≡ r
+    let came : (r : Made ℕ) → c.goto_by_steps-made.result ≡ r
     → r ≡ by_steps (on_places c.args.repeat c.args.count) c.args.n c.args.allowed (place c.args.t.0 (line)) = λ r e. let a = c.args in
     sym e ∙ c.goto_by_steps-made.ensures ∙ ap (by_steps (on_places a.repeat a.count) a.n a.allowed) c.rank-k.ensures.0 in
     ap (onto (at (line))) (came _ c.in-RanOut.is)

@@ -18,21 +18,21 @@ use Rattle.player_steps.proofs.goto_group.Goals as goal
 
 pub returns-in-All : goal.returns-in-All
 returns-in-All c =
-    let alone : (r : Made) → c.goto_by_steps-alone.result ≡ r
+    let alone : (r : Made ℕ) → c.goto_by_steps-alone.result ≡ r
     → let a = c.args in onto (λ k. Some a.g.0) r ≡ by_steps (along_groups a.groups.now) a.n a.allowed a.g.0 = λ r e. let a = c.args in
     ap (onto (λ k. Some a.g.0)) (sym e ∙ c.goto_by_steps-alone.ensures) ∙ walked_alone a.groups.now a.g.0 c.if-g-eq0.true a.n a.allowed in
     alone _ c.in-All.is
 
 pub returns-in-Stopped : goal.returns-in-Stopped
 returns-in-Stopped c =
-    let alone : (r : Made) → c.goto_by_steps-alone.result ≡ r
+    let alone : (r : Made ℕ) → c.goto_by_steps-alone.result ≡ r
     → let a = c.args in onto (λ k. Some a.g.0) r ≡ by_steps (along_groups a.groups.now) a.n a.allowed a.g.0 = λ r e. let a = c.args in
     ap (onto (λ k. Some a.g.0)) (sym e ∙ c.goto_by_steps-alone.ensures) ∙ walked_alone a.groups.now a.g.0 c.if-g-eq0.true a.n a.allowed in
     alone _ c.in-Stopped.is
 
 pub returns-in-RanOut : goal.returns-in-RanOut
 returns-in-RanOut c =
-    let alone : (r : Made) → c.goto_by_steps-alone.result ≡ r
+    let alone : (r : Made ℕ) → c.goto_by_steps-alone.result ≡ r
     → let a = c.args in onto (λ k. Some a.g.0) r ≡ by_steps (along_groups a.groups.now) a.n a.allowed a.g.0 = λ r e. let a = c.args in
     ap (onto (λ k. Some a.g.0)) (sym e ∙ c.goto_by_steps-alone.ensures) ∙ walked_alone a.groups.now a.g.0 c.if-g-eq0.true a.n a.allowed in
     alone _ c.in-RanOut.is
