@@ -33,6 +33,7 @@ pub fn mask_bit(opcode: u8) -> u32
 }
 
 // Whether an opcode is known and in the mask.
+#[tactic(auto, unfolding(crate::specs::Opcodes::offered))]
 pub fn is_offered(mask: u32, opcode: u8) -> bool
     ensures { result ≡ offered mask opcode }
 {
@@ -57,6 +58,7 @@ pub fn parameter_length(opcode: u8) -> usize
     }
 }
 
+#[tactic(auto, unfolding(crate::specs::Opcodes::step_of))]
 fn step_of(place: u8, number: u32) -> player_walk::Step
     ensures { result ≡ step_of place number }
 {

@@ -71,6 +71,7 @@ pub fn fill(octets: [u8; ground::MOST_TITLE], name: &[u8]) -> [u8; ground::MOST_
     out
 }
 
+#[tactic(auto, unfolding(crate::specs::Player::started_player))]
 pub fn start(name: &[u8], mask: u32, ccid: u8) -> Player
     requires { length name.now ≤ most_title }
     ensures { result ≡ started_player name.now mask ccid }
@@ -109,6 +110,7 @@ pub fn start(name: &[u8], mask: u32, ccid: u8) -> Player
     }
 }
 
+#[tactic(auto, unfolding(crate::specs::Player::renamed))]
 pub fn set_name(p: Player, name: &[u8]) -> Player
     requires { length name.now ≤ most_title }
     ensures { result ≡ renamed name.now p }
@@ -136,6 +138,7 @@ pub fn in_mode(p: Player, media: u8, seeking: u8) -> Player
 }
 
 // The name of a next track stays where a call ends on the track and group on which it began (SCOPE 14.6, 14.7).
+#[tactic(auto, using(ground::proofs::Cases::past, ground::proofs::Cases::here))]
 fn kept_on(p: Player, group: catalogue_tables::GroupNo, track: catalogue_tables::TrackNo) -> u32
     ensures { result ≡ kept_on group.0 track.0 p }
 {
@@ -260,6 +263,7 @@ fn rung_down(s: u8) -> u8
     }
 }
 
+#[tactic(auto, unfolding(crate::specs::Modes::forwarded))]
 pub fn fast_forward(p: Player) -> Player
     ensures { result ≡ forwarded p }
 {
@@ -270,6 +274,7 @@ pub fn fast_forward(p: Player) -> Player
     in_mode(p, SEEKING, 4)
 }
 
+#[tactic(auto, unfolding(crate::specs::Modes::rewound))]
 pub fn fast_rewind(p: Player) -> Player
     ensures { result ≡ rewound p }
 {
@@ -281,6 +286,7 @@ pub fn fast_rewind(p: Player) -> Player
 }
 
 // The player goes to a track of a group, at position 0. Seeking becomes Playing (SCOPE 11.7, 12.3, 14.2).
+#[tactic(auto, using(ground::proofs::Cases::past, ground::proofs::Cases::here), unfolding(crate::specs::Modes::moved_to))]
 pub fn move_to(
     p: Player,
     group: catalogue_tables::GroupNo,
@@ -315,6 +321,7 @@ fn less(a: u64, b: u64) -> u64
 }
 
 // The sum of a position and a signed number, held to 0 and the end (SCOPE 9.7).
+#[tactic(auto, using(crate::proofs::Signs::held_up, crate::proofs::Signs::held_down))]
 pub fn held_sum(
     end: catalogue_tables::Position,
     position: catalogue_tables::Position,
@@ -332,6 +339,7 @@ pub fn held_sum(
 }
 
 // The position that a written number means (SCOPE 9.8).
+#[tactic(auto, using(crate::proofs::Signs::written_up, crate::proofs::Signs::written_down))]
 pub fn written_position(end: catalogue_tables::Position, number: u32) -> catalogue_tables::Position
     ensures { result.0 ≡ written end.0 (signed_word number) }
 {
@@ -342,6 +350,7 @@ pub fn written_position(end: catalogue_tables::Position, number: u32) -> catalog
 }
 
 // The position d times the seeking speed further, held to 0 and the end (SCOPE 13.7).
+#[tactic(auto, using(crate::proofs::Signs::sought_up, crate::proofs::Signs::sought_down, crate::proofs::Signs::small_product))]
 pub fn sought_position(
     end: catalogue_tables::Position,
     position: catalogue_tables::Position,

@@ -24,12 +24,14 @@ pub enum Way {
 }
 
 // Whether the number of a word is below 0.
+#[tactic(auto, using(crate::proofs::Ways::negative))]
 pub fn is_negative(word: u32) -> bool
     ensures { result ≡ is_negative (signed_word word) }
 {
     0x8000_0000 <= word
 }
 
+#[tactic(auto, using(crate::proofs::Ways::stays, crate::proofs::Ways::ahead, crate::proofs::Ways::back))]
 pub fn way_of(word: u32) -> Way
     ensures { result ≡ way_of (signed_word word) }
 {
@@ -82,6 +84,7 @@ fn goto_place(repeat: bool, len: usize, k: usize, way: Way) -> Option<usize>
 }
 
 // The place that a move leads to from place k of len.
+#[tactic(auto, unfolding(crate::specs::Places::place_after))]
 pub fn place_after(step: Step, repeat: bool, len: usize, k: usize) -> Option<usize>
     requires { k < len }
     ensures { result ≡ place_after step repeat len k }
