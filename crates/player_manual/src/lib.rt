@@ -47,6 +47,7 @@ fn steps_on(
 }
 
 // First or Last, and then the steps.
+#[tactic(auto, using(crate::proofs::Steps::none_allowed, crate::proofs::Steps::no_end, crate::proofs::Steps::at_end_lem, crate::proofs::Places::stays))]
 fn from_end(
     end: player_walk::Step,
     step: player_walk::Step,

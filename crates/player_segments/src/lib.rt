@@ -54,6 +54,7 @@ fn next_start(
 }
 
 // The start that m steps ahead lead to from the first, or what stands past the last.
+#[tactic(auto, using(crate::proofs::Whole::ahead_in, crate::proofs::Whole::ahead_none, crate::proofs::Whole::ahead_past))]
 fn start_ahead(
     starts: &[u32],
     past: Option<catalogue_tables::Position>,
@@ -72,6 +73,7 @@ fn start_ahead(
 }
 
 // The start that m steps back lead to from the last, or 0.
+#[tactic(auto, using(crate::proofs::Whole::back_in, crate::proofs::Whole::back_past))]
 fn start_back(starts: &[u32], m: usize) -> catalogue_tables::Position
     ensures { result.0 ≡ start_back (segment_starts starts.now) m }
 {
@@ -106,6 +108,7 @@ fn goto_start(
 }
 
 // A segment move from a position of a track. `past` is what Next Segment leads to past the last start: D, or nothing.
+#[tactic(auto, using(crate::proofs::Whole::some, crate::proofs::Whole::from_zero, crate::proofs::Steps::last_is), unfolding(crate::specs::Segments::move_along))]
 pub fn segment_after(
     starts: &[u32],
     past: Option<catalogue_tables::Position>,
