@@ -43,6 +43,7 @@ fn is_offered_goto(mask: u32, opcode: u32) -> bool
     }
 }
 
+#[tactic(auto, using(ground::proofs::Cases::past, ground::proofs::Cases::here, player_moves::proofs::Past::past_starts, crate::proofs::Reached::reached), unfolding(crate::specs::Goto::segment_gone, player_moves::specs::Moves::segment_after))]
 fn goto_segment(
     tracks: &[u32],
     segments: &[u32],
@@ -88,6 +89,7 @@ fn goto_segment(
     }
 }
 
+#[tactic(auto, using(crate::proofs::Reached::reached), unfolding(player_moves::specs::Moves::track_after, crate::specs::Goto::track_gone))]
 fn goto_track(groups: &[u32], tracks: &[u32], p: player_state::Player, n: u32, allowed: u32) -> Gone
     requires { Seated groups.now tracks.now p }
     ensures { result ≡ track_gone groups.now tracks.now n allowed p }
@@ -119,6 +121,7 @@ fn goto_track(groups: &[u32], tracks: &[u32], p: player_state::Player, n: u32, a
     }
 }
 
+#[tactic(auto, using(player_steps::proofs::Groups::leads_current, crate::proofs::Reached::reached), unfolding(player_moves::specs::Moves::group_after, crate::specs::Goto::group_gone))]
 fn goto_group(groups: &[u32], tracks: &[u32], p: player_state::Player, n: u32, allowed: u32) -> Gone
     requires current { Current groups.now p.place.group.0 }
     requires by_index { (g : ℕ) → Current groups.now g → RunOf groups.now tracks.now g }

@@ -50,6 +50,7 @@ fn undone(p: player_state::Player, res: u8) -> Controlled
 }
 
 // What Next Segment leads to past the last start of a track (SCOPE 10.4).
+#[tactic(auto, using(ground::proofs::Cases::past, ground::proofs::Cases::here))]
 pub fn past_last(tracks: &[u32], t: catalogue_tables::TrackNo) -> Option<catalogue_tables::Position>
     ensures { near_position result ≡ past_last tracks.now t.0 }
 {
@@ -73,6 +74,7 @@ fn moves_nothing(step: player_walk::Step) -> bool
     }
 }
 
+#[tactic(auto, using(ground::proofs::Cases::past, ground::proofs::Cases::here, crate::proofs::Past::past_starts), unfolding(crate::specs::Moves::segment_after))]
 fn move_segment(
     tracks: &[u32],
     segments: &[u32],
@@ -101,6 +103,7 @@ fn move_segment(
     }
 }
 
+#[tactic(auto, unfolding(crate::specs::Moves::track_after))]
 fn near_track(
     groups: &[u32],
     tracks: &[u32],
@@ -118,6 +121,7 @@ fn near_track(
 }
 
 // The next track: the one that a client named, or else that of the order (SCOPE 14.5).
+#[tactic(auto, using(crate::proofs::Named::next_named, crate::proofs::Named::next_ordered))]
 pub fn next_track(
     groups: &[u32],
     tracks: &[u32],
@@ -166,6 +170,7 @@ fn along_order(
 }
 
 // Next Track goes to the next track, which a client may have named, and no track is named afterwards (SCOPE 14.5). The others go by the order (SCOPE 11.8).
+#[tactic(auto, unfolding(crate::specs::Control::track_moved))]
 fn move_track(
     groups: &[u32],
     tracks: &[u32],
@@ -189,6 +194,7 @@ fn move_track(
 }
 
 // A group's first track (SCOPE 11.4).
+#[tactic(auto, unfolding(crate::specs::Moves::entry_of))]
 fn entry(
     groups: &[u32],
     tracks: &[u32],
@@ -216,6 +222,7 @@ pub fn enter(
     go_to(near, g, p, p)
 }
 
+#[tactic(auto, using(player_groups::proofs::Laws::stays_current), unfolding(crate::specs::Moves::group_after))]
 fn move_group(
     groups: &[u32],
     tracks: &[u32],
@@ -290,6 +297,7 @@ fn act(
 }
 
 // A write to the control point: an opcode, and the number that it may carry (SCOPE 9.4).
+#[tactic(auto, using(ground::proofs::Cases::past, ground::proofs::Cases::here), unfolding(crate::specs::Control::controlled))]
 pub fn control(
     groups: &[u32],
     tracks: &[u32],
@@ -331,6 +339,7 @@ pub fn stays_below(tracks: &[u32], p: player_state::Player, d: u32) -> bool
 
 // An advance in Playing: on by a step of the clock (SCOPE 13.3). At the end a running recording stays there (SCOPE 13.6). Any other track has ended: the player
 // goes to the next track, which may be a named one, or is Paused at the end (SCOPE 13.5).
+#[tactic(auto, using(ground::proofs::Cases::past, ground::proofs::Cases::here, crate::proofs::Past::end_le), unfolding(crate::specs::Clock::played_on))]
 fn play_on(groups: &[u32], tracks: &[u32], p: player_state::Player, d: u32) -> player_state::Player
     requires { Seated groups.now tracks.now p }
     ensures { result ≡ played_on groups.now tracks.now d p }
@@ -364,6 +373,7 @@ fn play_on(groups: &[u32], tracks: &[u32], p: player_state::Player, d: u32) -> p
     }
 }
 
+#[tactic(auto, unfolding(crate::specs::Clock::sought_on))]
 fn seek_on(tracks: &[u32], p: player_state::Player, d: u32) -> player_state::Player
     ensures { result ≡ sought_on tracks.now d p }
 {
@@ -373,6 +383,7 @@ fn seek_on(tracks: &[u32], p: player_state::Player, d: u32) -> player_state::Pla
 }
 
 // An advance: a step of time (SCOPE 13.1).
+#[tactic(auto, using(ground::proofs::Cases::past, ground::proofs::Cases::here), unfolding(crate::specs::Clock::advanced))]
 pub fn advance(
     groups: &[u32],
     tracks: &[u32],
@@ -391,6 +402,7 @@ pub fn advance(
     p
 }
 
+#[tactic(auto, using(ground::proofs::Cases::past, ground::proofs::Cases::here), unfolding(crate::specs::Clock::positioned))]
 pub fn write_position(tracks: &[u32], p: player_state::Player, number: u32) -> player_state::Player
     ensures { result ≡ positioned tracks.now number p }
 {
@@ -409,6 +421,7 @@ pub fn write_position(tracks: &[u32], p: player_state::Player, number: u32) -> p
 }
 
 // A write of 14 goes to a group that has tracks (SCOPE 14.3).
+#[tactic(auto, unfolding(crate::specs::Clock::group_written))]
 pub fn write_group(
     groups: &[u32],
     tracks: &[u32],
@@ -423,6 +436,7 @@ pub fn write_group(
 }
 
 // A group that has tracks is activated (SCOPE 8.9).
+#[tactic(auto, unfolding(crate::specs::Clock::activated))]
 pub fn activate(
     groups: &[u32],
     tracks: &[u32],

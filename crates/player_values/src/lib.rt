@@ -34,6 +34,7 @@ fn put_octet(out: &mut [u8], x: u8, from: usize, most: usize) -> usize
     put(out, &octets, from, most)
 }
 
+#[tactic(auto, unfolding(crate::specs::Values::word_octets))]
 fn put_word(out: &mut [u8], w: u32, from: usize, most: usize) -> usize
     requires most_title_in_bounds { most_title ≤ length out.old }
     requires from_in_bounds { from ≤ length (word_octets w) }
@@ -61,6 +62,7 @@ fn put_name(out: &mut [u8], p: player_state::Player, from: usize, most: usize) -
 }
 
 // Where the title stands. While there is no current track, it is the empty front of the card's text (SCOPE 5.7).
+#[tactic(auto, unfolding(crate::specs::Values::title_part))]
 pub fn title_part(
     tracks: &[u32],
     renames: &[u32],
@@ -75,6 +77,7 @@ pub fn title_part(
 }
 
 // The title: a part of the card's text or of the office's (SCOPE 5.5).
+#[tactic(auto, unfolding(crate::specs::Values::title_value))]
 pub fn title_of<'a>(
     tracks: &[u32],
     text: &'a [u8],
@@ -109,6 +112,7 @@ fn put_title<'a>(
 }
 
 // The word that says that a duration is not yet known is also the word of −1, so that it is handed out as it is kept (SCOPE 16.4).
+#[tactic(auto, using(crate::proofs::Laws::read_as_kept), unfolding(crate::specs::Values::duration_value))]
 pub fn duration_word(tracks: &[u32], p: player_state::Player) -> u32
     ensures { word_octets result ≡ duration_value tracks.now p }
 {
@@ -119,6 +123,7 @@ pub fn duration_word(tracks: &[u32], p: player_state::Player) -> u32
     d.0
 }
 
+#[tactic(auto, unfolding(crate::specs::Values::position_value))]
 pub fn position_word(p: player_state::Player) -> u32
     ensures { word_octets result ≡ position_value p }
 {
@@ -129,6 +134,7 @@ pub fn position_word(p: player_state::Player) -> u32
 }
 
 // The object number of the current track's segments; 0 where there is none (SCOPE 16.5).
+#[tactic(auto, unfolding(crate::specs::Values::segments_now))]
 pub fn segments_now(tracks: &[u32], p: player_state::Player) -> usize
     ensures { (result ≡ segments_now tracks.now p) × (result < 281474976710656) }
 {
@@ -143,6 +149,7 @@ pub fn segments_now(tracks: &[u32], p: player_state::Player) -> usize
 }
 
 // The object number of the current track; 0 where there is none.
+#[tactic(auto, unfolding(crate::specs::Values::track_now))]
 pub fn track_now(p: player_state::Player) -> usize
     ensures { (result ≡ track_now p) × (result < 281474976710656) }
 {
@@ -153,6 +160,7 @@ pub fn track_now(p: player_state::Player) -> usize
 }
 
 // The object number of the next track; 0 where there is none (SCOPE 16.6).
+#[tactic(auto, unfolding(crate::specs::Values::next_now))]
 pub fn next_now(groups: &[u32], tracks: &[u32], p: player_state::Player) -> usize
     requires { Sits groups.now tracks.now p }
     ensures { (result ≡ next_now groups.now tracks.now p) × (result < 281474976710656) }
@@ -168,6 +176,7 @@ pub fn next_now(groups: &[u32], tracks: &[u32], p: player_state::Player) -> usiz
 }
 
 // The object number of the current group's parent; 0 where there is none.
+#[tactic(auto, unfolding(crate::specs::Values::parent_now))]
 pub fn parent_now(groups: &[u32], p: player_state::Player) -> usize
     ensures { (result ≡ parent_now groups.now p) × (result < 281474976710656) }
 {
@@ -179,6 +188,7 @@ pub fn parent_now(groups: &[u32], p: player_state::Player) -> usize
 }
 
 // The object number of the current group; 0 where there is none.
+#[tactic(auto, unfolding(crate::specs::Values::group_now))]
 pub fn group_now(p: player_state::Player) -> usize
     ensures { (result ≡ group_now p) × (result < 281474976710656) }
 {
@@ -189,6 +199,7 @@ pub fn group_now(p: player_state::Player) -> usize
 }
 
 // The six octets of an object number; no octets for 0.
+#[tactic(auto, using(crate::proofs::Parts::nothing_put), unfolding(crate::specs::Values::object_octets))]
 fn put_object(out: &mut [u8], object: usize, from: usize, most: usize) -> usize
     requires most_title_in_bounds { most_title ≤ length out.old }
     requires from_in_bounds { from ≤ length (object_octets object) }
@@ -264,6 +275,7 @@ fn title_length<'a>(
 }
 
 // How many octets the value of an object number has: six, and none for 0.
+#[tactic(auto, unfolding(crate::specs::Values::object_octets, ground::specs::Words::six_octets))]
 fn object_length(object: usize) -> usize
     ensures { result ≡ length (object_octets object) }
 {
