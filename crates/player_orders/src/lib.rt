@@ -77,6 +77,7 @@ fn count_below(
 }
 
 // The place of t in the order, counted from 0: how many tracks come before it. By number it is how far t lies from the first, so that nothing is counted.
+#[tactic(auto, using(crate::proofs::Span::rank_is, crate::proofs::Span::place_small, crate::proofs::Numbers::number_place))]
 pub fn rank(
     tracks: &[u32],
     by: By,
@@ -154,6 +155,7 @@ fn beside(
 }
 
 // The track at place k, where there are few: the one that k tracks come before. A scan is made for each track up to it.
+#[tactic(auto, using(ground::proofs::Cases::le_or, crate::proofs::Few::placed, crate::proofs::Few::some_placed))]
 fn nth_of_few(
     tracks: &[u32],
     by: By,
@@ -207,6 +209,7 @@ fn nth_of_many(
 
 // The track at place k of the order. By number it is k from the first. Counting takes on average half as many scans as there are tracks. Halving takes about 10
 // where the stamps are dates, 30 where they are numbers up to 1000, and 64 where all are equal; so up to 32 tracks are counted.
+#[tactic(auto, using(crate::proofs::Span::below_zero, crate::proofs::Numbers::number_at_lem, crate::proofs::Halve::too_far))]
 pub fn nth(
     tracks: &[u32],
     by: By,
@@ -278,6 +281,7 @@ fn beside_or_end(
 
 // The same move by way of keys. The neighbours of t and the ends of the order are beside a number that is known, and one scan finds them. Goto alone goes by
 // places.
+#[tactic(auto, using(crate::proofs::Moves::to_previous, crate::proofs::Moves::to_next, crate::proofs::Moves::to_first, crate::proofs::Moves::to_last))]
 fn moved_by_keys(
     tracks: &[u32],
     by: By,
@@ -322,6 +326,7 @@ fn moved(
 }
 
 // A move from the current track t of the group whose run is given (SCOPE 11.5, 11.6).
+#[tactic(auto, using(crate::proofs::Moves::along_one, crate::proofs::Moves::along_run))]
 pub fn track_after(
     tracks: &[u32],
     order: u8,
@@ -342,6 +347,7 @@ pub fn track_after(
 }
 
 // A group's first track, when it is activated or moved to (SCOPE 11.4).
+#[tactic(auto, using(crate::proofs::Moves::many), unfolding(crate::specs::Order::tracks_in_order))]
 pub fn entry_track(
     tracks: &[u32],
     order: u8,

@@ -14,6 +14,7 @@ ghost use Rattle.player_steps.specs.Stepping.{along_tracks, along_groups, along_
 use player_manual::Made;
 
 // From t along the run, put in order: on places, and then what stands there.
+#[tactic(auto, using(player_manual::proofs::Along::landing))]
 fn along_run(
     tracks: &[u32],
     by: player_orders::By,
@@ -64,7 +65,13 @@ pub fn goto_track(
 }
 
 // Goto Group by single steps, from the current group.
-pub fn goto_group(groups: &[u32], g: catalogue_tables::GroupNo, n: u32, allowed: u32) -> Made<catalogue_tables::GroupNo>
+#[tactic(auto, using(player_manual::proofs::Along::landing, player_groups::proofs::Moves::place_within, crate::proofs::Groups::walked_alone, crate::proofs::Groups::walked_line))]
+pub fn goto_group(
+    groups: &[u32],
+    g: catalogue_tables::GroupNo,
+    n: u32,
+    allowed: u32,
+) -> Made<catalogue_tables::GroupNo>
     requires { Current groups.now g.0 }
     ensures { groups_made result ≡ by_steps (along_groups groups.now) n allowed g.0 }
 {
@@ -131,6 +138,7 @@ fn segments_on(
 }
 
 // First or Last, and then the steps.
+#[tactic(auto, using(player_manual::proofs::Steps::none_allowed, player_manual::proofs::Steps::no_end, player_manual::proofs::Steps::at_end_lem))]
 fn segments_from_end(
     starts: &[u32],
     past: Option<catalogue_tables::Position>,
