@@ -153,6 +153,7 @@ fn goto_group(groups: &[u32], tracks: &[u32], p: player_state::Player, n: u32, a
 }
 
 // Goto a signed number, given as its word in two's complement, with so many steps allowed (SCOPE 15.1).
+#[tactic(auto, using(player_moves::proofs::Ready::current_run, player_moves::proofs::Ready::below_now), unfolding(crate::specs::Goto::gone))]
 pub fn goto_by_steps(
     groups: &[u32],
     tracks: &[u32],

@@ -250,6 +250,7 @@ fn move_relative(tracks: &[u32], p: player_state::Player, number: u32) -> player
 }
 
 // An action on a player that is not Inactive.
+#[tactic(auto, using(crate::proofs::Ready::current_run, crate::proofs::Ready::below_now), unfolding(crate::specs::Control::acted))]
 fn act(
     groups: &[u32],
     tracks: &[u32],
