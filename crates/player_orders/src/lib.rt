@@ -193,6 +193,7 @@ fn nth_of_many(
 {
     let mut lo: u64 = 0;
     let mut hi = NO_KEY;
+    // Stays a loop: it halves a range of keys of which there is no slice, so that no range counts its turns and `partition_point` has nothing to look at.
     loop {
         let x = lo + (hi - lo) / 2;
         let n = count_below(tracks, by, first, count, x);
