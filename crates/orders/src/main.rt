@@ -8,7 +8,6 @@ ghost use Rattle.player_orders.specs.Order.{Run};
 
 use card_load::Loaded;
 use catalogue_check::Catalogue;
-use player_orders::NearTrack;
 
 fn refuse(number: u64) {
     io::print_decimal(1, number);
@@ -21,14 +20,14 @@ fn after(
     first: catalogue_tables::TrackNo,
     count: u32,
     t: catalogue_tables::TrackNo,
-) -> NearTrack
+) -> Option<catalogue_tables::TrackNo>
     requires { Run (length tracks.now) first.0 count }
 {
     if t.0 < first.0 {
-        return NearTrack::None;
+        return None;
     }
     if first.0 + count <= t.0 {
-        return NearTrack::None;
+        return None;
     }
     player_orders::track_after(tracks, 5, first, count, t, player_walk::Step::Next)
 }
@@ -38,18 +37,14 @@ fn write_found(
     tracks: &[u32],
     first: catalogue_tables::TrackNo,
     count: u32,
-    found: NearTrack,
-) -> NearTrack
+    found: Option<catalogue_tables::TrackNo>,
+) -> Option<catalogue_tables::TrackNo>
     requires { Run (length tracks.now) first.0 count }
 {
-    match found {
-        NearTrack::None => NearTrack::None,
-        NearTrack::Found(t) => {
-            io::write_all(1, b" ");
-            io::print_decimal(1, t.0 as u64);
-            after(tracks, first, count, t)
-        }
-    }
+    let t = found?;
+    io::write_all(1, b" ");
+    io::print_decimal(1, t.0 as u64);
+    after(tracks, first, count, t)
 }
 
 // A run has no more tracks than its count.

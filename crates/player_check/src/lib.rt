@@ -8,6 +8,7 @@ ghost use Rattle.player_check.specs.Standing.{name_row, group_rule, name_rule, m
 ghost use Rattle.player_state.specs.Modes.{rungs};
 
 // A name that is handed in: at most 128 octets of UTF-8, or where it is wrong (SCOPE 8.3, 20.4).
+#[tactic(auto, unfolding(crate::specs::Standing::text_rule, crate::specs::Standing::name_carries, text::specs::Utf8::text_said))]
 pub fn check_name(name: &[u8]) -> Result<(), text::NotText>
     ensures { said_of result ≡ said_by (name_row name.now ∷ []) }
 {
@@ -17,6 +18,7 @@ pub fn check_name(name: &[u8]) -> Result<(), text::NotText>
     text::check(name)
 }
 
+#[tactic(auto, unfolding(crate::specs::Standing::name_rule))]
 fn name_right(name: player_state::Name) -> bool
     ensures { result ≡ name_rule name }
 {
@@ -44,6 +46,7 @@ fn is_rung(s: u8) -> bool
     }
 }
 
+#[tactic(auto, using(ground::proofs::Cases::past, ground::proofs::Cases::here), unfolding(crate::specs::Standing::mode_rule))]
 fn mode_right(m: player_state::Mode) -> bool
     ensures { result ≡ mode_rule m }
 {
@@ -67,6 +70,7 @@ pub fn in_group(groups: &[u32], g: catalogue_tables::GroupNo, track: usize) -> b
     (number < catalogue_tables::group_count(groups)) & (start <= track) & (track < start + count)
 }
 
+#[tactic(auto, unfolding(crate::specs::Standing::place_rule))]
 fn place_right(groups: &[u32], tracks: &[u32], active: bool, l: player_state::Place) -> bool
     ensures { result ≡ place_rule groups.now tracks.now active l }
 {
@@ -79,6 +83,7 @@ fn place_right(groups: &[u32], tracks: &[u32], active: bool, l: player_state::Pl
 }
 
 // Whether the track that is named to come next, if one is, is one of the current group (SCOPE 14.4).
+#[tactic(auto, using(ground::proofs::Cases::past, ground::proofs::Cases::here), unfolding(crate::specs::Standing::upcoming_rule))]
 fn upcoming_right(groups: &[u32], active: bool, g: catalogue_tables::GroupNo, upcoming: u32) -> bool
     ensures { result ≡ upcoming_rule groups.now active g.0 upcoming }
 {
@@ -90,6 +95,7 @@ fn upcoming_right(groups: &[u32], active: bool, g: catalogue_tables::GroupNo, up
 }
 
 // Whether the state keeps the player's part of 201 (SCOPE 20.5).
+#[tactic(auto, unfolding(crate::specs::Standing::player_rule))]
 pub fn player_right(groups: &[u32], tracks: &[u32], p: player_state::Player) -> bool
     ensures { result ≡ player_rule groups.now tracks.now p }
 {
@@ -103,6 +109,7 @@ pub fn player_right(groups: &[u32], tracks: &[u32], p: player_state::Player) -> 
 }
 
 // What 208 asks: whether a group is there and has tracks (SCOPE 8.9).
+#[tactic(auto, unfolding(crate::specs::Standing::group_rule))]
 pub fn group_right(groups: &[u32], g: catalogue_tables::GroupNo) -> bool
     ensures { result ≡ group_rule groups.now g.0 }
 {

@@ -51,6 +51,7 @@ fn entry(table: &[u32; 256], place: usize) -> u32
 }
 
 // The factor of the speed p, which is at the place p + 128 of the table.
+#[tactic(auto, unfolding(crate::specs::Clock::factors_from, crate::specs::Clock::table_rule))]
 fn factor(place: usize) -> u32
     requires { place < 256 }
     ensures { result ≡ factor_of place }
@@ -70,6 +71,7 @@ fn at_most_a_day(whole: u64) -> u32
 }
 
 // The sum fits in 64 bits, whatever the three are.
+#[tactic(auto, using(crate::proofs::Steps::product_fits, crate::proofs::Steps::sum_fits))]
 fn step_by(factor: u32, rest: u32, d: u32) -> Stepped
     ensures { result ≡ stepped_by factor rest d }
 {
@@ -83,6 +85,7 @@ fn step_by(factor: u32, rest: u32, d: u32) -> Stepped
 }
 
 // A step of d hundredths of wall time, on from a rest, at a playback speed: an octet in two's complement.
+#[tactic(auto, unfolding(crate::specs::Clock::stepped))]
 pub fn step(rest: u32, d: u32, speed: u8) -> Stepped
     ensures { result ≡ stepped rest d speed }
 {

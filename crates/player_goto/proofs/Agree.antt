@@ -11,11 +11,11 @@ use native.Mathlib.Omega.{arith}
 use borrow.Author.Tests.{eqb-true}
 use lib.Dec.{eqb}
 use lib.ListN.{length}
+use Rattle.std.specs.Prelude.{Option}
 use Rattle.ground.specs.Cases.{pick}
 use Rattle.ground.proofs.Cases.{clash}
 use Rattle.catalogue_tables.specs.Tables.{first_track_of, tracks_in, starts_of}
 use Rattle.player_walk.specs.Signed.{signed_word}
-use Rattle.player_walk.specs.declared.Near.{Near}
 use Rattle.player_walk.specs.declared.Step.TheVariants.{Goto}
 use Rattle.player_manual.specs.declared.Made.{Made}
 use Rattle.player_manual.specs.declared.Made.TheVariants.{All, Stopped, RanOut}
@@ -43,10 +43,10 @@ came g = record { result = g.outcome; player = g.player }
 
 module _ (n allowed : ℕ) (p : Player) where
   -- how a walk ends, where its steps were enough
-  ended_onward : (m : Made) (near : Near) (f : ℕ → Controlled) → Counts allowed (size (signed_word n)) m → size (signed_word n) ≤ allowed → found m ≡ near
+  ended_onward : (m : Made ℕ) (near : Option ℕ) (f : ℕ → Controlled) → Counts allowed (size (signed_word n)) m → size (signed_word n) ≤ allowed → found m ≡ near
       → came (ended m f p) ≡ onward near f p
-  ended_onward (All x k) near f c enough e = ap (λ (q : Near). onward q f p) e
-  ended_onward (Stopped k) near f c enough e = ap (λ (q : Near). onward q f p) e
+  ended_onward (All x k) near f c enough e = ap (λ (q : Option ℕ). onward q f p) e
+  ended_onward (Stopped k) near f c enough e = ap (λ (q : Option ℕ). onward q f p) e
   ended_onward (RanOut k) near f c enough e = absurd (lt_irrefl 0 (omega (arith, c.1, enough)))
 
   module _ (tracks segments : List ℕ) where

@@ -7,10 +7,10 @@ use Prim.Native.Nat.{ℕ, ◌<◌, ◌≤◌}
 use native.Mathlib.Omega.{arith}
 use borrow.Author.Tests.{eqb-true}
 use lib.Dec.{eqb}
+use Rattle.std.specs.Prelude.{Option}
 use Rattle.ground.specs.Cases.{pick}
 use Rattle.catalogue_tables.specs.Tables.{first_track_of, tracks_in}
 use Rattle.player_walk.specs.Signed.{signed_word}
-use Rattle.player_walk.specs.declared.Near.{Near}
 use Rattle.player_manual.specs.declared.Made.{Made}
 use Rattle.player_manual.specs.declared.Made.TheVariants.{All, Stopped, RanOut}
 use Rattle.player_manual.specs.Made.{by_steps, size}
@@ -50,7 +50,7 @@ Ends allowed m p g = AllMade allowed m g ⊎ (NotBegun p g ⊎ (CouldNot allowed
 
 module _ (n allowed : ℕ) (p : Player) where
   -- a walk that was counted, and what it ends with
-  counted_ends : (r : Made) (f : ℕ → Controlled) → Counts allowed (size (signed_word n)) r → ((x k : ℕ) → r ≡ All x k → (f x).result ≡ 1) → Ends allowed (size (signed_word n)) p (ended r f p)
+  counted_ends : (r : Made ℕ) (f : ℕ → Controlled) → Counts allowed (size (signed_word n)) r → ((x k : ℕ) → r ≡ All x k → (f x).result ≡ 1) → Ends allowed (size (signed_word n)) p (ended r f p)
   counted_ends (All x k) f c fine = inl (fine x k refl, c.0, c.1)
   counted_ends (Stopped k) f c fine = inr (inr (inl (refl, c.0, c.1, c.2, refl)))
   counted_ends (RanOut k) f c fine = inr (inr (inr (refl, c.0, c.1, refl)))
@@ -84,7 +84,7 @@ module _ (n allowed : ℕ) (p : Player) where
     unfolding entry_of
     entered_one g c =
         let found = entry_finds p.mode.order tracks _ (first_track_of groups g) (tracks_in groups g) (current_run groups tracks segments shape g c) c.used in
-        ap (λ (q : Near). (onward q (λ t. success (moved_to g t p)) p).result) found.1
+        ap (λ (q : Option ℕ). (onward q (λ t. success (moved_to g t p)) p).result) found.1
 
     group_ends : 0 < p.mode.media → Ends allowed (size (signed_word n)) p (group_gone groups tracks n allowed p)
     unfolding group_gone group_after

@@ -7,5 +7,5 @@ use Rattle.player_state.specs.declared.Player.{Player}
 use Rattle.player_moves.specs.declared.Controlled.{Controlled}
 use Rattle.player_goto.specs.Goto.{went, ended}
 
-pub reached : (c : Controlled) (r : Made) (x n : ℕ) (f : ℕ → Controlled) (p : Player) → c ≡ f x → All x n ≡ r → went n c ≡ ended r f p
-reached c r x n f p e h = ap (went n) e ∙ ap (λ (m : Made). ended m f p) h
+pub reached : (c : Controlled) (r : Made ℕ) (x n : ℕ) (f : ℕ → Controlled) (p : Player) → c ≡ f x → All x n ≡ r → went n c ≡ ended r f p
+reached c r x n f p e h = ap (went n) e ∙ ap (λ (m : Made ℕ). ended m f p) h

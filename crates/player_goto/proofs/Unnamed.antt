@@ -4,9 +4,8 @@ use mathlib.Core.Bool.{Bool, true, false, not, ◌&&◌}
 use mathlib.Core.List.{List}
 use Prim.Native.Nat.{ℕ}
 use lib.Dec.{eqb}
+use Rattle.std.specs.Prelude.{Option, Some, None}
 use Rattle.ground.specs.Cases.{pick}
-use Rattle.player_walk.specs.declared.Near.{Near}
-use Rattle.player_walk.specs.declared.Near.TheVariants.{At, Nothing}
 use Rattle.player_walk.specs.declared.Step.TheVariants.{Goto}
 use Rattle.player_manual.specs.declared.Made.{Made}
 use Rattle.player_manual.specs.declared.Made.TheVariants.{All, Stopped, RanOut}
@@ -32,7 +31,7 @@ same_pick : (t : Bool) (a b c d : Gone) → Same a c → Same b d → Same (pick
 same_pick true a b c d e f = e
 same_pick false a b c d e f = f
 
-same_ended : (m : Made) (f g : ℕ → Controlled) (p q : Player) → p.place ≡ q.place → ((x : ℕ) → Alike (f x) (g x)) → Same (ended m f p) (ended m g q)
+same_ended : (m : Made ℕ) (f g : ℕ → Controlled) (p q : Player) → p.place ≡ q.place → ((x : ℕ) → Alike (f x) (g x)) → Same (ended m f p) (ended m g q)
 same_ended (All x n) f g p q e h = ((h x).0, refl, (h x).1)
 same_ended (Stopped n) f g p q e h = (refl, refl, e)
 same_ended (RanOut n) f g p q e h = (refl, refl, e)
@@ -59,9 +58,9 @@ module _ (groups tracks segments : List ℕ) (n allowed : ℕ) (p : Player) (nam
       same_ended (by_steps (from_group groups p) n allowed p.place.group.0) (entered groups tracks other) (entered groups tracks p) other p refl
       (λ g. at g (entry_of groups tracks p.mode.order g))
     where
-      at : (g : ℕ) (near : Near) → Alike (onward near (λ t. success (moved_to g t other)) other) (onward near (λ t. success (moved_to g t p)) p)
-      at g (At t) = (refl, refl)
-      at g Nothing = (refl, refl)
+      at : (g : ℕ) (near : Option ℕ) → Alike (onward near (λ t. success (moved_to g t other)) other) (onward near (λ t. success (moved_to g t p)) p)
+      at g (Some t) = (refl, refl)
+      at g None = (refl, refl)
 
   -- THE LAW
   pub name_unused : (opcode : ℕ) → Same (gone groups tracks segments opcode n allowed (with_upcoming named p)) (gone groups tracks segments opcode n allowed p)

@@ -1,9 +1,8 @@
 -- The manual's Goto of a player (SCOPE 15): "a second player of the three Gotos, which really makes First or Last and then each step, up to a given number of
 -- allowed steps" (SCOPE 15.1).
 -- Assumes nothing.
-use Rattle.std.specs.Prelude.{Bool, not, ◌&&◌, ◌||◌, List, ℕ, eqb}
+use Rattle.std.specs.Prelude.{Bool, not, ◌&&◌, ◌||◌, List, ℕ, eqb, Option}
 use Rattle.ground.specs.Cases.{pick}
-use Rattle.player_walk.specs.declared.Near.{Near}
 use Rattle.player_walk.specs.declared.Step.{Step}
 use Rattle.player_walk.specs.declared.Step.TheVariants.{Goto}
 use Rattle.player_manual.specs.declared.Made.{Made}
@@ -27,18 +26,18 @@ went steps c = record { outcome = c.result; steps = steps; player = c.player }
 
 -- The player's own moves, each from where the player is then: at a position of its track; on a track of its group; in a group. SCOPE 15.7: "The steps use no
 -- named next track", so that tracks go by the order alone. Of the place that it starts from, a group move looks at the group alone.
-abbrev pub from_position : List ℕ → List ℕ → Player → Step → ℕ → Near
+abbrev pub from_position : List ℕ → List ℕ → Player → Step → ℕ → Option ℕ
 from_position tracks segments p step x = segment_after tracks segments step (at_position x p)
 
-abbrev pub from_track : List ℕ → List ℕ → Player → Step → ℕ → Near
+abbrev pub from_track : List ℕ → List ℕ → Player → Step → ℕ → Option ℕ
 from_track groups tracks p step t = track_after groups tracks step (at_place p.place.group.0 t 0 p)
 
-abbrev pub from_group : List ℕ → Player → Step → ℕ → Near
+abbrev pub from_group : List ℕ → Player → Step → ℕ → Option ℕ
 from_group groups p step g = group_after groups step (at_place g 0 0 p)
 
 -- How it ends. All steps were made: the player goes where they led. SCOPE 15.4: where a step cannot be made, "it stops there .. and result 4 stands".
 -- SCOPE 15.5: if the allowed steps run out, "it says so (outcome 0) .. and nothing moves".
-abbrev pub ended : Made → (ℕ → Controlled) → Player → Gone
+abbrev pub ended : Made ℕ → (ℕ → Controlled) → Player → Gone
 ended (All x steps) f p = went steps (f x)
 ended (Stopped steps) f p = went steps (failed 4 p)
 ended (RanOut steps) f p = went steps (failed ran_out p)

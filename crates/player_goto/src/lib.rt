@@ -10,7 +10,7 @@ ghost use Rattle.player_check.specs.Standing.{player_rule};
 ghost use Rattle.player_moves.specs.Moves.{Shaped, Seated, RunOf};
 ghost use Rattle.player_goto.specs.Goto.{is_goto, segment_gone, track_gone, group_gone, gone};
 
-use player_steps::{GroupsMade, SegmentsMade, TracksMade};
+use player_manual::Made;
 
 // The opcodes of the three Gotos (SCOPE 9.1).
 const GOTO_SEGMENT: u32 = 0x24;
@@ -43,6 +43,7 @@ fn is_offered_goto(mask: u32, opcode: u32) -> bool
     }
 }
 
+#[tactic(auto, using(ground::proofs::Cases::past, ground::proofs::Cases::here, player_moves::proofs::Past::past_starts, crate::proofs::Reached::reached), unfolding(crate::specs::Goto::segment_gone, player_moves::specs::Moves::segment_after))]
 fn goto_segment(
     tracks: &[u32],
     segments: &[u32],
@@ -67,7 +68,7 @@ fn goto_segment(
     let starts = catalogue_tables::starts(tracks, segments, t);
     let made = player_steps::goto_segment(starts, past, from, n, allowed);
     match made {
-        SegmentsMade::All(to, steps) => {
+        Made::All(to, steps) => {
             let q = player_state::at_position(p, to);
             Gone {
                 outcome: player_moves::SUCCESS,
@@ -75,12 +76,12 @@ fn goto_segment(
                 player: q,
             }
         }
-        SegmentsMade::Stopped(steps) => Gone {
+        Made::Stopped(steps) => Gone {
             outcome: player_moves::CANNOT_COMPLETE,
             steps: steps,
             player: p,
         },
-        SegmentsMade::RanOut(steps) => Gone {
+        Made::RanOut(steps) => Gone {
             outcome: RAN_OUT,
             steps: steps,
             player: p,
@@ -88,6 +89,7 @@ fn goto_segment(
     }
 }
 
+#[tactic(auto, using(crate::proofs::Reached::reached), unfolding(player_moves::specs::Moves::track_after, crate::specs::Goto::track_gone))]
 fn goto_track(groups: &[u32], tracks: &[u32], p: player_state::Player, n: u32, allowed: u32) -> Gone
     requires { Seated groups.now tracks.now p }
     ensures { result ≡ track_gone groups.now tracks.now n allowed p }
@@ -98,7 +100,7 @@ fn goto_track(groups: &[u32], tracks: &[u32], p: player_state::Player, n: u32, a
     let count = catalogue_tables::tracks_in(groups, g);
     let made = player_steps::goto_track(tracks, p.mode.order, first, count, t, n, allowed);
     match made {
-        TracksMade::All(to, steps) => {
+        Made::All(to, steps) => {
             let q = player_state::move_to(p, g, to);
             Gone {
                 outcome: player_moves::SUCCESS,
@@ -106,12 +108,12 @@ fn goto_track(groups: &[u32], tracks: &[u32], p: player_state::Player, n: u32, a
                 player: q,
             }
         }
-        TracksMade::Stopped(steps) => Gone {
+        Made::Stopped(steps) => Gone {
             outcome: player_moves::CANNOT_COMPLETE,
             steps: steps,
             player: p,
         },
-        TracksMade::RanOut(steps) => Gone {
+        Made::RanOut(steps) => Gone {
             outcome: RAN_OUT,
             steps: steps,
             player: p,
@@ -119,6 +121,7 @@ fn goto_track(groups: &[u32], tracks: &[u32], p: player_state::Player, n: u32, a
     }
 }
 
+#[tactic(auto, using(player_steps::proofs::Groups::leads_current, crate::proofs::Reached::reached), unfolding(player_moves::specs::Moves::group_after, crate::specs::Goto::group_gone))]
 fn goto_group(groups: &[u32], tracks: &[u32], p: player_state::Player, n: u32, allowed: u32) -> Gone
     requires current { Current groups.now p.place.group.0 }
     requires by_index { (g : ℕ) → Current groups.now g → RunOf groups.now tracks.now g }
@@ -127,7 +130,7 @@ fn goto_group(groups: &[u32], tracks: &[u32], p: player_state::Player, n: u32, a
     let g = p.place.group;
     let made = player_steps::goto_group(groups, g, n, allowed);
     match made {
-        GroupsMade::All(to, steps) => {
+        Made::All(to, steps) => {
             let entered = player_moves::enter(groups, tracks, p, to);
             let q = entered.player;
             Gone {
@@ -136,12 +139,12 @@ fn goto_group(groups: &[u32], tracks: &[u32], p: player_state::Player, n: u32, a
                 player: q,
             }
         }
-        GroupsMade::Stopped(steps) => Gone {
+        Made::Stopped(steps) => Gone {
             outcome: player_moves::CANNOT_COMPLETE,
             steps: steps,
             player: p,
         },
-        GroupsMade::RanOut(steps) => Gone {
+        Made::RanOut(steps) => Gone {
             outcome: RAN_OUT,
             steps: steps,
             player: p,
@@ -150,6 +153,7 @@ fn goto_group(groups: &[u32], tracks: &[u32], p: player_state::Player, n: u32, a
 }
 
 // Goto a signed number, given as its word in two's complement, with so many steps allowed (SCOPE 15.1).
+#[tactic(auto, using(player_moves::proofs::Ready::current_run, player_moves::proofs::Ready::below_now), unfolding(crate::specs::Goto::gone))]
 pub fn goto_by_steps(
     groups: &[u32],
     tracks: &[u32],

@@ -9,32 +9,31 @@ use native.Mathlib.Omega.{arith}
 use borrow.Author.Tests.{eq-eqb, eqb-true}
 use lib.Dec.{eqb}
 use lib.ListN.{length, get_or}
+use Rattle.std.specs.Prelude.{Option, Some, None}
 use Rattle.ground.specs.Lists.{span, those}
 use Rattle.ground.proofs.Cases.{le_or, clash, and_left, and_right}
 use Rattle.catalogue_tables.specs.Tables.{group_count, parent_of, tracks_in}
 use Rattle.player_walk.specs.Steps.{at, then, move_in}
 use Rattle.player_walk.specs.Places.{place_after}
-use Rattle.player_walk.specs.declared.Near.{Near}
-use Rattle.player_walk.specs.declared.Near.TheVariants.{At, Nothing}
 use Rattle.player_walk.specs.declared.Step.{Step}
 use Rattle.player_groups.specs.Family.{is_sibling, siblings, Current}
 use Rattle.player_groups.proofs.Rising.{each}
 use Rattle.player_groups.proofs.Moves.{line_is, lone_move, sibling_move}
 
 -- what was found in a list is one of its elements
-from_at : (P : ℕ → Type 0) (l : List ℕ) (k h : ℕ) → ((j : ℕ) → j < length l → P (get_or l j 0)) → at l k ≡ At h → P h
+from_at : (P : ℕ → Type 0) (l : List ℕ) (k h : ℕ) → ((j : ℕ) → j < length l → P (get_or l j 0)) → at l k ≡ Some h → P h
 from_at P [] k h all e = let z : ◌≡◌ {A = ℕ} 0 1 = cc in absurd (omega arith)
 from_at P (x ∷ l) zero h all e = let q : x ≡ h = cc in rw q at (all 0 (omega arith))
 from_at P (x ∷ l) (suc k) h all e = from_at P l k h (λ j q. all (suc j) (suc-le-suc q)) e
 
-from_then : (P : ℕ → Type 0) (l : List ℕ) (p : Near) (h : ℕ) → ((j : ℕ) → j < length l → P (get_or l j 0)) → then p (at l) ≡ At h → P h
-from_then P l (At k) h all e = from_at P l k h all e
-from_then P l Nothing h all e = let z : ◌≡◌ {A = ℕ} 0 1 = cc in absurd (omega arith)
+from_then : (P : ℕ → Type 0) (l : List ℕ) (p : Option ℕ) (h : ℕ) → ((j : ℕ) → j < length l → P (get_or l j 0)) → then p (at l) ≡ Some h → P h
+from_then P l (Some k) h all e = from_at P l k h all e
+from_then P l None h all e = let z : ◌≡◌ {A = ℕ} 0 1 = cc in absurd (omega arith)
 
 used : (n : ℕ) → not (eqb n 0) ≡ true → 0 < n
 used n e = ⊎_elim (λ h. h) (λ h. let z : n ≡ 0 = omega arith in clash (rw (eq-eqb n 0 z) at e)) (le_or 1 n)
 
-pub stays_current : (step : Step) (groups : List ℕ) (g h : ℕ) → Current groups g → move_in step false (siblings groups g) g ≡ At h → Current groups h
+pub stays_current : (step : Step) (groups : List ℕ) (g h : ℕ) → Current groups g → move_in step false (siblings groups g) g ≡ Some h → Current groups h
 stays_current step groups g h c e = ⊎_elim other lone (le_or 1 g)
   where
     lone : g < 1 → Current groups h
@@ -42,9 +41,9 @@ stays_current step groups g h c e = ⊎_elim other lone (le_or 1 g)
         let z : g ≡ 0 = omega arith in
         same (place_after step false 1 0) (lone_move groups g step z (place_after step false 1 0) refl ∙ e)
       where
-        same : (p : Near) → then p (λ x. At g) ≡ At h → Current groups h
-        same (At x) e = let q : g ≡ h = cc in rw q at c
-        same Nothing e = let z : ◌≡◌ {A = ℕ} 0 1 = cc in absurd (omega arith)
+        same : (p : Option ℕ) → then p (λ x. Some g) ≡ Some h → Current groups h
+        same (Some x) e = let q : g ≡ h = cc in rw q at c
+        same None e = let z : ◌≡◌ {A = ℕ} 0 1 = cc in absurd (omega arith)
 
     passes : (x : ℕ) → 0 ≤ x → x < 0 + group_count groups → is_sibling groups g x ≡ true → Current groups x
     passes x a b t = record {

@@ -6,10 +6,9 @@ use mathlib.Core.List.{[], ◌∷◌}
 use Prim.Native.Nat.{ℕ, suc, ◌+◌, ◌-◌, ◌<◌, ◌≤◌}
 use native.Mathlib.Omega.{arith}
 use lib.ListN.{length}
+use Rattle.std.specs.Prelude.{Option, Some, None}
 use Rattle.ground.specs.Lists.{span, those}
 use Rattle.player_walk.specs.Steps.{at}
-use Rattle.player_walk.specs.declared.Near.{Near}
-use Rattle.player_walk.specs.declared.Near.TheVariants.{At, Nothing}
 
 -- at the start all is left
 pub all_left : (b : ℕ) → span 0 (b - 0) ≡ span 0 b
@@ -35,8 +34,8 @@ module _ (test : ℕ → Bool) (b i : ℕ) where
     pub count_ends : b ≤ i → n ≡ N
     count_ends h = let r = rw (shut h) at inv in omega arith
 
-  module _ (k : ℕ) (N : Near) (inv : at (those test (span i (b - i))) k ≡ N) where
-    pub found : i < b → test i ≡ true → k ≡ 0 → At i ≡ N
+  module _ (k : ℕ) (N : Option ℕ) (inv : at (those test (span i (b - i))) k ≡ N) where
+    pub found : i < b → test i ≡ true → k ≡ 0 → Some i ≡ N
     found h t e = rw e at (rw t at (rw (opened h) at inv))
 
     pub nearer : i < b → (m : ℕ) → test i ≡ true → (k ≡ 0 → ⊥) → m ≡ k - 1 → at (those test (span (i + 1) (b - (i + 1)))) m ≡ N
@@ -45,5 +44,5 @@ module _ (test : ℕ → Bool) (b i : ℕ) where
     pub skipped : i < b → (m : ℕ) → test i ≡ false → m ≡ k → at (those test (span (i + 1) (b - (i + 1)))) m ≡ N
     skipped h m t e = rw e (rw t at (rw (opened h) at inv))
 
-    pub search_ends : b ≤ i → Nothing ≡ N
+    pub search_ends : b ≤ i → None ≡ N
     search_ends h = rw (shut h) at inv

@@ -1,14 +1,11 @@
 -- The groups that a group move runs over (SCOPE 12.1).
 -- Assumes nothing.
-use Rattle.std.specs.Prelude.{Bool, ◌&&◌, not, List, [], ◌∷◌, ℕ, ◌<◌, ◌≤◌, eqb}
+use Rattle.std.specs.Prelude.{Bool, ◌&&◌, not, List, [], ◌∷◌, ℕ, ◌<◌, ◌≤◌, eqb, Option, Some, None}
 use Rattle.ground.specs.Cases.{pick}
 use Rattle.ground.specs.Limits.{most_groups}
 use Rattle.ground.specs.Lists.{span, those}
 use Rattle.catalogue_tables.specs.Tables.{group_count, parent_of, tracks_in}
-use Rattle.player_walk.specs.declared.Near.{Near}
-use Rattle.player_walk.specs.declared.Near.TheVariants.{At, Nothing}
-use Rattle.player_groups.specs.declared.NearGroup.{NearGroup}
-use Rattle.player_groups.specs.declared.NearGroup.TheVariants.{Found, None}
+use Rattle.catalogue_tables.specs.declared.GroupNo.{GroupNo}
 
 -- SCOPE 12.1: "the groups of the same parent that have tracks, group 0 left out"
 abbrev pub is_sibling : List ℕ → ℕ → ℕ → Bool
@@ -20,9 +17,9 @@ unfoldable pub siblings : List ℕ → ℕ → List ℕ
 siblings groups g = pick (eqb g 0) (0 ∷ []) (those (is_sibling groups g) (span 0 (group_count groups)))
 
 -- what was found, as a plain number
-abbrev pub near_group : NearGroup → Near
-near_group (Found g) = At g.0
-near_group None = Nothing
+abbrev pub near_group : Option GroupNo → Option ℕ
+near_group (Some g) = Some g.0
+near_group None = None
 
 -- what a group move asks for: there are few groups (SCOPE 4.2), and the current one is there and has tracks
 pub record Current (groups : List ℕ) (g : ℕ) : Type 0 where

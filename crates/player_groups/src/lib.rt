@@ -7,12 +7,6 @@ ghost use Rattle.ground.specs.Lists.{span, those};
 ghost use Rattle.player_walk.specs.Steps.{at, move_in};
 ghost use Rattle.player_groups.specs.Family.{is_sibling, siblings, near_group, Current};
 
-#[derive(Clone, Copy)]
-pub enum NearGroup {
-    Found(catalogue_tables::GroupNo),
-    None,
-}
-
 fn is_sibling(groups: &[u32], g: catalogue_tables::GroupNo, h: catalogue_tables::GroupNo) -> bool
     ensures { result ≡ is_sibling groups.now g.0 h.0 }
 {
@@ -31,16 +25,13 @@ pub fn siblings_below(
     requires { bound.0 ≤ most_groups }
     ensures { (result ≡ length (those (is_sibling groups.now g.0) (span 0 bound.0))) × (result ≤ bound.0) }
 {
-    let end = bound.0;
     let mut n: usize = 0;
-    let mut i: u32 = 0;
-    while i < end {
+    for i in 0..bound.0 {
         let h = catalogue_tables::GroupNo(i);
         let found = is_sibling(groups, g, h);
         if found {
             n += 1;
         }
-        i += 1;
     }
     n
 }
@@ -51,25 +42,22 @@ pub fn nth_sibling(
     g: catalogue_tables::GroupNo,
     bound: catalogue_tables::GroupNo,
     k: usize,
-) -> NearGroup
+) -> Option<catalogue_tables::GroupNo>
     requires { bound.0 ≤ most_groups }
     ensures { near_group result ≡ at (those (is_sibling groups.now g.0) (span 0 bound.0)) k }
 {
-    let end = bound.0;
     let mut left: usize = k;
-    let mut i: u32 = 0;
-    while i < end {
+    for i in 0..bound.0 {
         let h = catalogue_tables::GroupNo(i);
         let found = is_sibling(groups, g, h);
         if found {
             if left == 0 {
-                return NearGroup::Found(h);
+                return Some(h);
             }
             left -= 1;
         }
-        i += 1;
     }
-    NearGroup::None
+    None
 }
 
 // A move from the current group.
@@ -77,28 +65,18 @@ pub fn group_after(
     groups: &[u32],
     g: catalogue_tables::GroupNo,
     step: player_walk::Step,
-) -> NearGroup
+) -> Option<catalogue_tables::GroupNo>
     requires { Current groups.now g.0 }
     ensures { near_group result ≡ move_in step false (siblings groups.now g.0) g.0 }
 {
     if g.0 == 0 {
-        let alone = player_walk::place_after(step, false, 1, 0);
-        match alone {
-            player_walk::Near::At(_) => {
-                return NearGroup::Found(g);
-            }
-            player_walk::Near::Nothing => {
-                return NearGroup::None;
-            }
-        }
+        player_walk::place_after(step, false, 1, 0)?;
+        return Some(g);
     }
     let count = catalogue_tables::group_count(groups) as u32;
     let bound = catalogue_tables::GroupNo(count);
     let k = siblings_below(groups, g, g);
     let n = siblings_below(groups, g, bound);
-    let p = player_walk::place_after(step, false, n, k);
-    match p {
-        player_walk::Near::At(j) => nth_sibling(groups, g, bound, j),
-        player_walk::Near::Nothing => NearGroup::None,
-    }
+    let j = player_walk::place_after(step, false, n, k)?;
+    nth_sibling(groups, g, bound, j)
 }

@@ -8,9 +8,9 @@ ghost use Rattle.player_manual.specs.Places.{on_places};
 
 // How a Goto by single steps ends. Steps are counted, First or Last among them (SCOPE 15.2).
 #[derive(Clone, Copy)]
-pub enum Made {
-    // All steps were made: the place that they led to, and how many they were.
-    All(usize, u32),
+pub enum Made<P> {
+    // All steps were made: where they led, and how many they were.
+    All(P, u32),
     // So many steps, of which the last could not be made (SCOPE 15.4).
     Stopped(u32),
     // So many steps as were allowed, and there was one more to make (SCOPE 15.5).
@@ -25,30 +25,29 @@ fn steps_on(
     k: usize,
     wanted: u32,
     allowed: u32,
-) -> Made
+) -> Made<usize>
     requires k_lt_len { k < len }
     requires allowed_nonzero { 0 < allowed }
     ensures { result ≡ more 1 (steps (place_after step repeat len) (allowed - 1) wanted k) }
 {
     let mut at = k;
-    let mut left = wanted;
     let mut made: u32 = 1;
-    while 0 < left {
+    for i in 0..wanted {
         if made == allowed {
             return Made::RanOut(made);
         }
         made += 1;
         let p = player_walk::place_after(step, repeat, len, at);
-        let player_walk::Near::At(next) = p else {
+        let Some(next) = p else {
             return Made::Stopped(made);
         };
         at = next;
-        left -= 1;
     }
     Made::All(at, made)
 }
 
 // First or Last, and then the steps.
+#[tactic(auto, using(crate::proofs::Steps::none_allowed, crate::proofs::Steps::no_end, crate::proofs::Steps::at_end_lem, crate::proofs::Places::stays))]
 fn from_end(
     end: player_walk::Step,
     step: player_walk::Step,
@@ -57,7 +56,7 @@ fn from_end(
     k: usize,
     wanted: u32,
     allowed: u32,
-) -> Made
+) -> Made<usize>
     requires { k < len }
     ensures { result ≡ from_end (place_after end repeat len k) (place_after step repeat len) allowed wanted }
 {
@@ -66,13 +65,13 @@ fn from_end(
     }
     let p = player_walk::place_after(end, repeat, len, k);
     match p {
-        player_walk::Near::At(start) => steps_on(step, repeat, len, start, wanted, allowed),
-        player_walk::Near::Nothing => Made::Stopped(1),
+        Some(start) => steps_on(step, repeat, len, start, wanted, allowed),
+        None => Made::Stopped(1),
     }
 }
 
 // Goto a signed number, as its word in two's complement, from place k of len.
-pub fn goto_by_steps(n: u32, allowed: u32, repeat: bool, len: usize, k: usize) -> Made
+pub fn goto_by_steps(n: u32, allowed: u32, repeat: bool, len: usize, k: usize) -> Made<usize>
     requires { k < len }
     ensures { result ≡ by_steps (on_places repeat len) n allowed k }
 {

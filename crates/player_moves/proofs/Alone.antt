@@ -7,11 +7,10 @@ use Prim.Native.Nat.{ℕ, ◌+◌, min}
 use native.Mathlib.Omega.{arith}
 use borrow.Author.Tests.{eq-eqb, ne_eqb, eqb-true, eqb-false, ltb-true, ltb-false, not-true, not-false}
 use lib.Dec.{eqb, ltb}
+use Rattle.std.specs.Prelude.{Option, Some, None}
 use Rattle.ground.specs.Cases.{has, pick}
 use Rattle.ground.proofs.Cases.{past, here, and_left, clash, true_or}
 use Rattle.player_walk.specs.Signed.{signed_word, is_negative}
-use Rattle.player_walk.specs.declared.Near.{Near}
-use Rattle.player_walk.specs.declared.Near.TheVariants.{At, Nothing}
 use Rattle.player_opcodes.specs.Opcodes.{mask_bit, offered, action_of}
 use Rattle.player_opcodes.specs.declared.Action.{Action}
 use Rattle.player_opcodes.specs.declared.Action.TheVariants.{Play, Pause, Rewind, Forward, Stop, Relative, Segment, Track, Group, Unknown}
@@ -90,17 +89,17 @@ module _ (p : Player) where
   deactivated_setting = refl
 
   module _ (groups tracks : List ℕ) where
-    on_setting : (g : ℕ) (near : Near) → Alike (activated_on g near p)
-    on_setting g (At t) = refl
-    on_setting g Nothing = refl
+    on_setting : (g : ℕ) (near : Option ℕ) → Alike (activated_on g near p)
+    on_setting g (Some t) = refl
+    on_setting g None = refl
 
     pub activated_setting : (g : ℕ) → setting (activated groups tracks g p) ≡ setting p
     unfolding activated
     activated_setting g = on_setting g (entry_of groups tracks p.mode.order g)
 
-    after_setting : (near : Near) → Alike (after_end tracks near p)
-    after_setting (At t) = refl
-    after_setting Nothing = refl
+    after_setting : (near : Option ℕ) → Alike (after_end tracks near p)
+    after_setting (Some t) = refl
+    after_setting None = refl
 
     pub advanced_setting : (d : ℕ) → setting (advanced groups tracks d p) ≡ setting p
     unfolding advanced played_on sought_on

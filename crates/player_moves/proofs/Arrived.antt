@@ -5,8 +5,8 @@ use mathlib.Core.List.{List}
 use Prim.Native.Nat.{ℕ}
 use lib.Dec.{eqb}
 use lib.ListN.{length}
+use Rattle.std.specs.Prelude.{Option}
 use Rattle.catalogue_tables.specs.Tables.{first_track_of, tracks_in}
-use Rattle.player_walk.specs.declared.Near.{Near}
 use Rattle.player_orders.proofs.Laws.{entry_finds}
 use Rattle.player_groups.specs.Family.{Current}
 use Rattle.player_state.specs.declared.Player.{Player}
@@ -41,4 +41,4 @@ module _ (p : Player) (active : is_active p ≡ true) where
   unfolding group_written entry_of
   group_arrives groups tracks segments s g there =
       let entry = entry_finds p.mode.order tracks (length tracks) (first_track_of groups g) (tracks_in groups g) (current_run groups tracks segments s g there) there.used in
-      (entry.0, subst (λ (near : Near). On g entry.0 (onward near (λ t. success (moved_to g t p)) p).player) (sym entry.1) (arrives g entry.0))
+      (entry.0, subst (λ (near : Option ℕ). On g entry.0 (onward near (λ t. success (moved_to g t p)) p).player) (sym entry.1) (arrives g entry.0))

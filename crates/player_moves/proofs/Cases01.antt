@@ -5,6 +5,7 @@ use mathlib.Core.List.{[], ◌∷◌}
 use Prim.Native.Nat.{ℕ, zero, suc, ◌<◌}
 use native.Mathlib.Omega.{arith}
 use lib.ListN.{get_or}
+use Rattle.std.specs.Prelude.{Option, Some}
 use Rattle.ground.specs.Cases.{has}
 use Rattle.ground.specs.Lists.{all_below, sum_below}
 use Rattle.text.specs.Utf8.{text_of, text_from}
@@ -14,8 +15,6 @@ use Rattle.catalogue_check.specs.Catalogue.{plain_rule, catalogue_rule, check_sa
 use Rattle.player_walk.specs.Signed.{signed_word}
 use Rattle.player_walk.specs.Steps.{place, goto, move_in}
 use Rattle.player_walk.specs.Places.{place_after}
-use Rattle.player_walk.specs.declared.Near.{Near}
-use Rattle.player_walk.specs.declared.Near.TheVariants.{At}
 use Rattle.player_walk.specs.declared.Step.TheVariants.{Goto}
 use Rattle.player_walk.proofs.Walk.{move_is}
 use Rattle.player_walk.proofs.Ways.{back}
@@ -40,7 +39,7 @@ unfolding check_said catalogue_rule plain_rule sizes_rule parents_rule track_run
 sample_right = refl
 
 -- −2147483648 is too far to walk: it is found without walking, 2147483647 steps from the last
-far_position : segment_after sample_tracks sample_segments (Goto (minus 2147483648)) (in_track0 1500) ≡ At 0
+far_position : segment_after sample_tracks sample_segments (Goto (minus 2147483648)) (in_track0 1500) ≡ Some 0
 unfolding segment_after starts_of started_player
 far_position =
     sym
@@ -51,7 +50,7 @@ far_position =
 far_segment : control goto_segment (minus 2147483648) (in_track0 1500) ≡ came 1 1 0 0
 unfolding controlled offered mask_bit has action_of step_of acted started_player
 far_segment =
-    ap (λ (n : Near). outcome (onward n (λ x. success (at_position x (in_track0 1500))) (in_track0 1500))) far_position
+    ap (λ (n : Option ℕ). outcome (onward n (λ x. success (at_position x (in_track0 1500))) (in_track0 1500))) far_position
 
 apart : (k : ℕ) → k < 3 → place (get_or (0 ∷ 1 ∷ 2 ∷ []) k 0) (0 ∷ 1 ∷ 2 ∷ []) ≡ k
 apart zero h = refl
@@ -59,7 +58,7 @@ apart (suc zero) h = refl
 apart (suc (suc zero)) h = refl
 apart (suc (suc (suc k))) h = absurd (let z : ⊥ = omega arith in z)
 
-far_found : track_after sample_groups sample_tracks (Goto (minus 2147483648)) (in_group1 4 0 1500) ≡ At 1
+far_found : track_after sample_groups sample_tracks (Goto (minus 2147483648)) (in_group1 4 0 1500) ≡ Some 1
 unfolding track_after tracks_in_order ordered comes_before place_after started_player
 far_found =
     move_is (0 ∷ 1 ∷ 2 ∷ []) apart (Goto (minus 2147483648)) true 0 (omega arith)
@@ -67,7 +66,7 @@ far_found =
 
 far_track : control goto_track (minus 2147483648) (in_group1 4 0 1500) ≡ came 1 1 1 0
 unfolding controlled offered mask_bit has action_of step_of acted track_moved moved_to started_player
-far_track = ap (λ (n : Near). outcome (onward n (λ t. success (moved_to 1 t (in_group1 4 0 1500))) (in_group1 4 0 1500))) far_found
+far_track = ap (λ (n : Option ℕ). outcome (onward n (λ t. success (moved_to 1 t (in_group1 4 0 1500))) (in_group1 4 0 1500))) far_found
 
 pub cases_hold : AllHold cases
 unfolding controlled positioned offered mask_bit has action_of step_of acted track_moved next_track moved_to started_player segment_after starts_of end_of segment_starts move_along previous_start next_start goto signed_word held_sum written track_after tracks_in_order ordered comes_before move_in group_after siblings entry_of

@@ -6,9 +6,8 @@ use mathlib.Core.List.{List}
 use Prim.Native.Nat.{ℕ, ◌<◌}
 use native.Mathlib.Omega.{arith}
 use borrow.Author.Tests.{eqb-false, not-true, not-false}
+use Rattle.std.specs.Prelude.{Option, Some, None}
 use Rattle.ground.specs.Cases.{pick}
-use Rattle.player_walk.specs.declared.Near.{Near}
-use Rattle.player_walk.specs.declared.Near.TheVariants.{At, Nothing}
 use Rattle.player_walk.specs.declared.Step.{Step}
 use Rattle.player_opcodes.specs.Opcodes.{offered, action_of}
 use Rattle.player_state.specs.declared.Player.{Player}
@@ -21,14 +20,14 @@ pub by_test : {A : Type 0} (P : A → Type 0) (t : Bool) (a b : A) → (t ≡ tr
 by_test P true a b f g = f refl
 by_test P false a b f g = g refl
 
-pub by_found : (P : Controlled → Type 0) (near : Near) (f : ℕ → Controlled) (p : Player) → ((x : ℕ) → near ≡ At x → P (f x)) → P (failed 4 p)
+pub by_found : (P : Controlled → Type 0) (near : Option ℕ) (f : ℕ → Controlled) (p : Player) → ((x : ℕ) → near ≡ Some x → P (f x)) → P (failed 4 p)
     → P (onward near f p)
-by_found P (At x) f p on off = on x refl
-by_found P Nothing f p on off = off
+by_found P (Some x) f p on off = on x refl
+by_found P None f p on off = off
 
 -- a segment move: Goto 0, to the position that was found, or result 4
 pub by_segment : (P : Controlled → Type 0) (tracks segments : List ℕ) (step : Step) (p : Player) → P (success p)
-    → ((x : ℕ) → segment_after tracks segments step p ≡ At x → P (success (at_position x p))) → P (failed 4 p)
+    → ((x : ℕ) → segment_after tracks segments step p ≡ Some x → P (success (at_position x p))) → P (failed 4 p)
     → P (segment_moved tracks segments step p)
 by_segment P tracks segments step p still on off =
     by_test P (moves_nothing step) _ _ (λ t. still) (λ t. by_found P (segment_after tracks segments step p) _ p on off)

@@ -8,6 +8,7 @@ use Prim.Native.Nat.{ℕ, min, ◌+◌, ◌≤◌, ◌<◌}
 use native.Mathlib.Omega.{arith}
 use borrow.Author.Tests.{eq-eqb, eqb-true, ltb-true, ltb-false, lt-ltb, le-ltb}
 use lib.Dec.{eqb, ltb}
+use Rattle.std.specs.Prelude.{Option, Some, None}
 use Rattle.ground.specs.Cases.{pick}
 use Rattle.ground.specs.Limits.{most_duration}
 use Rattle.ground.proofs.Cases.{past, here}
@@ -15,8 +16,6 @@ use Rattle.player_clock.specs.declared.Stepped.{Stepped}
 use Rattle.player_clock.specs.Clock.{parts, stepped}
 use Rattle.player_clock.proofs.Steps.{step_at_zero, steps_join}
 use Rattle.player_walk.specs.Signed.{signed_word, is_negative}
-use Rattle.player_walk.specs.declared.Near.{Near}
-use Rattle.player_walk.specs.declared.Near.TheVariants.{At, Nothing}
 use Rattle.player_opcodes.specs.Opcodes.{action_of}
 use Rattle.player_opcodes.specs.declared.Action.{Action}
 use Rattle.player_opcodes.specs.declared.Action.TheVariants.{Play, Pause, Rewind, Forward, Stop, Relative, Segment, Track, Group, Unknown}
@@ -87,9 +86,9 @@ module _ (p : Player) where
       (λ a. inl refl)
 
   module _ (groups tracks : List ℕ) where
-    after_rests : (near : Near) → (after_end tracks near p).place.rest ≡ 0
-    after_rests (At t) = refl
-    after_rests Nothing = refl
+    after_rests : (near : Option ℕ) → (after_end tracks near p).place.rest ≡ 0
+    after_rests (Some t) = refl
+    after_rests None = refl
 
     -- outside Playing, and at a track's end
     pub sought_rests : (d : ℕ) → (p.mode.media ≡ playing → ⊥) → Rests (advanced groups tracks d p)
@@ -122,9 +121,9 @@ module _ (p : Player) where
     unfolding group_written
     group_rests g = entered_rests g
 
-    on_rests : (g : ℕ) (near : Near) → Rests (activated_on g near p)
-    on_rests g (At t) = inr refl
-    on_rests g Nothing = inl refl
+    on_rests : (g : ℕ) (near : Option ℕ) → Rests (activated_on g near p)
+    on_rests g (Some t) = inr refl
+    on_rests g None = inl refl
 
     pub activated_rests : (g : ℕ) → Rests (activated groups tracks g p)
     unfolding activated

@@ -8,12 +8,11 @@ use native.Mathlib.Omega.{arith}
 use borrow.Author.Tests.{eqb-true, eqb-false, ltb-true, leb-true, lt-ltb}
 use lib.Dec.{eqb, ltb, leb}
 use lib.ListN.{length, replicate}
+use Rattle.std.specs.Prelude.{Option, Some, None}
 use Rattle.ground.specs.Limits.{most_title}
 use Rattle.ground.proofs.Cases.{here, past, true_or, and_left, and_right, and_both}
 use Rattle.catalogue_tables.specs.Tables.{group_count, first_track_of, tracks_in, end_of, starts_of}
 use Rattle.player_walk.specs.Signed.{signed_word, is_negative}
-use Rattle.player_walk.specs.declared.Near.{Near}
-use Rattle.player_walk.specs.declared.Near.TheVariants.{At, Nothing}
 use Rattle.player_walk.specs.declared.Step.{Step}
 use Rattle.player_walk.specs.declared.Step.TheVariants.{Previous, Next, First, Last, Goto}
 use Rattle.player_orders.proofs.Laws.{move_in_run, entry_in_run}
@@ -44,11 +43,11 @@ add_one_less : (t : ℕ) → t + 1 - 1 ≡ t
 add_one_less t = omega arith
 
 -- the track that was found; so that what is found once is one track
-abbrev reading : ℕ → Near → ℕ
-reading none (At t) = t
-reading none Nothing = none
+abbrev reading : ℕ → Option ℕ → ℕ
+reading none (Some t) = t
+reading none None = none
 
-at_one : {t u : ℕ} → At u ≡ At t → u ≡ t
+at_one : {t u : ℕ} → Some u ≡ Some t → u ≡ t
 at_one e = ap (reading 0) e
 
 pub started : (groups tracks name : List ℕ) (mask ccid : ℕ) → text_rule name ≡ true → player_rule groups tracks (started_player name mask ccid) ≡ true
@@ -204,7 +203,7 @@ module _ (groups tracks : List ℕ) where
 
   module _ (segments : List ℕ) (s : Shaped groups tracks segments) where
     -- the entry to a group that is there and has tracks
-    entry_found : (order g t : ℕ) → Current groups g → entry_of groups tracks order g ≡ At t → Found g t
+    entry_found : (order g t : ℕ) → Current groups g → entry_of groups tracks order g ≡ Some t → Found g t
     unfolding entry_of
     entry_found order g t c e =
         let r = entry_in_run order tracks (length tracks) (first_track_of groups g) (tracks_in groups g) (ready.current_run groups tracks segments s g c) c.used t e in
@@ -212,7 +211,7 @@ module _ (groups tracks : List ℕ) where
 
     module _ (p : Player) (right : Stands p) where
       module _ (active : 0 < p.mode.media) where
-        track_found_lem : (step : Step) (t : ℕ) → track_after groups tracks step p ≡ At t → Found p.place.group.0 t
+        track_found_lem : (step : Step) (t : ℕ) → track_after groups tracks step p ≡ Some t → Found p.place.group.0 t
         unfolding track_after
         track_found_lem step t e =
             let g = p.place.group.0 in
@@ -222,7 +221,7 @@ module _ (groups tracks : List ℕ) where
             record { exists = laws.group_exists groups tracks p right active; from = r.0; to = r.1 }
 
         -- the next track, and where any track move leads; what that leaves of the name
-        next_found : (t : ℕ) → next_track groups tracks p ≡ At t → Found p.place.group.0 t
+        next_found : (t : ℕ) → next_track groups tracks p ≡ Some t → Found p.place.group.0 t
         next_found t e =
             ⊎_elim
             (λ z. track_found_lem Next t (sym (next_ordered groups tracks p (eqb-true _ _ z)) ∙ e))
@@ -232,7 +231,7 @@ module _ (groups tracks : List ℕ) where
             in_found p.place.group.0 t (rw (sym one) (laws.named_within groups tracks p right some)))
             (true_or (eqb p.upcoming 0))
 
-        reached_found : (step : Step) (t : ℕ) → track_reached groups tracks step p ≡ At t → Found p.place.group.0 t
+        reached_found : (step : Step) (t : ℕ) → track_reached groups tracks step p ≡ Some t → Found p.place.group.0 t
         reached_found Next t e = next_found t e
         reached_found Previous t e = track_found_lem Previous t e
         reached_found First t e = track_found_lem First t e
@@ -246,13 +245,13 @@ module _ (groups tracks : List ℕ) where
         used_stands Last = right
         used_stands (Goto n) = right
 
-        segment_within : (step : Step) (x : ℕ) → segment_after tracks segments step p ≡ At x → x ≤ end_now tracks p
+        segment_within : (step : Step) (x : ℕ) → segment_after tracks segments step p ≡ Some x → x ≤ end_now tracks p
         unfolding segment_after
         segment_within step x e =
             move_within step (starts_of tracks segments p.place.track.0) (past_last tracks p.place.track.0) (end_now tracks p) p.place.position.0 x
             (ready.below_now groups tracks segments s p right active) (past_end tracks p.place.track.0) (laws.position_held groups tracks p right active) e
 
-        group_current : (step : Step) (g : ℕ) → group_after groups step p ≡ At g → Current groups g
+        group_current : (step : Step) (g : ℕ) → group_after groups step p ≡ Some g → Current groups g
         unfolding group_after
         group_current step g e = stays_current step groups p.place.group.0 g (ready.current groups tracks segments s p right active) e
 
@@ -280,10 +279,10 @@ module _ (groups tracks : List ℕ) where
             right
         kept_acted Unknown = right
 
-        kept_after : (near : Near) → next_track groups tracks p ≡ near → Stands (after_end tracks near p)
-        kept_after (At t) e =
+        kept_after : (near : Option ℕ) → next_track groups tracks p ≡ near → Stands (after_end tracks near p)
+        kept_after (Some t) e =
             at_stands (unnamed p) (kept_unnamed p right) p.mode (laws.mode_kept groups tracks p right) active _ t 0 (reached_found Next t e) (omega arith)
-        kept_after Nothing e =
+        kept_after None e =
             stay_stands p right active (in_mode paused 0 p).mode (calm p right 2 (omega arith)) (omega arith) (end_now tracks p) 0 (omega arith) refl
 
         kept_played_on : (d : ℕ) → Stands (played_on groups tracks d p)
@@ -322,10 +321,10 @@ module _ (groups tracks : List ℕ) where
           (λ e. kept_played_on (omega (arith, eqb-true p.mode.media playing e)) d)
           (λ n. by_test Stands (eqb p.mode.media seeking) _ _ (λ e. kept_sought_on (omega (arith, eqb-true p.mode.media seeking e)) d) (λ m. right))
 
-      kept_on : (g : ℕ) (near : Near) → Current groups g → entry_of groups tracks p.mode.order g ≡ near → Stands (activated_on g near p)
-      kept_on g (At t) c e =
+      kept_on : (g : ℕ) (near : Option ℕ) → Current groups g → entry_of groups tracks p.mode.order g ≡ near → Stands (activated_on g near p)
+      kept_on g (Some t) c e =
           at_stands p right (in_mode paused 0 p).mode (calm p right 2 (omega arith)) (omega arith) g t 0 (entry_found p.mode.order g t c e) (omega arith)
-      kept_on g Nothing c e = right
+      kept_on g None c e = right
 
       pub kept_activated : (g : ℕ) → g < group_count groups → 0 < tracks_in groups g → Stands (activated groups tracks g p)
       unfolding activated

@@ -7,11 +7,10 @@ use Prim.Native.Nat.{ℕ, suc}
 use native.Mathlib.Omega.{arith}
 use borrow.Author.Tests.{eq-eqb, eqb-true}
 use lib.Dec.{eqb}
+use Rattle.std.specs.Prelude.{Option, Some, None}
 use Rattle.ground.specs.Cases.{pick}
 use Rattle.ground.proofs.Cases.{past, here, and_both, clash}
 use Rattle.player_walk.specs.Signed.{signed_word, is_negative}
-use Rattle.player_walk.specs.declared.Near.{Near}
-use Rattle.player_walk.specs.declared.Near.TheVariants.{At, Nothing}
 use Rattle.player_walk.specs.declared.Step.{Step}
 use Rattle.player_walk.specs.declared.Step.TheVariants.{Previous, Next, First, Last, Goto}
 use Rattle.player_opcodes.specs.Opcodes.{action_of}
@@ -83,9 +82,9 @@ module _ (p : Player) where
     unfolding group_written
     group_keeps g = entered_keeps g
 
-    on_keeps : (g : ℕ) (near : Near) → Keeps p (activated_on g near p)
-    on_keeps g (At t) = refl
-    on_keeps g Nothing = stays
+    on_keeps : (g : ℕ) (near : Option ℕ) → Keeps p (activated_on g near p)
+    on_keeps g (Some t) = refl
+    on_keeps g None = stays
 
     pub activated_keeps : (g : ℕ) → Keeps p (activated groups tracks g p)
     unfolding activated
@@ -101,8 +100,8 @@ module _ (p : Player) where
     pub next_uses : (t : ℕ) → p.upcoming ≡ suc t → track_moved groups tracks Next p ≡ success (moved_to p.place.group.0 t (unnamed p))
     unfolding track_moved
     next_uses t e =
-        let found : next_track groups tracks p ≡ At t = next_named groups tracks p (λ z. omega arith) ∙ ap At (omega arith) in
-        ap (λ (n : Near). onward n (λ u. success (moved_to p.place.group.0 u (unnamed p))) p) found
+        let found : next_track groups tracks p ≡ Some t = next_named groups tracks p (λ z. omega arith) ∙ ap Some (omega arith) in
+        ap (λ (n : Option ℕ). onward n (λ u. success (moved_to p.place.group.0 u (unnamed p))) p) found
 
     pub next_once : (t : ℕ) → p.upcoming ≡ suc t → (track_moved groups tracks Next p).player.upcoming ≡ 0
     next_once t e = ap (λ (c : Controlled). c.player.upcoming) (next_uses t e) ∙ used_moved p.place.group.0 t
@@ -111,8 +110,8 @@ module _ (p : Player) where
         → advanced groups tracks d p ≡ at_place p.place.group.0 t 0 (unnamed p)
     unfolding advanced played_on
     end_uses d t plays ends runs e =
-        let found : next_track groups tracks p ≡ At t = next_named groups tracks p (λ z. omega arith) ∙ ap At (omega arith) in
-        sym (here _ (eq-eqb _ _ plays) (past _ ends (past _ runs (ap (λ (n : Near). after_end tracks n p) (sym found)))))
+        let found : next_track groups tracks p ≡ Some t = next_named groups tracks p (λ z. omega arith) ∙ ap Some (omega arith) in
+        sym (here _ (eq-eqb _ _ plays) (past _ ends (past _ runs (ap (λ (n : Option ℕ). after_end tracks n p) (sym found)))))
 
     pub end_once : (d t : ℕ) → p.mode.media ≡ playing → stays_below tracks d p ≡ false → running_now tracks p ≡ false → p.upcoming ≡ suc t
         → (advanced groups tracks d p).upcoming ≡ 0
@@ -136,9 +135,9 @@ module _ (p : Player) where
     still : NoneElsewhere p
     still off = clash (sym off ∙ on_its_own)
 
-    after_none : (near : Near) → NoneElsewhere (after_end tracks near p)
-    after_none (At t) off = used_none (is_on p.place.group.0 t p)
-    after_none Nothing off = still off
+    after_none : (near : Option ℕ) → NoneElsewhere (after_end tracks near p)
+    after_none (Some t) off = used_none (is_on p.place.group.0 t p)
+    after_none None off = still off
 
     pub advanced_elsewhere : (d : ℕ) → NoneElsewhere (advanced groups tracks d p)
     unfolding advanced played_on sought_on

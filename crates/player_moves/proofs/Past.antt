@@ -6,10 +6,10 @@ use mathlib.Core.List.{List}
 use Prim.Native.Nat.{ℕ, ◌≤◌}
 use native.Mathlib.Omega.{arith}
 use borrow.Author.Tests.{eqb-true}
+use Rattle.std.specs.Prelude.{Some, None}
 use Rattle.ground.specs.Cases.{pick}
 use Rattle.ground.proofs.Cases.{true_or}
 use Rattle.catalogue_tables.specs.Tables.{duration_of, not_yet_known, is_running, end_of}
-use Rattle.player_walk.specs.declared.Near.TheVariants.{At, Nothing}
 use Rattle.player_segments.specs.Segments.{Below, Past}
 use Rattle.player_moves.specs.Moves.{past_last}
 
@@ -22,14 +22,14 @@ module _ (tracks : List ℕ) (t : ℕ) where
       (λ e. rw e (omega arith))
       (true_or (is_running tracks t))
 
-  past_is : (d : ℕ) → past_last tracks t ≡ At d → d ≡ end_of tracks t
+  past_is : (d : ℕ) → past_last tracks t ≡ Some d → d ≡ end_of tracks t
   past_is d e = by (is_running tracks t) e
     where
-      by : (running : Bool) → pick running Nothing (At (end_of tracks t)) ≡ At d → d ≡ end_of tracks t
+      by : (running : Bool) → pick running None (Some (end_of tracks t)) ≡ Some d → d ≡ end_of tracks t
       by true e = cc
       by false e = cc
 
-  pub past_end : (d : ℕ) → past_last tracks t ≡ At d → d ≤ end_of tracks t
+  pub past_end : (d : ℕ) → past_last tracks t ≡ Some d → d ≤ end_of tracks t
   past_end d e = omega (arith, past_is d e)
 
   -- starts below a track's end are below what stands past them

@@ -5,10 +5,9 @@ use mathlib.Core.List.{List}
 use Prim.Native.Nat.{ℕ}
 use borrow.Author.Tests.{eqb-true}
 use lib.Dec.{eqb}
+use Rattle.std.specs.Prelude.{Option, Some, None}
 use Rattle.ground.proofs.Cases.{clash}
 use Rattle.player_walk.specs.Signed.{signed_word, is_negative}
-use Rattle.player_walk.specs.declared.Near.{Near}
-use Rattle.player_walk.specs.declared.Near.TheVariants.{At, Nothing}
 use Rattle.player_walk.specs.declared.Step.{Step}
 use Rattle.player_opcodes.specs.Opcodes.{action_of}
 use Rattle.player_opcodes.specs.declared.Action.{Action}
@@ -68,9 +67,9 @@ module _ (p : Player) where
     pub running_stays : (d : ℕ) → p.mode.media ≡ playing → running_now tracks p ≡ true → seat (advanced groups tracks d p) ≡ seat p
     running_stays d e r = ap seat (advanced_running p groups tracks d e r)
 
-    after_active : (near : Near) → is_active p ≡ true → Same (after_end tracks near p)
-    after_active (At t) a = refl
-    after_active Nothing a = sym a
+    after_active : (near : Option ℕ) → is_active p ≡ true → Same (after_end tracks near p)
+    after_active (Some t) a = refl
+    after_active None a = sym a
 
     -- neither the clock nor the control point makes a player active or Inactive
     pub advanced_active : (d : ℕ) → is_active (advanced groups tracks d p) ≡ is_active p

@@ -1,10 +1,8 @@
 -- What an advance does (SCOPE 13), what writes of the position, the track and the group do (SCOPE 9.8, 9.9, 14.2, 14.3), and what activate does (SCOPE 8.9).
 -- Assumes nothing.
-use Rattle.std.specs.Prelude.{Bool, ◌&&◌, List, ℕ, ◌+◌, eqb, ltb}
+use Rattle.std.specs.Prelude.{Bool, ◌&&◌, List, ℕ, ◌+◌, eqb, ltb, Option, Some, None}
 use Rattle.ground.specs.Cases.{pick}
 use Rattle.player_walk.specs.Signed.{signed_word, is_negative}
-use Rattle.player_walk.specs.declared.Near.{Near}
-use Rattle.player_walk.specs.declared.Near.TheVariants.{At, Nothing}
 use Rattle.player_clock.specs.declared.Stepped.{Stepped}
 use Rattle.player_clock.specs.Clock.{stepped}
 use Rattle.player_state.specs.declared.Player.{Player}
@@ -27,9 +25,9 @@ stays_below tracks d p = is_below tracks (clock_step d p).whole p
 
 -- SCOPE 13.5: "The player goes to the next track at 0, still Playing: to the named one (14.5), or else to the one that Next Track reaches in the order. Where
 -- there is none, it is Paused at D." A name is then used up (SCOPE 14.5).
-abbrev pub after_end : List ℕ → Near → Player → Player
-after_end tracks (At t) p = at_place p.place.group.0 t 0 (unnamed p)
-after_end tracks Nothing p = paused_at (end_now tracks p) p
+abbrev pub after_end : List ℕ → Option ℕ → Player → Player
+after_end tracks (Some t) p = at_place p.place.group.0 t 0 (unnamed p)
+after_end tracks None p = paused_at (end_now tracks p) p
 
 -- at D or beyond. SCOPE 13.6: "A recording that is still running never ends: at 8,640,000 the player stays there in its state, and the rest is as it was."
 abbrev pub at_end : List ℕ → List ℕ → Player → Player
@@ -70,9 +68,9 @@ unfoldable pub group_written : List ℕ → List ℕ → ℕ → Player → Play
 group_written groups tracks g p = (entered groups tracks p g).player
 
 -- SCOPE 8.9: "Activate goes to a group's first track (11.4), at position 0, Paused, with seeking speed 0, whatever the state was."
-abbrev pub activated_on : ℕ → Near → Player → Player
-activated_on g (At t) p = activated_at g t p
-activated_on g Nothing p = p
+abbrev pub activated_on : ℕ → Option ℕ → Player → Player
+activated_on g (Some t) p = activated_at g t p
+activated_on g None p = p
 
 unfoldable pub activated : List ℕ → List ℕ → ℕ → Player → Player
 activated groups tracks g p = activated_on g (entry_of groups tracks p.mode.order g) p

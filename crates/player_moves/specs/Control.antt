@@ -1,10 +1,8 @@
 -- The control point (SCOPE 9): "The first that applies is given, in the order 2, 3, 4, 1. After 2, 3 and 4 the player is as before." (SCOPE 9.4)
 -- Assumes nothing.
-use Rattle.std.specs.Prelude.{Bool, true, false, not, List, ℕ, eqb}
+use Rattle.std.specs.Prelude.{Bool, true, false, not, List, ℕ, eqb, Option, Some, None}
 use Rattle.ground.specs.Cases.{pick}
 use Rattle.player_walk.specs.Signed.{signed_word}
-use Rattle.player_walk.specs.declared.Near.{Near}
-use Rattle.player_walk.specs.declared.Near.TheVariants.{At, Nothing}
 use Rattle.player_walk.specs.declared.Step.{Step}
 use Rattle.player_walk.specs.declared.Step.TheVariants.{Previous, Next, First, Last, Goto}
 use Rattle.player_opcodes.specs.Opcodes.{offered, action_of}
@@ -25,9 +23,9 @@ abbrev pub failed : ℕ → Player → Controlled
 failed result p = record { result = result; player = p }
 
 -- on from what was found; where nothing was, result 4 (SCOPE 10.6)
-abbrev pub onward : Near → (ℕ → Controlled) → Player → Controlled
-onward (At x) f p = f x
-onward Nothing f p = failed 4 p
+abbrev pub onward : Option ℕ → (ℕ → Controlled) → Player → Controlled
+onward (Some x) f p = f x
+onward None f p = failed 4 p
 
 -- SCOPE 12.3: "A group move goes to the group's first track (11.4) at position 0"
 abbrev pub entered : List ℕ → List ℕ → Player → ℕ → Controlled
@@ -35,7 +33,7 @@ entered groups tracks p g = onward (entry_of groups tracks p.mode.order g) (λ t
 
 -- Where a track move leads. SCOPE 11.8: "A next track that was named (14.4) is used by Next Track, and by no other track move." The others go
 -- by the order alone.
-abbrev pub track_reached : List ℕ → List ℕ → Step → Player → Near
+abbrev pub track_reached : List ℕ → List ℕ → Step → Player → Option ℕ
 track_reached groups tracks Next p = next_track groups tracks p
 track_reached groups tracks Previous p = track_after groups tracks Previous p
 track_reached groups tracks First p = track_after groups tracks First p

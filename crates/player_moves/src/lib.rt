@@ -50,14 +50,15 @@ fn undone(p: player_state::Player, res: u8) -> Controlled
 }
 
 // What Next Segment leads to past the last start of a track (SCOPE 10.4).
-pub fn past_last(tracks: &[u32], t: catalogue_tables::TrackNo) -> player_segments::NearPosition
+#[tactic(auto, using(ground::proofs::Cases::past, ground::proofs::Cases::here))]
+pub fn past_last(tracks: &[u32], t: catalogue_tables::TrackNo) -> Option<catalogue_tables::Position>
     ensures { near_position result ≡ past_last tracks.now t.0 }
 {
     if catalogue_tables::is_running(tracks, t) {
-        return player_segments::NearPosition::None;
+        return None;
     }
     let end = catalogue_tables::end(tracks, t);
-    player_segments::NearPosition::Found(end)
+    Some(end)
 }
 
 // Goto Segment 0 sets no position (SCOPE 10.7).
@@ -73,6 +74,7 @@ fn moves_nothing(step: player_walk::Step) -> bool
     }
 }
 
+#[tactic(auto, using(ground::proofs::Cases::past, ground::proofs::Cases::here, crate::proofs::Past::past_starts), unfolding(crate::specs::Moves::segment_after))]
 fn move_segment(
     tracks: &[u32],
     segments: &[u32],
@@ -93,20 +95,21 @@ fn move_segment(
     let starts = catalogue_tables::starts(tracks, segments, t);
     let near = player_segments::segment_after(starts, past, from, step);
     match near {
-        player_segments::NearPosition::Found(to) => {
+        Some(to) => {
             let q = player_state::at_position(p, to);
             done(q)
         }
-        player_segments::NearPosition::None => undone(p, CANNOT_COMPLETE),
+        None => undone(p, CANNOT_COMPLETE),
     }
 }
 
+#[tactic(auto, unfolding(crate::specs::Moves::track_after))]
 fn near_track(
     groups: &[u32],
     tracks: &[u32],
     p: player_state::Player,
     step: player_walk::Step,
-) -> player_orders::NearTrack
+) -> Option<catalogue_tables::TrackNo>
     requires { Seated groups.now tracks.now p }
     ensures { near_track result ≡ track_after groups.now tracks.now step p }
 {
@@ -118,24 +121,25 @@ fn near_track(
 }
 
 // The next track: the one that a client named, or else that of the order (SCOPE 14.5).
+#[tactic(auto, using(crate::proofs::Named::next_named, crate::proofs::Named::next_ordered))]
 pub fn next_track(
     groups: &[u32],
     tracks: &[u32],
     p: player_state::Player,
-) -> player_orders::NearTrack
+) -> Option<catalogue_tables::TrackNo>
     requires { Seated groups.now tracks.now p }
     ensures { near_track result ≡ next_track groups.now tracks.now p }
 {
     if p.upcoming != 0 {
         let t = catalogue_tables::TrackNo(p.upcoming - 1);
-        return player_orders::NearTrack::Found(t);
+        return Some(t);
     }
     near_track(groups, tracks, p, player_walk::Step::Next)
 }
 
 // The player `from` goes to the track that was found in a group. Where none was found, the result is 4 and the player is p.
 fn go_to(
-    near: player_orders::NearTrack,
+    near: Option<catalogue_tables::TrackNo>,
     g: catalogue_tables::GroupNo,
     from: player_state::Player,
     p: player_state::Player,
@@ -143,11 +147,11 @@ fn go_to(
     ensures { result ≡ onward (near_track near) (λ (t : ℕ). success (moved_to g.0 t from)) p }
 {
     match near {
-        player_orders::NearTrack::Found(t) => {
+        Some(t) => {
             let q = player_state::move_to(from, g, t);
             done(q)
         }
-        player_orders::NearTrack::None => undone(p, CANNOT_COMPLETE),
+        None => undone(p, CANNOT_COMPLETE),
     }
 }
 
@@ -166,6 +170,7 @@ fn along_order(
 }
 
 // Next Track goes to the next track, which a client may have named, and no track is named afterwards (SCOPE 14.5). The others go by the order (SCOPE 11.8).
+#[tactic(auto, unfolding(crate::specs::Control::track_moved))]
 fn move_track(
     groups: &[u32],
     tracks: &[u32],
@@ -189,12 +194,13 @@ fn move_track(
 }
 
 // A group's first track (SCOPE 11.4).
+#[tactic(auto, unfolding(crate::specs::Moves::entry_of))]
 fn entry(
     groups: &[u32],
     tracks: &[u32],
     order: u8,
     g: catalogue_tables::GroupNo,
-) -> player_orders::NearTrack
+) -> Option<catalogue_tables::TrackNo>
     requires { RunOf groups.now tracks.now g.0 }
     ensures { near_track result ≡ entry_of groups.now tracks.now order g.0 }
 {
@@ -216,6 +222,7 @@ pub fn enter(
     go_to(near, g, p, p)
 }
 
+#[tactic(auto, using(player_groups::proofs::Laws::stays_current), unfolding(crate::specs::Moves::group_after))]
 fn move_group(
     groups: &[u32],
     tracks: &[u32],
@@ -229,8 +236,8 @@ fn move_group(
     let g = p.place.group;
     let near = player_groups::group_after(groups, g, step);
     match near {
-        player_groups::NearGroup::Found(h) => enter(groups, tracks, p, h),
-        player_groups::NearGroup::None => undone(p, CANNOT_COMPLETE),
+        Some(h) => enter(groups, tracks, p, h),
+        None => undone(p, CANNOT_COMPLETE),
     }
 }
 
@@ -243,6 +250,7 @@ fn move_relative(tracks: &[u32], p: player_state::Player, number: u32) -> player
 }
 
 // An action on a player that is not Inactive.
+#[tactic(auto, using(crate::proofs::Ready::current_run, crate::proofs::Ready::below_now), unfolding(crate::specs::Control::acted))]
 fn act(
     groups: &[u32],
     tracks: &[u32],
@@ -290,6 +298,7 @@ fn act(
 }
 
 // A write to the control point: an opcode, and the number that it may carry (SCOPE 9.4).
+#[tactic(auto, using(ground::proofs::Cases::past, ground::proofs::Cases::here), unfolding(crate::specs::Control::controlled))]
 pub fn control(
     groups: &[u32],
     tracks: &[u32],
@@ -331,6 +340,7 @@ pub fn stays_below(tracks: &[u32], p: player_state::Player, d: u32) -> bool
 
 // An advance in Playing: on by a step of the clock (SCOPE 13.3). At the end a running recording stays there (SCOPE 13.6). Any other track has ended: the player
 // goes to the next track, which may be a named one, or is Paused at the end (SCOPE 13.5).
+#[tactic(auto, using(ground::proofs::Cases::past, ground::proofs::Cases::here, crate::proofs::Past::end_le), unfolding(crate::specs::Clock::played_on))]
 fn play_on(groups: &[u32], tracks: &[u32], p: player_state::Player, d: u32) -> player_state::Player
     requires { Seated groups.now tracks.now p }
     ensures { result ≡ played_on groups.now tracks.now d p }
@@ -350,13 +360,13 @@ fn play_on(groups: &[u32], tracks: &[u32], p: player_state::Player, d: u32) -> p
     }
     let near = next_track(groups, tracks, p);
     match near {
-        player_orders::NearTrack::Found(t) => {
+        Some(t) => {
             let g = p.place.group;
             let begin = catalogue_tables::Position(0);
             let used = player_state::drop_named(p);
             player_state::at_place(used, g, t, begin)
         }
-        player_orders::NearTrack::None => {
+        None => {
             let q = player_state::in_mode(p, player_state::PAUSED, 0);
             let end = catalogue_tables::end(tracks, p.place.track);
             player_state::at_position(q, end)
@@ -364,6 +374,7 @@ fn play_on(groups: &[u32], tracks: &[u32], p: player_state::Player, d: u32) -> p
     }
 }
 
+#[tactic(auto, unfolding(crate::specs::Clock::sought_on))]
 fn seek_on(tracks: &[u32], p: player_state::Player, d: u32) -> player_state::Player
     ensures { result ≡ sought_on tracks.now d p }
 {
@@ -373,6 +384,7 @@ fn seek_on(tracks: &[u32], p: player_state::Player, d: u32) -> player_state::Pla
 }
 
 // An advance: a step of time (SCOPE 13.1).
+#[tactic(auto, using(ground::proofs::Cases::past, ground::proofs::Cases::here), unfolding(crate::specs::Clock::advanced))]
 pub fn advance(
     groups: &[u32],
     tracks: &[u32],
@@ -391,6 +403,7 @@ pub fn advance(
     p
 }
 
+#[tactic(auto, using(ground::proofs::Cases::past, ground::proofs::Cases::here), unfolding(crate::specs::Clock::positioned))]
 pub fn write_position(tracks: &[u32], p: player_state::Player, number: u32) -> player_state::Player
     ensures { result ≡ positioned tracks.now number p }
 {
@@ -409,6 +422,7 @@ pub fn write_position(tracks: &[u32], p: player_state::Player, number: u32) -> p
 }
 
 // A write of 14 goes to a group that has tracks (SCOPE 14.3).
+#[tactic(auto, unfolding(crate::specs::Clock::group_written))]
 pub fn write_group(
     groups: &[u32],
     tracks: &[u32],
@@ -423,6 +437,7 @@ pub fn write_group(
 }
 
 // A group that has tracks is activated (SCOPE 8.9).
+#[tactic(auto, unfolding(crate::specs::Clock::activated))]
 pub fn activate(
     groups: &[u32],
     tracks: &[u32],
@@ -434,11 +449,11 @@ pub fn activate(
 {
     let near = entry(groups, tracks, p.mode.order, g);
     match near {
-        player_orders::NearTrack::Found(t) => {
+        Some(t) => {
             let q = player_state::in_mode(p, player_state::PAUSED, 0);
             let begin = catalogue_tables::Position(0);
             player_state::at_place(q, g, t, begin)
         }
-        player_orders::NearTrack::None => p,
+        None => p,
     }
 }

@@ -19,6 +19,7 @@ pub enum Action {
     Unknown,
 }
 
+#[tactic(auto, using(ground::proofs::Cases::past, ground::proofs::Cases::here), unfolding(crate::specs::Opcodes::mask_bit))]
 pub fn mask_bit(opcode: u8) -> u32
     ensures { (result ≡ mask_bit opcode) × (result ≤ 32) }
 {
@@ -33,6 +34,7 @@ pub fn mask_bit(opcode: u8) -> u32
 }
 
 // Whether an opcode is known and in the mask.
+#[tactic(auto, unfolding(crate::specs::Opcodes::offered))]
 pub fn is_offered(mask: u32, opcode: u8) -> bool
     ensures { result ≡ offered mask opcode }
 {
@@ -44,6 +46,7 @@ pub fn is_offered(mask: u32, opcode: u8) -> bool
 }
 
 // How many octets a write of an opcode has, with the number that it may carry; 0 for what is no opcode (SCOPE 9.3, 20.6).
+#[tactic(auto, using(crate::proofs::Rows::length_five, crate::proofs::Rows::length_none), unfolding(crate::specs::Opcodes::parameter_length))]
 pub fn parameter_length(opcode: u8) -> usize
     ensures { result ≡ parameter_length opcode }
 {
@@ -57,6 +60,7 @@ pub fn parameter_length(opcode: u8) -> usize
     }
 }
 
+#[tactic(auto, unfolding(crate::specs::Opcodes::step_of))]
 fn step_of(place: u8, number: u32) -> player_walk::Step
     ensures { result ≡ step_of place number }
 {
@@ -69,6 +73,7 @@ fn step_of(place: u8, number: u32) -> player_walk::Step
     }
 }
 
+#[tactic(auto, using(crate::proofs::Rows::action_segment, crate::proofs::Rows::action_track, crate::proofs::Rows::action_group, crate::proofs::Rows::action_none), unfolding(crate::specs::Opcodes::action_of))]
 pub fn action_of(opcode: u8, number: u32) -> Action
     ensures { result ≡ action_of opcode number }
 {

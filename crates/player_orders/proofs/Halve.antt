@@ -6,12 +6,12 @@ use Prim.Native.Nat.{ℕ, ◌+◌, ◌<◌, ◌≤◌}
 use native.Mathlib.Nat.{eq-or-lt_of_le, lt_irrefl}
 use native.Mathlib.Omega.{arith}
 use lib.ListN.{length, get_or}
+use Rattle.std.specs.Prelude.{None}
 use Rattle.ground.specs.Limits.{most_tracks}
 use Rattle.ground.specs.Lists.{span}
 use Rattle.ground.proofs.Cases.{le_or}
 use Rattle.player_walk.specs.Steps.{at}
 use Rattle.player_walk.proofs.Walk.{at_none}
-use Rattle.player_walk.specs.declared.Near.TheVariants.{Nothing}
 use Rattle.player_orders.specs.declared.By.{By}
 use Rattle.player_orders.specs.Order.{ordered}
 use Rattle.player_orders.specs.Keys.{key_of, below}
@@ -23,7 +23,7 @@ pub goal : By → List ℕ → ℕ → ℕ → ℕ → ℕ
 goal by tracks first count k = key_of by tracks (get_or (ordered by tracks first count) k 0)
 
 module _ (by : By) (tracks : List ℕ) (first count : ℕ) (small : first + count ≤ most_tracks) (k : ℕ) where
-  pub too_far : count ≤ k → Nothing ≡ at (ordered by tracks first count) k
+  pub too_far : count ≤ k → None ≡ at (ordered by tracks first count) k
   too_far h = sym (at_none (ordered by tracks first count) k (omega (arith, how_many by tracks first count small)))
 
   module _ (words : (i : ℕ) → get_or tracks i 0 < 0x1_0000_0000) (h : k < count) where

@@ -5,11 +5,11 @@ use mathlib.Core.List.{List}
 use Prim.Native.Nat.{ℕ, ◌+◌, ◌≤◌, ◌<◌}
 use borrow.Author.Tests.{le-leb, lt-leb}
 use lib.ListN.{get_or}
+use Rattle.std.specs.Prelude.{Option}
 use Rattle.ground.specs.Limits.{most_tracks}
 use Rattle.ground.specs.Lists.{span}
 use Rattle.player_walk.specs.Steps.{at, before, place, or_else, then, move_in}
 use Rattle.player_walk.specs.Places.{place_after}
-use Rattle.player_walk.specs.declared.Near.{Near}
 use Rattle.player_walk.specs.declared.Step.{Step}
 use Rattle.player_walk.specs.declared.Step.TheVariants.{Previous, Next, First, Last}
 use Rattle.player_walk.proofs.Walk.{move_is}
@@ -20,7 +20,7 @@ use Rattle.player_orders.proofs.Span.{how_many, apart_places, at_member, rank_is
 
 module _ (by : By) (tracks : List ℕ) (first count : ℕ) (small : first + count ≤ most_tracks) where
   -- from t, whose place is k, by way of the place p
-  pub moves : (step : Step) (repeat : Bool) (t k : ℕ) (p q : Near) → first ≤ t → t < first + count
+  pub moves : (step : Step) (repeat : Bool) (t k : ℕ) (p q : Option ℕ) → first ≤ t → t < first + count
       → k ≡ place t (ordered by tracks first count) → p ≡ place_after step repeat count k → p ≡ q
       → then q (at (ordered by tracks first count)) ≡ move_in step repeat (ordered by tracks first count) t
   moves step repeat t k p q a b ek ep eq =
@@ -30,7 +30,7 @@ module _ (by : By) (tracks : List ℕ) (first count : ℕ) (small : first + coun
       sym (ap (move_in step repeat l) (sym i.2)
       ∙ move_is l (apart_places by tracks first count small) step repeat i.0 i.1
       ∙ (λ j. then (place_after step repeat (how_many by tracks first count small j) (ei j)) (at l))
-      ∙ ap (λ (x : Near). then x (at l)) (sym ep ∙ eq))
+      ∙ ap (λ (x : Option ℕ). then x (at l)) (sym ep ∙ eq))
 
   -- the neighbours of t, whose key is x, and the ends, by how many keys are below a number
   module _ (words : (i : ℕ) → get_or tracks i 0 < 0x1_0000_0000) (t : ℕ) (low : first ≤ t) (high : t < first + count) (step : Step) (repeat : Bool) {x : ℕ} (ex : x ≡ key_of by tracks t) where

@@ -10,13 +10,13 @@ use native.Mathlib.Omega.{arith}
 use borrow.Author.Tests.{lt-ltb, le-ltb}
 use lib.Dec.{ltb}
 use lib.ListN.{get_or}
+use Rattle.std.specs.Prelude.{Some, None}
 use Rattle.ground.specs.Cases.{pick}
 use Rattle.ground.specs.Limits.{most_tracks}
 use Rattle.ground.specs.Lists.{span}
 use Rattle.ground.proofs.Cases.{le_or}
 use Rattle.player_walk.specs.Steps.{at, before, place}
 use Rattle.player_walk.proofs.Walk.{at_none}
-use Rattle.player_walk.specs.declared.Near.TheVariants.{At, Nothing}
 use Rattle.player_orders.specs.declared.By.{By}
 use Rattle.player_orders.specs.Order.{ordered}
 use Rattle.player_orders.specs.Keys.{key_of, below}
@@ -82,13 +82,13 @@ turn_twice true most y h = omega arith
 
 module _ (by : By) (tracks : List ℕ) (first count : ℕ) (small : first + count ≤ most_tracks) (words : (i : ℕ) → get_or tracks i 0 < 0x1_0000_0000) where
   -- past every key there is nothing
-  past_all : (back : Bool) → Nothing ≡ pick back before at (ordered by tracks first count) (below (key_of by tracks) (turn back 0xFFFF_FFFF_FFFF_FFFF 0xFFFF_FFFF_FFFF_FFFF) (span first count))
+  past_all : (back : Bool) → None ≡ pick back before at (ordered by tracks first count) (below (key_of by tracks) (turn back 0xFFFF_FFFF_FFFF_FFFF 0xFFFF_FFFF_FFFF_FFFF) (span first count))
   past_all false = sym (at_none (ordered by tracks first count) (below (key_of by tracks) 0xFFFF_FFFF_FFFF_FFFF (span first count)) (omega (arith, below_top by tracks first count small words)))
   past_all true = ap (before (ordered by tracks first count)) (sym (below_zero (key_of by tracks) first count))
 
   -- beside its own key, or the number after it, stands u
   stands : (back : Bool) (u : ℕ) → first ≤ u → u < first + count
-      → At u ≡ pick back before at (ordered by tracks first count) (below (key_of by tracks) (turn back 0xFFFF_FFFF_FFFF_FFFF (turn back 0xFFFF_FFFF_FFFF_FFFE (key_of by tracks u))) (span first count))
+      → Some u ≡ pick back before at (ordered by tracks first count) (below (key_of by tracks) (turn back 0xFFFF_FFFF_FFFF_FFFF (turn back 0xFFFF_FFFF_FFFF_FFFE (key_of by tracks u))) (span first count))
   stands back u a b =
       placed by tracks first count small (place u (ordered by tracks first count)) (place_small by tracks first count small u a b) u a b refl
       ∙ go back
@@ -115,20 +115,20 @@ module _ (by : By) (tracks : List ℕ) (first count : ℕ) (small : first + coun
       moved_to b e = ap (λ (n : ℕ). pick back before at (ordered by tracks first count) (below (key_of by tracks) (turn back 0xFFFF_FFFF_FFFF_FFFF n) (span first count))) e
           ∙ ap (pick back before at (ordered by tracks first count)) (level back inv)
 
-      pub beside_none : best ≡ 0xFFFF_FFFF_FFFF_FFFF → Nothing ≡ pick back before at (ordered by tracks first count) (below (key_of by tracks) x (span first count))
+      pub beside_none : best ≡ 0xFFFF_FFFF_FFFF_FFFF → None ≡ pick back before at (ordered by tracks first count) (below (key_of by tracks) x (span first count))
       beside_none e = past_all back ∙ moved_to 0xFFFF_FFFF_FFFF_FFFF (sym e)
 
       pub beside_some : (best ≡ 0xFFFF_FFFF_FFFF_FFFF → ⊥)
-          → At (turn back 0xFFFF_FFFF_FFFF_FFFE best % 0x1_0000_0000) ≡ pick back before at (ordered by tracks first count) (below (key_of by tracks) x (span first count))
+          → Some (turn back 0xFFFF_FFFF_FFFF_FFFE best % 0x1_0000_0000) ≡ pick back before at (ordered by tracks first count) (below (key_of by tracks) x (span first count))
       beside_some ne = ⊎_elim (λ e. absurd (ne e)) some inv.hit
         where
           some : (u : ℕ) × (first ≤ u) × (u < first + count) × (turn back 0xFFFF_FFFF_FFFF_FFFE (key_of by tracks u) ≡ best)
-              → At (turn back 0xFFFF_FFFF_FFFF_FFFE best % 0x1_0000_0000) ≡ pick back before at (ordered by tracks first count) (below (key_of by tracks) x (span first count))
+              → Some (turn back 0xFFFF_FFFF_FFFF_FFFE best % 0x1_0000_0000) ≡ pick back before at (ordered by tracks first count) (below (key_of by tracks) x (span first count))
           some w =
               let u = w.0 in
               let high : u < first + count = w.2 in
               let own : turn back 0xFFFF_FFFF_FFFF_FFFE best ≡ key_of by tracks u =
               ap (turn back 0xFFFF_FFFF_FFFF_FFFE) (sym w.3) ∙ turn_twice back 0xFFFF_FFFF_FFFF_FFFE (key_of by tracks u) (omega (arith, top by tracks first count small words u high)) in
-              ap At (ap (λ (n : ℕ). n % 0x1_0000_0000) own ∙ number_of_lem by tracks u (omega arith))
+              ap Some (ap (λ (n : ℕ). n % 0x1_0000_0000) own ∙ number_of_lem by tracks u (omega arith))
               ∙ stands back u w.1 high
               ∙ moved_to (turn back 0xFFFF_FFFF_FFFF_FFFE (key_of by tracks u)) w.3

@@ -5,11 +5,11 @@ use Prim.Native.Nat.{ℕ, zero, suc, ◌+◌, ◌-◌, ◌<◌, ◌≤◌}
 use native.Mathlib.Omega.{arith}
 use borrow.Author.Tests.{le-ltb}
 use lib.ListN.{get_or}
+use Rattle.std.specs.Prelude.{Some}
 use Rattle.ground.specs.Limits.{most_tracks}
 use Rattle.ground.specs.Lists.{span}
 use Rattle.player_walk.specs.Steps.{at, place}
 use Rattle.player_walk.proofs.Walk.{at_is}
-use Rattle.player_walk.specs.declared.Near.TheVariants.{At}
 use Rattle.player_orders.specs.declared.By.TheVariants.{Number}
 use Rattle.player_orders.specs.Order.{comes_before, insert, sort, ordered}
 use Rattle.player_orders.proofs.Span.{in_list, apart_places}
@@ -33,8 +33,8 @@ module _ (tracks : List ℕ) (first count : ℕ) (small : first + count ≤ most
   unfolding ordered
   number_of_place k h = ap (λ (l : List ℕ). get_or l k 0) (stands tracks first count) ∙ span_at first count k h
 
-  pub number_at_lem : (k : ℕ) → k < count → At (first + k) ≡ at (ordered Number tracks first count) k
-  number_at_lem k h = sym (at_is (ordered Number tracks first count) k (in_list Number tracks first count small k h) ∙ ap At (number_of_place k h))
+  pub number_at_lem : (k : ℕ) → k < count → Some (first + k) ≡ at (ordered Number tracks first count) k
+  number_at_lem k h = sym (at_is (ordered Number tracks first count) k (in_list Number tracks first count small k h) ∙ ap Some (number_of_place k h))
 
   pub number_place : (t : ℕ) → first ≤ t → t < first + count → t - first ≡ place t (ordered Number tracks first count)
   number_place t a b =

@@ -1,16 +1,13 @@
 -- The playing orders (SCOPE 11.1 to 11.3): for each order a list of the current group's tracks.
 -- Assumes nothing.
-use Rattle.std.specs.Prelude.{Bool, ◌&&◌, ◌||◌, List, [], ◌∷◌, ℕ, ◌+◌, ◌*◌, ◌%◌, ◌≤◌, ◌<◌, ltb, leb, eqb}
+use Rattle.std.specs.Prelude.{Bool, ◌&&◌, ◌||◌, List, [], ◌∷◌, ℕ, ◌+◌, ◌*◌, ◌%◌, ◌≤◌, ◌<◌, ltb, leb, eqb, Option, Some, None}
 use Rattle.ground.specs.Cases.{pick}
 use Rattle.ground.specs.Limits.{most_tracks, track_words}
 use Rattle.ground.specs.Lists.{span}
 use Rattle.catalogue_tables.specs.Tables.{stamp_of}
-use Rattle.player_walk.specs.declared.Near.{Near}
-use Rattle.player_walk.specs.declared.Near.TheVariants.{At, Nothing}
+use Rattle.catalogue_tables.specs.declared.TrackNo.{TrackNo}
 use Rattle.player_orders.specs.declared.By.{By}
 use Rattle.player_orders.specs.declared.By.TheVariants.{Number, Rising, Falling}
-use Rattle.player_orders.specs.declared.NearTrack.{NearTrack}
-use Rattle.player_orders.specs.declared.NearTrack.TheVariants.{Found, None}
 
 -- SCOPE 11.2: "Of tracks with equal stamps the one with the lower number comes first"
 abbrev pub tie_before : List ℕ → ℕ → ℕ → Bool
@@ -49,9 +46,9 @@ tracks_in_order order tracks first count current =
     pick (leb order 2) (current ∷ []) (ordered (by_of order) tracks first count)
 
 -- what was found, as a plain number
-abbrev pub near_track : NearTrack → Near
-near_track (Found t) = At t.0
-near_track None = Nothing
+abbrev pub near_track : Option TrackNo → Option ℕ
+near_track (Some t) = Some t.0
+near_track None = None
 
 -- What every function over a group's run asks for: that the run lies in the tracks, of which there are few (SCOPE 4.2); and of `InRun`, that t is in the run.
 pub record Run (words first count : ℕ) : Type 0 where

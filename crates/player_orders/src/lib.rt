@@ -17,22 +17,18 @@ pub enum By {
     Falling,
 }
 
-#[derive(Clone, Copy)]
-pub enum NearTrack {
-    Found(catalogue_tables::TrackNo),
-    None,
-}
+impl From<u8> for By {
+    ghost from_gives = { λ order by. by ≡ by_of order };
 
-pub fn by_of(order: u8) -> By
-    ensures { result ≡ by_of order }
-{
-    if order <= 4 {
-        return By::Number;
+    fn from(order: u8) -> By {
+        if order <= 4 {
+            return By::Number;
+        }
+        if order <= 6 {
+            return By::Rising;
+        }
+        By::Falling
     }
-    if order <= 6 {
-        return By::Rising;
-    }
-    By::Falling
 }
 
 // The most that a key can be, since no number is 2 ^ 32 - 1.
@@ -69,20 +65,19 @@ fn count_below(
 {
     let end = first.0 + count;
     let mut n: usize = 0;
-    let mut i = first.0;
-    while i < end {
+    for i in first.0..end {
         let t = catalogue_tables::TrackNo(i);
         let y = key(tracks, by, t);
         let less = y < x;
         if less {
             n += 1;
         }
-        i += 1;
     }
     n
 }
 
 // The place of t in the order, counted from 0: how many tracks come before it. By number it is how far t lies from the first, so that nothing is counted.
+#[tactic(auto, using(crate::proofs::Span::rank_is, crate::proofs::Span::place_small, crate::proofs::Numbers::number_place))]
 pub fn rank(
     tracks: &[u32],
     by: By,
@@ -137,53 +132,50 @@ fn beside(
     count: u32,
     back: bool,
     x: u64,
-) -> NearTrack
+) -> Option<catalogue_tables::TrackNo>
     requires { Run (length tracks.now) first.0 count }
     ensures { near_track result ≡ pick back before at (ordered by tracks.now first.0 count) (below (key_of by tracks.now) x (span first.0 count)) }
 {
     let end = first.0 + count;
     let from = turned(back, NO_KEY, x);
     let mut best = NO_KEY;
-    let mut i = first.0;
-    while i < end {
+    for i in first.0..end {
         let t = catalogue_tables::TrackNo(i);
         let y = key(tracks, by, t);
         let z = turned(back, MOST_KEY, y);
         best = nearer(from, z, best);
-        i += 1;
     }
     if best == NO_KEY {
-        return NearTrack::None;
+        return None;
     }
     let y = turned(back, MOST_KEY, best);
     let number = (y % 4294967296) as u32;
     let t = catalogue_tables::TrackNo(number);
-    NearTrack::Found(t)
+    Some(t)
 }
 
 // The track at place k, where there are few: the one that k tracks come before. A scan is made for each track up to it.
+#[tactic(auto, using(ground::proofs::Cases::le_or, crate::proofs::Few::placed, crate::proofs::Few::some_placed))]
 fn nth_of_few(
     tracks: &[u32],
     by: By,
     first: catalogue_tables::TrackNo,
     count: u32,
     k: usize,
-) -> NearTrack
+) -> Option<catalogue_tables::TrackNo>
     requires run { Run (length tracks.now) first.0 count }
     requires k_lt_count { k < count }
     ensures { near_track result ≡ at (ordered by tracks.now first.0 count) k }
 {
     let end = first.0 + count;
-    let mut i = first.0;
-    while i < end {
+    for i in first.0..end {
         let t = catalogue_tables::TrackNo(i);
         let before = rank(tracks, by, first, count, t);
         if before == k {
-            return NearTrack::Found(t);
+            return Some(t);
         }
-        i += 1;
     }
-    NearTrack::None
+    None
 }
 
 // The track at place k, where there are many: the one with the least key at or above a number that k keys are below. Halving the range of keys finds such a
@@ -194,13 +186,14 @@ fn nth_of_many(
     first: catalogue_tables::TrackNo,
     count: u32,
     k: usize,
-) -> NearTrack
+) -> Option<catalogue_tables::TrackNo>
     requires run { Run (length tracks.now) first.0 count }
     requires k_lt_count { k < count }
     ensures { near_track result ≡ at (ordered by tracks.now first.0 count) k }
 {
     let mut lo: u64 = 0;
     let mut hi = NO_KEY;
+    // Stays a loop: it halves a range of keys of which there is no slice, so that no range counts its turns and `partition_point` has nothing to look at.
     loop {
         let x = lo + (hi - lo) / 2;
         let n = count_below(tracks, by, first, count, x);
@@ -217,23 +210,24 @@ fn nth_of_many(
 
 // The track at place k of the order. By number it is k from the first. Counting takes on average half as many scans as there are tracks. Halving takes about 10
 // where the stamps are dates, 30 where they are numbers up to 1000, and 64 where all are equal; so up to 32 tracks are counted.
+#[tactic(auto, using(crate::proofs::Span::below_zero, crate::proofs::Numbers::number_at_lem, crate::proofs::Halve::too_far))]
 pub fn nth(
     tracks: &[u32],
     by: By,
     first: catalogue_tables::TrackNo,
     count: u32,
     k: usize,
-) -> NearTrack
+) -> Option<catalogue_tables::TrackNo>
     requires { Run (length tracks.now) first.0 count }
     ensures { near_track result ≡ at (ordered by tracks.now first.0 count) k }
 {
     if (count as usize) <= k {
-        return NearTrack::None;
+        return None;
     }
     match by {
         By::Number => {
             let t = catalogue_tables::TrackNo(first.0 + k as u32);
-            NearTrack::Found(t)
+            Some(t)
         }
         _ => {
             if k == 0 {
@@ -256,16 +250,13 @@ fn moved_by_places(
     count: u32,
     t: catalogue_tables::TrackNo,
     step: player_walk::Step,
-) -> NearTrack
+) -> Option<catalogue_tables::TrackNo>
     requires { InRun (length tracks.now) first.0 count t.0 }
     ensures { near_track result ≡ move_in step repeat (ordered by tracks.now first.0 count) t.0 }
 {
     let k = rank(tracks, by, first, count, t);
-    let p = player_walk::place_after(step, repeat, count as usize, k);
-    match p {
-        player_walk::Near::At(j) => nth(tracks, by, first, count, j),
-        player_walk::Near::Nothing => NearTrack::None,
-    }
+    let j = player_walk::place_after(step, repeat, count as usize, k)?;
+    nth(tracks, by, first, count, j)
 }
 
 // The track beside x; or, where there is none and the order repeats, the track beside the number at the other end.
@@ -278,24 +269,20 @@ fn beside_or_end(
     back: bool,
     x: u64,
     end: u64,
-) -> NearTrack
+) -> Option<catalogue_tables::TrackNo>
     requires { Run (length tracks.now) first.0 count }
     ensures { near_track result ≡ or_else (pick back before at (ordered by tracks.now first.0 count) (below (key_of by tracks.now) x (span first.0 count))) repeat (pick back before at (ordered by tracks.now first.0 count) (below (key_of by tracks.now) end (span first.0 count))) }
 {
     let near = beside(tracks, by, first, count, back, x);
     match near {
-        NearTrack::Found(u) => NearTrack::Found(u),
-        NearTrack::None => {
-            if repeat {
-                return beside(tracks, by, first, count, back, end);
-            }
-            NearTrack::None
-        }
+        None if repeat => beside(tracks, by, first, count, back, end),
+        _ => near,
     }
 }
 
 // The same move by way of keys. The neighbours of t and the ends of the order are beside a number that is known, and one scan finds them. Goto alone goes by
 // places.
+#[tactic(auto, using(crate::proofs::Moves::to_previous, crate::proofs::Moves::to_next, crate::proofs::Moves::to_first, crate::proofs::Moves::to_last))]
 fn moved_by_keys(
     tracks: &[u32],
     by: By,
@@ -304,7 +291,7 @@ fn moved_by_keys(
     count: u32,
     t: catalogue_tables::TrackNo,
     step: player_walk::Step,
-) -> NearTrack
+) -> Option<catalogue_tables::TrackNo>
     requires { InRun (length tracks.now) first.0 count t.0 }
     ensures { near_track result ≡ move_in step repeat (ordered by tracks.now first.0 count) t.0 }
 {
@@ -329,7 +316,7 @@ fn moved(
     count: u32,
     t: catalogue_tables::TrackNo,
     step: player_walk::Step,
-) -> NearTrack
+) -> Option<catalogue_tables::TrackNo>
     requires { InRun (length tracks.now) first.0 count t.0 }
     ensures { near_track result ≡ move_in step repeat (ordered by tracks.now first.0 count) t.0 }
 {
@@ -340,6 +327,7 @@ fn moved(
 }
 
 // A move from the current track t of the group whose run is given (SCOPE 11.5, 11.6).
+#[tactic(auto, using(crate::proofs::Moves::along_one, crate::proofs::Moves::along_run))]
 pub fn track_after(
     tracks: &[u32],
     order: u8,
@@ -347,11 +335,11 @@ pub fn track_after(
     count: u32,
     t: catalogue_tables::TrackNo,
     step: player_walk::Step,
-) -> NearTrack
+) -> Option<catalogue_tables::TrackNo>
     requires { InRun (length tracks.now) first.0 count t.0 }
     ensures { near_track result ≡ move_in step (repeats order) (tracks_in_order order tracks.now first.0 count t.0) t.0 }
 {
-    let by = by_of(order);
+    let by = By::from(order);
     let repeat = order % 2 == 0;
     if order <= 2 {
         return moved(tracks, by, repeat, t, 1, t, step);
@@ -360,18 +348,19 @@ pub fn track_after(
 }
 
 // A group's first track, when it is activated or moved to (SCOPE 11.4).
+#[tactic(auto, using(crate::proofs::Moves::many), unfolding(crate::specs::Order::tracks_in_order))]
 pub fn entry_track(
     tracks: &[u32],
     order: u8,
     first: catalogue_tables::TrackNo,
     count: u32,
-) -> NearTrack
+) -> Option<catalogue_tables::TrackNo>
     requires { Run (length tracks.now) first.0 count }
     ensures { near_track result ≡ first_of (tracks_in_order order tracks.now first.0 count first.0) }
 {
     if order <= 2 {
-        return NearTrack::Found(first);
+        return Some(first);
     }
-    let by = by_of(order);
+    let by = By::from(order);
     nth(tracks, by, first, count, 0)
 }

@@ -1,16 +1,15 @@
--- A cut of rising starts says what `previous_start` and `next_start` are, and the halving that finds it. Assumes nothing.
+-- A cut of rising starts says what `previous_start` and `next_start` are. Assumes nothing.
 use mathlib.Core.Path.{◌≡◌, sym, ap}
 use mathlib.Core.Logic.{⊎_elim}
 use mathlib.Core.List.{List}
 use Prim.Native.Nat.{ℕ, suc, ◌+◌, ◌-◌, ◌<◌, ◌≤◌}
-use native.Mathlib.Nat.{not-suc-le-zero, lt_irrefl, eq-or-lt_of_le}
+use native.Mathlib.Nat.{lt_irrefl, eq-or-lt_of_le}
 use native.Mathlib.Omega.{arith}
 use borrow.Author.Tests.{le-leb, leb-true, lt-ltb, le-ltb, ltb-true}
 use lib.Dec.{leb, ltb}
 use lib.ListN.{length, get_or}
+use Rattle.std.specs.Prelude.{Option, Some}
 use Rattle.ground.proofs.Cases.{le_or, true_or}
-use Rattle.player_walk.specs.declared.Near.{Near}
-use Rattle.player_walk.specs.declared.Near.TheVariants.{At}
 use Rattle.player_segments.specs.Segments.{own_start, start_before, previous_margin, previous_start, next_start, Cut}
 use Rattle.player_segments.proofs.Sides.{greatest_le, greatest_is, greatest_none, least_is, least_none}
 
@@ -32,7 +31,7 @@ previous_le l p = ⊎_elim
     before_le own = greatest_le (λ x. ltb x own) own own l (omega arith) (λ k a b. omega (arith, ltb-true (get_or l k 0) own b))
 
 module _ (l : List ℕ) (rises : Rises l) where
-  rises_le : (j i : ℕ) → i ≤ j → j < length l → get_or l i 0 ≤ get_or l j 0
+  pub rises_le : (j i : ℕ) → i ≤ j → j < length l → get_or l i 0 ≤ get_or l j 0
   rises_le j i h g = ⊎_elim (λ e. omega (arith, ap (λ (n : ℕ). get_or l n 0) e)) (λ q. omega (arith, rises j i q g)) (eq-or-lt_of_le h)
 
   -- a start cuts behind its own place
@@ -82,12 +81,12 @@ module _ (l : List ℕ) (rises : Rises l) where
         let z : k - 1 ≡ 0 = omega arith in
         rw (own_is (omega arith), z, before_first) (⊎_elim (λ t. rw t) (λ t. rw t) (true_or (ltb p (get_or l 0 0 + previous_margin))))
 
-  module _ (past : Near) (p k : ℕ) (cut : Cut l p k) where
+  module _ (past : Option ℕ) (p k : ℕ) (cut : Cut l p k) where
     pub next_past : length l ≤ k → past ≡ next_start l past p
     unfolding next_start
     next_past h = sym (least_none (λ x. ltb p x) past l (λ j a. le-ltb p (get_or l j 0) (cut.low j (omega arith))))
 
-    pub next_here : k < length l → At (get_or l k 0) ≡ next_start l past p
+    pub next_here : k < length l → Some (get_or l k 0) ≡ next_start l past p
     unfolding next_start
     next_here h =
         sym (least_is (λ x. ltb p x) past l k h (lt-ltb p (get_or l k 0) (cut.high k (omega arith) h)) (λ j a b.
@@ -95,33 +94,3 @@ module _ (l : List ℕ) (rises : Rises l) where
         (λ q. rises_le j k q a)
         (λ q. absurd (lt_irrefl p (omega (arith, cut.low j q, ltb-true p (get_or l j 0) b))))
         (le_or k j)))
-
--- what the halving keeps: the starts before lo are not above x, those from hi on are
-pub record Bracket (l : List ℕ) (x lo hi : ℕ) : Type 0 where
-  pub order : lo ≤ hi
-  pub within : hi ≤ length l
-  pub low : (k : ℕ) → k < lo → get_or l k 0 ≤ x
-  pub high : (k : ℕ) → hi ≤ k → k < length l → x < get_or l k 0
-
-pub bracket : (l : List ℕ) (x : ℕ) → Bracket l x 0 (length l)
-bracket l x = record { order = omega arith; within = omega arith; low = λ k h. absurd (not-suc-le-zero h); high = λ k a b. absurd (lt_irrefl k (omega arith)) }
-
-module _ (l : List ℕ) (x lo hi m : ℕ) (rises : Rises l) (b : Bracket l x lo hi) (a : lo ≤ m) (c : m < hi) where
-  pub up : get_or l m 0 ≤ x → Bracket l x (m + 1) hi
-  up h = record {
-    order = omega arith;
-    within = b.within;
-    low = λ k q. omega (arith, rises_le l rises m k (omega arith) (omega arith));
-    high = b.high;
-  }
-
-  pub down : x < get_or l m 0 → Bracket l x lo m
-  down h = record {
-    order = a;
-    within = omega arith;
-    low = b.low;
-    high = λ k q r. omega (arith, rises_le l rises k m q r);
-  }
-
-pub closed : (l : List ℕ) (x lo hi : ℕ) → Bracket l x lo hi → hi ≤ lo → Cut l x lo
-closed l x lo hi b h = record { within = omega arith; low = b.low; high = λ k q r. b.high k (omega arith) r }

@@ -7,10 +7,9 @@ use Prim.Native.Nat.{ℕ, zero, suc, ◌<◌, ◌≤◌, suc-le-suc}
 use native.Mathlib.Nat.{not-suc-le-zero, le_of_suc-le-suc}
 use native.Mathlib.Omega.{arith}
 use lib.ListN.{length, get_or}
+use Rattle.std.specs.Prelude.{Option, Some, None}
 use Rattle.ground.specs.Lists.{those}
 use Rattle.ground.proofs.Cases.{true_or}
-use Rattle.player_walk.specs.declared.Near.{Near}
-use Rattle.player_walk.specs.declared.Near.TheVariants.{At, Nothing}
 use Rattle.player_segments.specs.Segments.{greatest_or, least, least_or}
 
 module _ (test : ℕ → Bool) where
@@ -63,36 +62,36 @@ module _ (test : ℕ → Bool) where
       (true_or (test y))
 
   -- the least is the one that passes and is below all others that do
-  pub least_is : (past : Near) (l : List ℕ) (j : ℕ) → j < length l → test (get_or l j 0) ≡ true → Passing (λ x. get_or l j 0 ≤ x) l
-      → least_or past (those test l) ≡ At (get_or l j 0)
+  pub least_is : (past : Option ℕ) (l : List ℕ) (j : ℕ) → j < length l → test (get_or l j 0) ≡ true → Passing (λ x. get_or l j 0 ≤ x) l
+      → least_or past (those test l) ≡ Some (get_or l j 0)
   least_is past [] j i g h = absurd (not-suc-le-zero i)
-  least_is past (x ∷ l) zero i g h = rw g (ap (λ (n : ℕ). At n) (least_first x l (behind (λ y. x ≤ y) x l h)))
+  least_is past (x ∷ l) zero i g h = rw g (ap (λ (n : ℕ). Some n) (least_first x l (behind (λ y. x ≤ y) x l h)))
   least_is past (x ∷ l) (suc j) i g h = ⊎_elim
-      (λ e. rw e (ap (λ (n : ℕ). At n) (lower (those test l) (h 0 (omega arith) e) (least_is Nothing l j (le_of_suc-le-suc i) g (behind (λ y. get_or l j 0 ≤ y) x l h)))))
+      (λ e. rw e (ap (λ (n : ℕ). Some n) (lower (those test l) (h 0 (omega arith) e) (least_is None l j (le_of_suc-le-suc i) g (behind (λ y. get_or l j 0 ≤ y) x l h)))))
       (λ e. rw e (least_is past l j (le_of_suc-le-suc i) g (behind (λ y. get_or l j 0 ≤ y) x l h)))
       (true_or (test x))
     where
       -- the least of those behind x, where it is not above x, is the least with x too
-      lower : (m : List ℕ) → get_or l j 0 ≤ x → least_or Nothing m ≡ At (get_or l j 0) → least x m ≡ get_or l j 0
+      lower : (m : List ℕ) → get_or l j 0 ≤ x → least_or None m ≡ Some (get_or l j 0) → least x m ≡ get_or l j 0
       lower [] b e = cc
       lower (y ∷ m) b e = let c : least y m ≡ get_or l j 0 = cc in omega arith
 
   -- the least is bounded by what bounds `past` and each that passes
-  pub least_within : (past : Near) (d : ℕ) (l : List ℕ) → ((z : ℕ) → past ≡ At z → z ≤ d) → Passing (λ x. x ≤ d) l
-      → (q : ℕ) → least_or past (those test l) ≡ At q → q ≤ d
+  pub least_within : (past : Option ℕ) (d : ℕ) (l : List ℕ) → ((z : ℕ) → past ≡ Some z → z ≤ d) → Passing (λ x. x ≤ d) l
+      → (q : ℕ) → least_or past (those test l) ≡ Some q → q ≤ d
   least_within past d [] b h q e = b q e
   least_within past d (x ∷ l) b h q e = ⊎_elim
       (λ t. let c : least x (those test l) ≡ q = same (rw t at e) in omega (arith, at_most (those test l), h 0 (omega arith) t))
       (λ t. least_within past d l b (behind (λ x. x ≤ d) x l h) q (rw t at e))
       (true_or (test x))
     where
-      same : At (least x (those test l)) ≡ At q → least x (those test l) ≡ q
+      same : Some (least x (those test l)) ≡ Some q → least x (those test l) ≡ q
       same f = cc
 
       at_most : (m : List ℕ) → least x m ≤ x
       at_most [] = omega arith
       at_most (y ∷ m) = omega arith
 
-  pub least_none : (past : Near) (l : List ℕ) → NonePasses l → least_or past (those test l) ≡ past
+  pub least_none : (past : Option ℕ) (l : List ℕ) → NonePasses l → least_or past (those test l) ≡ past
   least_none past [] h = refl
   least_none past (x ∷ l) h = rw (h 0 (omega arith)) (least_none past l (λ k a. h (suc k) (suc-le-suc a)))

@@ -8,9 +8,8 @@ use native.Mathlib.Nat.{not-suc-le-zero, le_of_suc-le-suc, lt_irrefl}
 use native.Mathlib.Omega.{arith}
 use borrow.Author.Tests.{lt-ltb, le-ltb, ne_eqb}
 use lib.ListN.{length, get_or}
+use Rattle.std.specs.Prelude.{Option, Some}
 use Rattle.ground.proofs.Cases.{le_or}
-use Rattle.player_walk.specs.declared.Near.{Near}
-use Rattle.player_walk.specs.declared.Near.TheVariants.{At}
 use Rattle.player_segments.specs.Segments.{segment_starts, previous_start, next_start, Rising, Below, Cut}
 use Rattle.player_segments.specs.Closed.{start_ahead, start_back}
 use Rattle.player_segments.proofs.Cuts.{Rises, previous_first}
@@ -66,18 +65,18 @@ previous_in_first s p k r cut h =
     sym (from_zero s r) ∙ previous_first (segment_starts s) (whole_rises s r) p 1 (cut_first s p k r cut h) refl
 
 -- a start at 0 alone is not above any position
-pub next_same : (s : List ℕ) (past : Near) (p : ℕ) → next_start s past p ≡ next_start (segment_starts s) past p
+pub next_same : (s : List ℕ) (past : Option ℕ) (p : ℕ) → next_start s past p ≡ next_start (segment_starts s) past p
 unfolding next_start
 next_same [] past p = rw (none, le-ltb p 0 (omega arith))
 next_same (x ∷ s) past p = rw (more x s)
 
 -- the closed forms at a place that is there, and at one that is not
 module _ (l : List ℕ) (k : ℕ) where
-  pub ahead_is : (past : Near) → k < length l → start_ahead l past k ≡ At (get_or l k 0)
+  pub ahead_is : (past : Option ℕ) → k < length l → start_ahead l past k ≡ Some (get_or l k 0)
   unfolding start_ahead
   ahead_is past h = rw (lt-ltb k (length l) h)
 
-  pub ahead_over : (past : Near) → length l ≤ k → start_ahead l past k ≡ past
+  pub ahead_over : (past : Option ℕ) → length l ≤ k → start_ahead l past k ≡ past
   unfolding start_ahead
   ahead_over past h = rw (le-ltb k (length l) h)
 
@@ -90,15 +89,15 @@ module _ (l : List ℕ) (k : ℕ) where
   back_over h = rw (le-ltb k (length l) h)
 
 -- the same read off the starts of a track that may have none
-pub ahead_in : (s : List ℕ) (past : Near) (m : ℕ) → m < length s → At (get_or s m 0) ≡ start_ahead (segment_starts s) past m
+pub ahead_in : (s : List ℕ) (past : Option ℕ) (m : ℕ) → m < length s → Some (get_or s m 0) ≡ start_ahead (segment_starts s) past m
 ahead_in [] past m h = absurd (not-suc-le-zero h)
 ahead_in (x ∷ s) past m h = rw (more x s) (sym (ahead_is (x ∷ s) m past h))
 
-pub ahead_none : (s : List ℕ) (past : Near) (m : ℕ) → length s ≤ m → m ≡ 0 → At 0 ≡ start_ahead (segment_starts s) past m
+pub ahead_none : (s : List ℕ) (past : Option ℕ) (m : ℕ) → length s ≤ m → m ≡ 0 → Some 0 ≡ start_ahead (segment_starts s) past m
 ahead_none [] past m h e = rw (none, e) (sym (ahead_is (0 ∷ []) 0 past (omega arith)))
 ahead_none (x ∷ s) past m h e = absurd (lt_irrefl 0 (omega arith))
 
-pub ahead_past : (s : List ℕ) (past : Near) (m : ℕ) → length s ≤ m → (m ≡ 0 → ⊥) → past ≡ start_ahead (segment_starts s) past m
+pub ahead_past : (s : List ℕ) (past : Option ℕ) (m : ℕ) → length s ≤ m → (m ≡ 0 → ⊥) → past ≡ start_ahead (segment_starts s) past m
 ahead_past [] past m h n = rw none (sym (ahead_over (0 ∷ []) m past (omega arith)))
 ahead_past (x ∷ s) past m h n = rw (more x s) (sym (ahead_over (x ∷ s) m past h))
 

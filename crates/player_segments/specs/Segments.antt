@@ -1,17 +1,14 @@
 -- Segment moves (SCOPE 10.1 to 10.6). A move leads to a position, which is found from the starts of the track's segments and from `past`. That is what Next
 -- Segment leads to past the last start: D, or nothing while the recording is still running.
 -- Assumes nothing.
-use Rattle.std.specs.Prelude.{◌≡◌, List, [], ◌∷◌, ℕ, ◌+◌, ◌-◌, ◌<◌, ◌≤◌, min, max, leb, ltb, eqb, length, get_or}
+use Rattle.std.specs.Prelude.{◌≡◌, List, [], ◌∷◌, ℕ, ◌+◌, ◌-◌, ◌<◌, ◌≤◌, min, max, leb, ltb, eqb, length, get_or, Option, Some, None}
 use Rattle.ground.specs.Cases.{pick}
 use Rattle.ground.specs.Lists.{those}
+use Rattle.catalogue_tables.specs.declared.Position.{Position}
 use Rattle.player_walk.specs.Signed.{signed_word}
 use Rattle.player_walk.specs.Steps.{goto}
-use Rattle.player_walk.specs.declared.Near.{Near}
-use Rattle.player_walk.specs.declared.Near.TheVariants.{At, Nothing}
 use Rattle.player_walk.specs.declared.Step.{Step}
 use Rattle.player_walk.specs.declared.Step.TheVariants.{Previous, Next, First, Last, Goto}
-use Rattle.player_segments.specs.declared.NearPosition.{NearPosition}
-use Rattle.player_segments.specs.declared.NearPosition.TheVariants.{Found, None}
 
 -- the greatest of a list, or z where it is empty
 abbrev pub greatest_or : ℕ → List ℕ → ℕ
@@ -23,9 +20,9 @@ abbrev pub least : ℕ → List ℕ → ℕ
 least x [] = x
 least x (y ∷ l) = min x (least y l)
 
-abbrev pub least_or : Near → List ℕ → Near
+abbrev pub least_or : Option ℕ → List ℕ → Option ℕ
 least_or past [] = past
-least_or past (x ∷ l) = At (least x l)
+least_or past (x ∷ l) = Some (least x l)
 
 -- SCOPE 10.1: "A track without segments is one segment that starts at 0."
 unfoldable pub segment_starts : List ℕ → List ℕ
@@ -52,7 +49,7 @@ previous_start starts position =
     (own_start starts position)
 
 -- SCOPE 10.4: "Next Segment goes to the least start above the position, or to D where there is none." In a running recording it then leads nowhere.
-unfoldable pub next_start : List ℕ → Near → ℕ → Near
+unfoldable pub next_start : List ℕ → Option ℕ → ℕ → Option ℕ
 next_start starts past position = least_or past (those (λ x. ltb position x) starts)
 
 -- SCOPE 10.5: "First Segment goes to the first start, and Last Segment to the last."
@@ -63,22 +60,22 @@ abbrev pub last_start : List ℕ → ℕ
 last_start starts = get_or starts (length starts - 1) 0
 
 -- the five moves, where there is at least one start; Goto is by SCOPE 10.6
-unfoldable pub move_along : Step → List ℕ → Near → ℕ → Near
-move_along Previous starts past position = At (previous_start starts position)
+unfoldable pub move_along : Step → List ℕ → Option ℕ → ℕ → Option ℕ
+move_along Previous starts past position = Some (previous_start starts position)
 move_along Next starts past position = next_start starts past position
-move_along First starts past position = At (first_start starts)
-move_along Last starts past position = At (last_start starts)
+move_along First starts past position = Some (first_start starts)
+move_along Last starts past position = Some (last_start starts)
 move_along (Goto n) starts past position =
-    goto (signed_word n) position (At (first_start starts)) (next_start starts past) (At (last_start starts)) (λ p. At (previous_start starts p))
+    goto (signed_word n) position (Some (first_start starts)) (next_start starts past) (Some (last_start starts)) (λ p. Some (previous_start starts p))
 
 -- the five moves in any track
-abbrev pub segment_move : Step → List ℕ → Near → ℕ → Near
+abbrev pub segment_move : Step → List ℕ → Option ℕ → ℕ → Option ℕ
 segment_move step starts past position = move_along step (segment_starts starts) past position
 
 -- what was found, as a plain number
-abbrev pub near_position : NearPosition → Near
-near_position (Found x) = At x.0
-near_position None = Nothing
+abbrev pub near_position : Option Position → Option ℕ
+near_position (Some x) = Some x.0
+near_position None = None
 
 -- what a right catalogue says of a track's starts (SCOPE 4.10), and of what stands past the last of them
 pub record Rising (starts : List ℕ) : Type 0 where
@@ -88,8 +85,8 @@ pub record Rising (starts : List ℕ) : Type 0 where
 abbrev pub Below : List ℕ → ℕ → Type 0
 Below starts d = (i : ℕ) → i < length starts → get_or starts i 0 < d
 
-abbrev pub Past : List ℕ → Near → Type 0
-Past starts past = (d : ℕ) → past ≡ At d → Below starts d
+abbrev pub Past : List ℕ → Option ℕ → Type 0
+Past starts past = (d : ℕ) → past ≡ Some d → Below starts d
 
 -- r of the starts are not above x, and the others are above it
 pub record Cut (starts : List ℕ) (x r : ℕ) : Type 0 where

@@ -6,31 +6,15 @@ ghost use Rattle.player_walk.specs.declared.Step.TheVariants.{Goto};
 ghost use Rattle.player_segments.specs.Segments.{previous_start, next_start, segment_starts, segment_move, near_position, Rising, Past, Cut};
 ghost use Rattle.player_segments.specs.Closed.{start_ahead, start_back};
 
-#[derive(Clone, Copy)]
-pub enum NearPosition {
-    Found(catalogue_tables::Position),
-    None,
-}
-
 // Less than this past the start of its segment, Previous Segment goes from a position to the segment before (SCOPE 10.3).
 const PREVIOUS_MARGIN: u32 = 300;
 
-// How many starts are not above x, found by halving.
+// How many starts are not above x. They rise, so that halving finds it.
 fn not_above(starts: &[u32], x: catalogue_tables::Position) -> usize
     requires { Rising starts.now }
     ensures { Cut starts.now x.0 result }
 {
-    let mut lo = 0;
-    let mut hi = starts.len();
-    while lo < hi {
-        let mid = lo + (hi - lo) / 2;
-        if starts[mid] <= x.0 {
-            lo = mid + 1;
-        } else {
-            hi = mid;
-        }
-    }
-    lo
+    starts.partition_point(|start| *start <= x.0)
 }
 
 // Where Previous Segment goes: the start of the segment before, or of the segment that the position lies in (SCOPE 10.3).
@@ -53,7 +37,11 @@ fn previous_start(starts: &[u32], p: catalogue_tables::Position) -> catalogue_ta
 }
 
 // Where Next Segment goes: the least start above the position, or what stands past the last (SCOPE 10.4).
-fn next_start(starts: &[u32], past: NearPosition, p: catalogue_tables::Position) -> NearPosition
+fn next_start(
+    starts: &[u32],
+    past: Option<catalogue_tables::Position>,
+    p: catalogue_tables::Position,
+) -> Option<catalogue_tables::Position>
     requires { Rising starts.now }
     ensures { near_position result ≡ next_start (segment_starts starts.now) (near_position past) p.0 }
 {
@@ -62,24 +50,30 @@ fn next_start(starts: &[u32], past: NearPosition, p: catalogue_tables::Position)
         return past;
     }
     let x = starts[k];
-    NearPosition::Found(catalogue_tables::Position(x))
+    Some(catalogue_tables::Position(x))
 }
 
 // The start that m steps ahead lead to from the first, or what stands past the last.
-fn start_ahead(starts: &[u32], past: NearPosition, m: usize) -> NearPosition
+#[tactic(auto, using(crate::proofs::Whole::ahead_in, crate::proofs::Whole::ahead_none, crate::proofs::Whole::ahead_past))]
+fn start_ahead(
+    starts: &[u32],
+    past: Option<catalogue_tables::Position>,
+    m: usize,
+) -> Option<catalogue_tables::Position>
     ensures { near_position result ≡ start_ahead (segment_starts starts.now) (near_position past) m }
 {
     if m < starts.len() {
         let x = starts[m];
-        return NearPosition::Found(catalogue_tables::Position(x));
+        return Some(catalogue_tables::Position(x));
     }
     if m == 0 {
-        return NearPosition::Found(catalogue_tables::Position(0));
+        return Some(catalogue_tables::Position(0));
     }
     past
 }
 
 // The start that m steps back lead to from the last, or 0.
+#[tactic(auto, using(crate::proofs::Whole::back_in, crate::proofs::Whole::back_past))]
 fn start_back(starts: &[u32], m: usize) -> catalogue_tables::Position
     ensures { result.0 ≡ start_back (segment_starts starts.now) m }
 {
@@ -94,32 +88,33 @@ fn start_back(starts: &[u32], m: usize) -> catalogue_tables::Position
 // Where Goto Segment leads from a position (SCOPE 10.6).
 fn goto_start(
     starts: &[u32],
-    past: NearPosition,
+    past: Option<catalogue_tables::Position>,
     p: catalogue_tables::Position,
     number: u32,
-) -> NearPosition
+) -> Option<catalogue_tables::Position>
     requires rising { Rising starts.now }
     requires past { Past starts.now (near_position past) }
     ensures { near_position result ≡ segment_move (Goto number) starts.now (near_position past) p.0 }
 {
     let way = player_walk::way_of(number);
     match way {
-        player_walk::Way::Stay => NearPosition::Found(p),
+        player_walk::Way::Stay => Some(p),
         player_walk::Way::Ahead(m) => start_ahead(starts, past, ground::wide_word(m)),
         player_walk::Way::Back(m) => {
             let x = start_back(starts, ground::wide_word(m));
-            NearPosition::Found(x)
+            Some(x)
         }
     }
 }
 
 // A segment move from a position of a track. `past` is what Next Segment leads to past the last start: D, or nothing.
+#[tactic(auto, using(crate::proofs::Whole::some, crate::proofs::Whole::from_zero, crate::proofs::Steps::last_is), unfolding(crate::specs::Segments::move_along))]
 pub fn segment_after(
     starts: &[u32],
-    past: NearPosition,
+    past: Option<catalogue_tables::Position>,
     position: catalogue_tables::Position,
     step: player_walk::Step,
-) -> NearPosition
+) -> Option<catalogue_tables::Position>
     requires rising { Rising starts.now }
     requires past { Past starts.now (near_position past) }
     ensures { near_position result ≡ segment_move step starts.now (near_position past) position.0 }
@@ -127,16 +122,16 @@ pub fn segment_after(
     match step {
         player_walk::Step::Previous => {
             let x = previous_start(starts, position);
-            NearPosition::Found(x)
+            Some(x)
         }
         player_walk::Step::Next => next_start(starts, past, position),
         player_walk::Step::First => {
             let x = catalogue_tables::Position(0);
-            NearPosition::Found(x)
+            Some(x)
         }
         player_walk::Step::Last => {
             let x = start_back(starts, 0);
-            NearPosition::Found(x)
+            Some(x)
         }
         player_walk::Step::Goto(n) => goto_start(starts, past, position, n),
     }

@@ -7,15 +7,16 @@ use borrow.Author.Tests.{ne_eqb}
 use lib.Dec.{eqb}
 use Rattle.ground.specs.Cases.{pick}
 use Rattle.player_walk.specs.Steps.{at, next_of}
-use Rattle.player_state.specs.Modes.{or_stay, rung_up, rung_down}
+use Rattle.std.specs.Prelude.{unwrap_or}
+use Rattle.player_state.specs.Modes.{rung_up, rung_down}
 
 -- the last of eight, or none of them, has nothing behind it
 stays : (s a b c d e f g h : ℕ) → (s ≡ a → ⊥) → (s ≡ b → ⊥) → (s ≡ c → ⊥) → (s ≡ d → ⊥) → (s ≡ e → ⊥) → (s ≡ f → ⊥) → (s ≡ g → ⊥)
-    → s ≡ or_stay s (next_of (a ∷ b ∷ c ∷ d ∷ e ∷ f ∷ g ∷ h ∷ []) s)
+    → s ≡ unwrap_or (next_of (a ∷ b ∷ c ∷ d ∷ e ∷ f ∷ g ∷ h ∷ []) s) s
 stays s a b c d e f g h na nb nc nd ne nf ng =
     rw (ne_eqb s a na, ne_eqb s b nb, ne_eqb s c nc, ne_eqb s d nd, ne_eqb s e ne, ne_eqb s f nf, ne_eqb s g ng) (go (eqb s h))
   where
-    go : (t : Bool) → s ≡ or_stay s (at (a ∷ b ∷ c ∷ d ∷ e ∷ f ∷ g ∷ h ∷ []) (suc (suc (suc (suc (suc (suc (suc (suc (pick t 0 (suc 0)))))))))))
+    go : (t : Bool) → s ≡ unwrap_or (at (a ∷ b ∷ c ∷ d ∷ e ∷ f ∷ g ∷ h ∷ []) (suc (suc (suc (suc (suc (suc (suc (suc (pick t 0 (suc 0))))))))))) s
     go true = refl
     go false = refl
 

@@ -1,10 +1,8 @@
 -- Playing, pausing, stopping and seeking (SCOPE 9.5, 9.6, 8.5); and arriving at a track or in a group (SCOPE 11.7, 12.3, 14.2, 8.9).
 -- Assumes nothing.
-use Rattle.std.specs.Prelude.{List, [], ◌∷◌, reverse, ℕ, eqb}
+use Rattle.std.specs.Prelude.{List, [], ◌∷◌, reverse, ℕ, eqb, unwrap_or}
 use Rattle.ground.specs.Cases.{pick}
 use Rattle.player_walk.specs.Steps.{next_of}
-use Rattle.player_walk.specs.declared.Near.{Near}
-use Rattle.player_walk.specs.declared.Near.TheVariants.{At, Nothing}
 use Rattle.player_state.specs.declared.Player.{Player}
 use Rattle.player_state.specs.Player.{playing, paused, seeking, in_mode, at_place, at_position}
 
@@ -19,17 +17,12 @@ paused_at position p = at_position position (in_mode paused 0 p)
 abbrev pub rungs : List ℕ
 rungs = 0xE0 ∷ 0xF0 ∷ 0xF8 ∷ 0xFC ∷ 4 ∷ 8 ∷ 16 ∷ 32 ∷ []
 
--- what was found, or else s itself
-abbrev pub or_stay : ℕ → Near → ℕ
-or_stay s (At r) = r
-or_stay s Nothing = s
-
 -- SCOPE 9.6: "the one goes a rung up and the other a rung down, and each stays at its end rung"
 unfoldable pub rung_up : ℕ → ℕ
-rung_up s = or_stay s (next_of rungs s)
+rung_up s = unwrap_or (next_of rungs s) s
 
 unfoldable pub rung_down : ℕ → ℕ
-rung_down s = or_stay s (next_of (reverse rungs) s)
+rung_down s = unwrap_or (next_of (reverse rungs) s) s
 
 -- SCOPE 9.6: "Fast Forward enters Seeking at 4, and Fast Rewind at −4."
 unfoldable pub forwarded : Player → Player

@@ -67,14 +67,11 @@ pub fn fill(octets: [u8; ground::MOST_TITLE], name: &[u8]) -> [u8; ground::MOST_
     ensures { result ≡ filled name.now octets }
 {
     let mut out = octets;
-    let mut i: usize = 0;
-    while i < name.len() {
-        out[i] = name[i];
-        i += 1;
-    }
+    out[..name.len()].copy_from_slice(name);
     out
 }
 
+#[tactic(auto, unfolding(crate::specs::Player::started_player))]
 pub fn start(name: &[u8], mask: u32, ccid: u8) -> Player
     requires { length name.now ≤ most_title }
     ensures { result ≡ started_player name.now mask ccid }
@@ -113,6 +110,7 @@ pub fn start(name: &[u8], mask: u32, ccid: u8) -> Player
     }
 }
 
+#[tactic(auto, unfolding(crate::specs::Player::renamed))]
 pub fn set_name(p: Player, name: &[u8]) -> Player
     requires { length name.now ≤ most_title }
     ensures { result ≡ renamed name.now p }
@@ -140,6 +138,7 @@ pub fn in_mode(p: Player, media: u8, seeking: u8) -> Player
 }
 
 // The name of a next track stays where a call ends on the track and group on which it began (SCOPE 14.6, 14.7).
+#[tactic(auto, using(ground::proofs::Cases::past, ground::proofs::Cases::here))]
 fn kept_on(p: Player, group: catalogue_tables::GroupNo, track: catalogue_tables::TrackNo) -> u32
     ensures { result ≡ kept_on group.0 track.0 p }
 {
@@ -232,6 +231,7 @@ pub fn with_speed(p: Player, speed: u8) -> Player
     q
 }
 
+#[tactic(auto, using(crate::proofs::Rungs::top), unfolding(crate::specs::Modes::rung_up))]
 fn rung_up(s: u8) -> u8
     ensures { result ≡ rung_up s }
 {
@@ -247,6 +247,7 @@ fn rung_up(s: u8) -> u8
     }
 }
 
+#[tactic(auto, using(crate::proofs::Rungs::bottom), unfolding(crate::specs::Modes::rung_down))]
 fn rung_down(s: u8) -> u8
     ensures { result ≡ rung_down s }
 {
@@ -262,6 +263,7 @@ fn rung_down(s: u8) -> u8
     }
 }
 
+#[tactic(auto, unfolding(crate::specs::Modes::forwarded))]
 pub fn fast_forward(p: Player) -> Player
     ensures { result ≡ forwarded p }
 {
@@ -272,6 +274,7 @@ pub fn fast_forward(p: Player) -> Player
     in_mode(p, SEEKING, 4)
 }
 
+#[tactic(auto, unfolding(crate::specs::Modes::rewound))]
 pub fn fast_rewind(p: Player) -> Player
     ensures { result ≡ rewound p }
 {
@@ -283,6 +286,7 @@ pub fn fast_rewind(p: Player) -> Player
 }
 
 // The player goes to a track of a group, at position 0. Seeking becomes Playing (SCOPE 11.7, 12.3, 14.2).
+#[tactic(auto, using(ground::proofs::Cases::past, ground::proofs::Cases::here), unfolding(crate::specs::Modes::moved_to))]
 pub fn move_to(
     p: Player,
     group: catalogue_tables::GroupNo,
@@ -317,6 +321,7 @@ fn less(a: u64, b: u64) -> u64
 }
 
 // The sum of a position and a signed number, held to 0 and the end (SCOPE 9.7).
+#[tactic(auto, using(crate::proofs::Signs::held_up, crate::proofs::Signs::held_down))]
 pub fn held_sum(
     end: catalogue_tables::Position,
     position: catalogue_tables::Position,
@@ -334,6 +339,7 @@ pub fn held_sum(
 }
 
 // The position that a written number means (SCOPE 9.8).
+#[tactic(auto, using(crate::proofs::Signs::written_up, crate::proofs::Signs::written_down))]
 pub fn written_position(end: catalogue_tables::Position, number: u32) -> catalogue_tables::Position
     ensures { result.0 ≡ written end.0 (signed_word number) }
 {
@@ -344,6 +350,7 @@ pub fn written_position(end: catalogue_tables::Position, number: u32) -> catalog
 }
 
 // The position d times the seeking speed further, held to 0 and the end (SCOPE 13.7).
+#[tactic(auto, using(crate::proofs::Signs::sought_up, crate::proofs::Signs::sought_down, crate::proofs::Signs::small_product))]
 pub fn sought_position(
     end: catalogue_tables::Position,
     position: catalogue_tables::Position,

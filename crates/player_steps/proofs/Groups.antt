@@ -7,13 +7,12 @@ use Prim.Native.Nat.{ℕ, zero, suc, ◌≤◌, ◌<◌}
 use native.Mathlib.Nat.{not-suc-le-zero, le_of_suc-le-suc, lt_irrefl}
 use native.Mathlib.Omega.{arith}
 use lib.ListN.{length, get_or}
+use Rattle.std.specs.Prelude.{Option, Some, None}
 use Rattle.ground.specs.Lists.{span, those}
 use Rattle.ground.proofs.Cases.{le_or}
 use Rattle.catalogue_tables.specs.Tables.{group_count}
 use Rattle.player_walk.specs.Signed.{signed_word}
 use Rattle.player_walk.specs.Steps.{at, place, move_in}
-use Rattle.player_walk.specs.declared.Near.{Near}
-use Rattle.player_walk.specs.declared.Near.TheVariants.{At, Nothing}
 use Rattle.player_walk.specs.declared.Step.{Step}
 use Rattle.player_walk.specs.declared.Step.TheVariants.{Goto}
 use Rattle.player_manual.specs.declared.Made.{Made}
@@ -40,13 +39,13 @@ module _ (groups : List ℕ) (g : ℕ) where
     alone = along_from (along_groups groups) g (0 ∷ []) false lone_apart moves_alone (0, omega arith, sym zeroth)
 
     -- on one place, where group 0 stands
-    on_one : (r : Made) → Within 1 (found r) → onto (λ k. At g) r ≡ onto (at (0 ∷ [])) r
+    on_one : (r : Made ℕ) → Within 1 (found r) → onto (λ k. Some g) r ≡ onto (at (0 ∷ [])) r
     on_one (All zero n) h = ap (λ (x : ℕ). All x n) zeroth
     on_one (All (suc k) n) h = absurd (not-suc-le-zero (le_of_suc-le-suc h))
     on_one (Stopped n) h = refl
     on_one (RanOut n) h = refl
 
-    pub walked_alone : (n allowed : ℕ) → onto (λ k. At g) (by_steps (on_places false 1) n allowed 0) ≡ by_steps (along_groups groups) n allowed g
+    pub walked_alone : (n allowed : ℕ) → onto (λ k. Some g) (by_steps (on_places false 1) n allowed 0) ≡ by_steps (along_groups groups) n allowed g
     unfolding alone along_from
     walked_alone n allowed =
         on_one (by_steps (on_places false 1) n allowed 0) (keeps (λ j. j < 1) (on_places false 1) (λ s j b. placed 1 s false j b) n allowed 0 (omega arith))
@@ -95,6 +94,6 @@ module _ (groups : List ℕ) (g : ℕ) where
     pub leads_current : (n allowed h count : ℕ) → by_steps (along_groups groups) n allowed g ≡ All h count → Current groups h
     leads_current n allowed h count = leads_to (Current groups) (along_groups groups) (λ s x c. holds s x c (along_groups groups s x) refl) n allowed g current h count
       where
-        holds : (s : Step) (x : ℕ) → Current groups x → (p : Near) → along_groups groups s x ≡ p → Holds (Current groups) p
-        holds s x c (At y) e = stays_current s groups x y c e
-        holds s x c Nothing e = tt
+        holds : (s : Step) (x : ℕ) → Current groups x → (p : Option ℕ) → along_groups groups s x ≡ p → Holds (Current groups) p
+        holds s x c (Some y) e = stays_current s groups x y c e
+        holds s x c None e = tt

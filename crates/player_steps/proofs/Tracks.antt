@@ -6,11 +6,11 @@ use mathlib.Core.List.{List}
 use Prim.Native.Nat.{ℕ, ◌+◌, ◌≤◌, ◌<◌}
 use native.Mathlib.Omega.{arith}
 use lib.ListN.{get_or}
+use Rattle.std.specs.Prelude.{Option}
 use Rattle.ground.specs.Limits.{most_tracks}
 use Rattle.ground.proofs.Cases.{le_or}
 use Rattle.player_walk.specs.Signed.{signed_word}
 use Rattle.player_walk.specs.Steps.{at, place, move_in}
-use Rattle.player_walk.specs.declared.Near.{Near}
 use Rattle.player_walk.specs.declared.Step.{Step}
 use Rattle.player_walk.specs.declared.Step.TheVariants.{Goto}
 use Rattle.player_manual.specs.Made.{by_steps, size, found}
@@ -23,7 +23,7 @@ use Rattle.player_orders.proofs.Moves.{along_one, along_run}
 use Rattle.player_steps.specs.Stepping.{along_tracks}
 
 -- a player that moves along a run put in order, from each of its tracks
-module _ (by : By) (tracks : List ℕ) (first count : ℕ) (small : first + count ≤ most_tracks) (repeat : Bool) (own : Step → ℕ → Near)
+module _ (by : By) (tracks : List ℕ) (first count : ℕ) (small : first + count ≤ most_tracks) (repeat : Bool) (own : Step → ℕ → Option ℕ)
     (moves : (s : Step) (u : ℕ) → first ≤ u → u < first + count → own s u ≡ move_in s repeat (ordered by tracks first count) u) where
   module _ (t : ℕ) (low : first ≤ t) (high : t < first + count) where
     in_line : Along own t

@@ -13,29 +13,8 @@ ghost use Rattle.player_steps.specs.Stepping.{along_tracks, along_groups, along_
 
 use player_manual::Made;
 
-// The same three outcomes for each kind: all steps were made, and where they led; a step could not be made; the allowed steps ran out. Each has the count.
-#[derive(Clone, Copy)]
-pub enum TracksMade {
-    All(catalogue_tables::TrackNo, u32),
-    Stopped(u32),
-    RanOut(u32),
-}
-
-#[derive(Clone, Copy)]
-pub enum GroupsMade {
-    All(catalogue_tables::GroupNo, u32),
-    Stopped(u32),
-    RanOut(u32),
-}
-
-#[derive(Clone, Copy)]
-pub enum SegmentsMade {
-    All(catalogue_tables::Position, u32),
-    Stopped(u32),
-    RanOut(u32),
-}
-
 // From t along the run, put in order: on places, and then what stands there.
+#[tactic(auto, using(player_manual::proofs::Along::landing))]
 fn along_run(
     tracks: &[u32],
     by: player_orders::By,
@@ -45,7 +24,7 @@ fn along_run(
     t: catalogue_tables::TrackNo,
     n: u32,
     allowed: u32,
-) -> TracksMade
+) -> Made<catalogue_tables::TrackNo>
     requires { InRun (length tracks.now) first.0 count t.0 }
     ensures { tracks_made result ≡ onto (at (ordered by tracks.now first.0 count)) (by_steps (on_places repeat count) n allowed (place t.0 (ordered by tracks.now first.0 count))) }
 {
@@ -55,12 +34,12 @@ fn along_run(
         Made::All(j, steps) => {
             let near = player_orders::nth(tracks, by, first, count, j);
             match near {
-                player_orders::NearTrack::Found(to) => TracksMade::All(to, steps),
-                player_orders::NearTrack::None => TracksMade::Stopped(steps),
+                Some(to) => Made::All(to, steps),
+                None => Made::Stopped(steps),
             }
         }
-        Made::Stopped(steps) => TracksMade::Stopped(steps),
-        Made::RanOut(steps) => TracksMade::RanOut(steps),
+        Made::Stopped(steps) => Made::Stopped(steps),
+        Made::RanOut(steps) => Made::RanOut(steps),
     }
 }
 
@@ -73,11 +52,11 @@ pub fn goto_track(
     t: catalogue_tables::TrackNo,
     n: u32,
     allowed: u32,
-) -> TracksMade
+) -> Made<catalogue_tables::TrackNo>
     requires { InRun (length tracks.now) first.0 count t.0 }
     ensures { tracks_made result ≡ by_steps (along_tracks order tracks.now first.0 count) n allowed t.0 }
 {
-    let by = player_orders::by_of(order);
+    let by = player_orders::By::from(order);
     let repeat = order % 2 == 0;
     if order <= 2 {
         return along_run(tracks, by, repeat, t, 1, t, n, allowed);
@@ -86,7 +65,13 @@ pub fn goto_track(
 }
 
 // Goto Group by single steps, from the current group.
-pub fn goto_group(groups: &[u32], g: catalogue_tables::GroupNo, n: u32, allowed: u32) -> GroupsMade
+#[tactic(auto, using(player_manual::proofs::Along::landing, player_groups::proofs::Moves::place_within, crate::proofs::Groups::walked_alone, crate::proofs::Groups::walked_line))]
+pub fn goto_group(
+    groups: &[u32],
+    g: catalogue_tables::GroupNo,
+    n: u32,
+    allowed: u32,
+) -> Made<catalogue_tables::GroupNo>
     requires { Current groups.now g.0 }
     ensures { groups_made result ≡ by_steps (along_groups groups.now) n allowed g.0 }
 {
@@ -94,13 +79,13 @@ pub fn goto_group(groups: &[u32], g: catalogue_tables::GroupNo, n: u32, allowed:
         let alone = player_manual::goto_by_steps(n, allowed, false, 1, 0);
         match alone {
             Made::All(_, steps) => {
-                return GroupsMade::All(g, steps);
+                return Made::All(g, steps);
             }
             Made::Stopped(steps) => {
-                return GroupsMade::Stopped(steps);
+                return Made::Stopped(steps);
             }
             Made::RanOut(steps) => {
-                return GroupsMade::RanOut(steps);
+                return Made::RanOut(steps);
             }
         }
     }
@@ -113,88 +98,85 @@ pub fn goto_group(groups: &[u32], g: catalogue_tables::GroupNo, n: u32, allowed:
         Made::All(j, steps) => {
             let near = player_groups::nth_sibling(groups, g, bound, j);
             match near {
-                player_groups::NearGroup::Found(to) => GroupsMade::All(to, steps),
-                player_groups::NearGroup::None => GroupsMade::Stopped(steps),
+                Some(to) => Made::All(to, steps),
+                None => Made::Stopped(steps),
             }
         }
-        Made::Stopped(steps) => GroupsMade::Stopped(steps),
-        Made::RanOut(steps) => GroupsMade::RanOut(steps),
+        Made::Stopped(steps) => Made::Stopped(steps),
+        Made::RanOut(steps) => Made::RanOut(steps),
     }
 }
 
 // The steps behind the first one, which is counted already: `wanted` more, from a position.
 fn segments_on(
     starts: &[u32],
-    past: player_segments::NearPosition,
+    past: Option<catalogue_tables::Position>,
     step: player_walk::Step,
     from: catalogue_tables::Position,
     wanted: u32,
     allowed: u32,
-) -> SegmentsMade
+) -> Made<catalogue_tables::Position>
     requires rising { Rising starts.now }
     requires past { Past starts.now (near_position past) }
     requires allowed_nonzero { 0 < allowed }
     ensures { segments_made result ≡ more 1 (steps (along_segments starts.now (near_position past) step) (allowed - 1) wanted from.0) }
 {
     let mut at = from;
-    let mut left = wanted;
     let mut made: u32 = 1;
-    while 0 < left {
+    for i in 0..wanted {
         if made == allowed {
-            return SegmentsMade::RanOut(made);
+            return Made::RanOut(made);
         }
         made += 1;
         let near = player_segments::segment_after(starts, past, at, step);
-        let player_segments::NearPosition::Found(next) = near else {
-            return SegmentsMade::Stopped(made);
+        let Some(next) = near else {
+            return Made::Stopped(made);
         };
         at = next;
-        left -= 1;
     }
-    SegmentsMade::All(at, made)
+    Made::All(at, made)
 }
 
 // First or Last, and then the steps.
+#[tactic(auto, using(player_manual::proofs::Steps::none_allowed, player_manual::proofs::Steps::no_end, player_manual::proofs::Steps::at_end_lem))]
 fn segments_from_end(
     starts: &[u32],
-    past: player_segments::NearPosition,
+    past: Option<catalogue_tables::Position>,
     end: player_walk::Step,
     step: player_walk::Step,
     position: catalogue_tables::Position,
     wanted: u32,
     allowed: u32,
-) -> SegmentsMade
+) -> Made<catalogue_tables::Position>
     requires rising { Rising starts.now }
     requires past { Past starts.now (near_position past) }
     ensures { segments_made result ≡ from_end (along_segments starts.now (near_position past) end position.0) (along_segments starts.now (near_position past) step) allowed wanted }
 {
     if allowed == 0 {
-        return SegmentsMade::RanOut(0);
+        return Made::RanOut(0);
     }
     let near = player_segments::segment_after(starts, past, position, end);
     match near {
-        player_segments::NearPosition::Found(start) => {
-            segments_on(starts, past, step, start, wanted, allowed)
-        }
-        player_segments::NearPosition::None => SegmentsMade::Stopped(1),
+        Some(start) => { segments_on(starts, past, step, start, wanted, allowed) }
+        None => Made::Stopped(1),
     }
 }
 
 // Goto Segment by single steps, from a position of a track. `past` is what Next Segment leads to past the last start: D, or nothing.
 pub fn goto_segment(
     starts: &[u32],
-    past: player_segments::NearPosition,
+    past: Option<catalogue_tables::Position>,
     position: catalogue_tables::Position,
     n: u32,
     allowed: u32,
-) -> SegmentsMade
+) -> Made<catalogue_tables::Position>
     requires rising { Rising starts.now }
     requires past { Past starts.now (near_position past) }
     ensures { segments_made result ≡ by_steps (along_segments starts.now (near_position past)) n allowed position.0 }
 {
     let way = player_walk::way_of(n);
     match way {
-        player_walk::Way::Stay => SegmentsMade::All(position, 0),
+        player_walk::Way::Stay => Made::All(position, 0),
         player_walk::Way::Ahead(m) => {
             let first = player_walk::Step::First;
             let next = player_walk::Step::Next;

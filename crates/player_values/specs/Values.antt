@@ -1,6 +1,6 @@
 -- The values of the player's characteristics (SCOPE 16). SCOPE 16.1: "Each has as its number the last part of its section number in the standard."
 -- Assumes nothing.
-use Rattle.std.specs.Prelude.{List, [], ◌∷◌, ℕ, ◌/◌, ◌%◌, ◌^◌, eqb}
+use Rattle.std.specs.Prelude.{List, [], ◌∷◌, ℕ, ◌/◌, ◌%◌, ◌^◌, eqb, Option, Some, None}
 use Rattle.ground.specs.Cases.{pick}
 use Rattle.ground.specs.Words.{six_octets}
 use Rattle.catalogue_tables.specs.Tables.{parent_of, duration_of, is_running, segments_in}
@@ -8,8 +8,6 @@ use Rattle.catalogue_tables.specs.Objects.{track_object, group_object, segments_
 use Rattle.catalogue_titles.specs.declared.Part.{Part}
 use Rattle.catalogue_titles.specs.Titles.{part_of, front, octets_at}
 use Rattle.catalogue_titles.specs.Lent.{Lent}
-use Rattle.player_walk.specs.declared.Near.{Near}
-use Rattle.player_walk.specs.declared.Near.TheVariants.{At, Nothing}
 use Rattle.player_state.specs.declared.Player.{Player}
 use Rattle.player_state.specs.Player.{is_active, name_of}
 use Rattle.player_moves.specs.Moves.{next_track}
@@ -71,9 +69,9 @@ unfoldable pub track_now : Player → ℕ
 track_now p = or_none p (track_object p.place.track.0)
 
 -- SCOPE 16.6: "12 is the object number of the named next track, or else of the track that Next Track reaches in the order. It is none where there is none."
-abbrev pub track_found : Near → ℕ
-track_found (At t) = track_object t
-track_found Nothing = 0
+abbrev pub track_found : Option ℕ → ℕ
+track_found (Some t) = track_object t
+track_found None = 0
 
 unfoldable pub next_now : List ℕ → List ℕ → Player → ℕ
 next_now groups tracks p = or_none p (track_found (next_track groups tracks p))

@@ -1,7 +1,7 @@
 // The values of the characteristics (SCOPE 16): a part of each, put over the front of lent octets; and how many octets each value has.
 #![tactic(auto)]
 
-ghost use Rattle.std.specs.Prelude.{◌≡◌, ◌≤◌, ◌<◌, min, ◌∷◌, [], length};
+ghost use Rattle.std.specs.Prelude.{◌≡◌, ◌≤◌, ◌<◌, ◌∷◌, [], length};
 ghost use Rattle.ground.specs.Limits.{most_title};
 ghost use Rattle.ground.specs.Lists.{filled, part_from};
 ghost use Rattle.player_state.specs.Player.{name_of};
@@ -11,27 +11,6 @@ ghost use Rattle.player_moves.specs.Moves.{Sits};
 // What the duration and the position are while there is no current track (SCOPE 16.4).
 const MINUS_ONE: u32 = 0xFFFF_FFFF;
 
-fn lesser(a: usize, b: usize) -> usize
-    ensures { result ≡ min a b }
-{
-    if a < b {
-        return a;
-    }
-    b
-}
-
-// Copies s over the front of out.
-fn copy(out: &mut [u8], s: &[u8])
-    requires { length s.now ≤ length out.old }
-    ensures { out.new ≡ filled s.now out.old }
-{
-    let mut i: usize = 0;
-    while i < s.len() {
-        out[i] = s[i];
-        i += 1;
-    }
-}
-
 // Puts the octets of s, from a place on and at most so many, over the front of out; and answers how many they are.
 pub fn put(out: &mut [u8], s: &[u8], from: usize, most: usize) -> usize
     requires s_in_bounds { length s.now ≤ length out.old }
@@ -39,9 +18,9 @@ pub fn put(out: &mut [u8], s: &[u8], from: usize, most: usize) -> usize
     ensures value { result ≡ length (part_from from most s.now) }
     ensures out_after { out.new ≡ filled (part_from from most s.now) out.old }
 {
-    let n = lesser(most, s.len() - from);
+    let n = most.min(s.len() - from);
     let to = from + n;
-    copy(out, &s[from..to]);
+    out[..n].copy_from_slice(&s[from..to]);
     n
 }
 
@@ -55,6 +34,7 @@ fn put_octet(out: &mut [u8], x: u8, from: usize, most: usize) -> usize
     put(out, &octets, from, most)
 }
 
+#[tactic(auto, unfolding(crate::specs::Values::word_octets))]
 fn put_word(out: &mut [u8], w: u32, from: usize, most: usize) -> usize
     requires most_title_in_bounds { most_title ≤ length out.old }
     requires from_in_bounds { from ≤ length (word_octets w) }
@@ -82,6 +62,7 @@ fn put_name(out: &mut [u8], p: player_state::Player, from: usize, most: usize) -
 }
 
 // Where the title stands. While there is no current track, it is the empty front of the card's text (SCOPE 5.7).
+#[tactic(auto, unfolding(crate::specs::Values::title_part))]
 pub fn title_part(
     tracks: &[u32],
     renames: &[u32],
@@ -96,6 +77,7 @@ pub fn title_part(
 }
 
 // The title: a part of the card's text or of the office's (SCOPE 5.5).
+#[tactic(auto, unfolding(crate::specs::Values::title_value))]
 pub fn title_of<'a>(
     tracks: &[u32],
     text: &'a [u8],
@@ -130,6 +112,7 @@ fn put_title<'a>(
 }
 
 // The word that says that a duration is not yet known is also the word of −1, so that it is handed out as it is kept (SCOPE 16.4).
+#[tactic(auto, using(crate::proofs::Laws::read_as_kept), unfolding(crate::specs::Values::duration_value))]
 pub fn duration_word(tracks: &[u32], p: player_state::Player) -> u32
     ensures { word_octets result ≡ duration_value tracks.now p }
 {
@@ -140,6 +123,7 @@ pub fn duration_word(tracks: &[u32], p: player_state::Player) -> u32
     d.0
 }
 
+#[tactic(auto, unfolding(crate::specs::Values::position_value))]
 pub fn position_word(p: player_state::Player) -> u32
     ensures { word_octets result ≡ position_value p }
 {
@@ -150,6 +134,7 @@ pub fn position_word(p: player_state::Player) -> u32
 }
 
 // The object number of the current track's segments; 0 where there is none (SCOPE 16.5).
+#[tactic(auto, unfolding(crate::specs::Values::segments_now))]
 pub fn segments_now(tracks: &[u32], p: player_state::Player) -> usize
     ensures { (result ≡ segments_now tracks.now p) × (result < 281474976710656) }
 {
@@ -164,6 +149,7 @@ pub fn segments_now(tracks: &[u32], p: player_state::Player) -> usize
 }
 
 // The object number of the current track; 0 where there is none.
+#[tactic(auto, unfolding(crate::specs::Values::track_now))]
 pub fn track_now(p: player_state::Player) -> usize
     ensures { (result ≡ track_now p) × (result < 281474976710656) }
 {
@@ -174,6 +160,7 @@ pub fn track_now(p: player_state::Player) -> usize
 }
 
 // The object number of the next track; 0 where there is none (SCOPE 16.6).
+#[tactic(auto, unfolding(crate::specs::Values::next_now))]
 pub fn next_now(groups: &[u32], tracks: &[u32], p: player_state::Player) -> usize
     requires { Sits groups.now tracks.now p }
     ensures { (result ≡ next_now groups.now tracks.now p) × (result < 281474976710656) }
@@ -183,12 +170,13 @@ pub fn next_now(groups: &[u32], tracks: &[u32], p: player_state::Player) -> usiz
     }
     let near = player_moves::next_track(groups, tracks, p);
     match near {
-        player_orders::NearTrack::Found(t) => catalogue_tables::track_object(t),
-        player_orders::NearTrack::None => 0,
+        Some(t) => catalogue_tables::track_object(t),
+        None => 0,
     }
 }
 
 // The object number of the current group's parent; 0 where there is none.
+#[tactic(auto, unfolding(crate::specs::Values::parent_now))]
 pub fn parent_now(groups: &[u32], p: player_state::Player) -> usize
     ensures { (result ≡ parent_now groups.now p) × (result < 281474976710656) }
 {
@@ -200,6 +188,7 @@ pub fn parent_now(groups: &[u32], p: player_state::Player) -> usize
 }
 
 // The object number of the current group; 0 where there is none.
+#[tactic(auto, unfolding(crate::specs::Values::group_now))]
 pub fn group_now(p: player_state::Player) -> usize
     ensures { (result ≡ group_now p) × (result < 281474976710656) }
 {
@@ -210,6 +199,7 @@ pub fn group_now(p: player_state::Player) -> usize
 }
 
 // The six octets of an object number; no octets for 0.
+#[tactic(auto, using(crate::proofs::Parts::nothing_put), unfolding(crate::specs::Values::object_octets))]
 fn put_object(out: &mut [u8], object: usize, from: usize, most: usize) -> usize
     requires most_title_in_bounds { most_title ≤ length out.old }
     requires from_in_bounds { from ≤ length (object_octets object) }
@@ -225,6 +215,7 @@ fn put_object(out: &mut [u8], object: usize, from: usize, most: usize) -> usize
 
 // Puts the octets of a characteristic's value, from a place on and at most so many, over the front of out; and answers how many they are. 4, 18 and every
 // number that is no characteristic have no octets (SCOPE 16.1).
+#[tactic(auto, using(crate::proofs::Laws::value_none), unfolding(crate::specs::Values::value_of, crate::specs::Values::opcodes_value, crate::specs::Values::word_octets))]
 pub fn value<'a>(
     out: &mut [u8],
     groups: &[u32],
@@ -284,6 +275,7 @@ fn title_length<'a>(
 }
 
 // How many octets the value of an object number has: six, and none for 0.
+#[tactic(auto, unfolding(crate::specs::Values::object_octets, ground::specs::Words::six_octets))]
 fn object_length(object: usize) -> usize
     ensures { result ≡ length (object_octets object) }
 {
@@ -294,6 +286,7 @@ fn object_length(object: usize) -> usize
 }
 
 // How many octets the value of a characteristic has.
+#[tactic(auto, using(crate::proofs::Laws::value_none), unfolding(crate::specs::Values::value_of, crate::specs::Values::duration_value, crate::specs::Values::position_value, crate::specs::Values::opcodes_value, crate::specs::Values::word_octets))]
 pub fn length_of<'a>(
     groups: &[u32],
     tracks: &[u32],

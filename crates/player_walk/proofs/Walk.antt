@@ -10,10 +10,9 @@ use native.Mathlib.Omega.{arith}
 use borrow.Author.Tests.{lt-ltb, le-ltb}
 use lib.IntN.{ℤ, pos, negsuc}
 use lib.ListN.{length, get_or}
+use Rattle.std.specs.Prelude.{Option, Some, None}
 use Rattle.ground.specs.Cases.{pick}
 use Rattle.ground.proofs.Cases.{le_or}
-use Rattle.player_walk.specs.declared.Near.{Near}
-use Rattle.player_walk.specs.declared.Near.TheVariants.{At, Nothing}
 use Rattle.player_walk.specs.declared.Step.{Step}
 use Rattle.player_walk.specs.declared.Step.TheVariants.{Previous, Next, First, Last, Goto}
 use Rattle.player_walk.specs.Signed.{signed_word}
@@ -21,57 +20,57 @@ use Rattle.player_walk.specs.Steps.{at, before, place, first_of, last_of, step_n
 use Rattle.player_walk.specs.Places.{way_of, wrap, mirror, goto_place, place_after}
 
 -- what stands at a place that is there, and at one that is not
-pub at_is : (l : List ℕ) (k : ℕ) → k < length l → at l k ≡ At (get_or l k 0)
+pub at_is : (l : List ℕ) (k : ℕ) → k < length l → at l k ≡ Some (get_or l k 0)
 at_is [] k h = absurd (not-suc-le-zero h)
 at_is (x ∷ l) zero h = refl
 at_is (x ∷ l) (suc k) h = at_is l k (omega arith)
 
-pub at_none : (l : List ℕ) (k : ℕ) → length l ≤ k → at l k ≡ Nothing
+pub at_none : (l : List ℕ) (k : ℕ) → length l ≤ k → at l k ≡ None
 at_none [] k h = refl
 at_none (x ∷ l) zero h = absurd (not-suc-le-zero h)
 at_none (x ∷ l) (suc k) h = at_none l k (omega arith)
 
 -- The elements `elem 0` to `elem (len - 1)` stand in the order of the step: the step leads from each to the next. From the last it leads to the first where the
 -- list repeats, and else nowhere.
-module _ (step : ℕ → Near) (len : ℕ) (elem : ℕ → ℕ) (on : (k : ℕ) → suc k < len → step (elem k) ≡ At (elem (suc k))) where
-  once : ((k : ℕ) → suc k ≡ len → step (elem k) ≡ Nothing) → (m k : ℕ) → k < len → walk step m (elem k) ≡ then (wrap false len (k + m)) (λ p. At (elem p))
+module _ (step : ℕ → Option ℕ) (len : ℕ) (elem : ℕ → ℕ) (on : (k : ℕ) → suc k < len → step (elem k) ≡ Some (elem (suc k))) where
+  once : ((k : ℕ) → suc k ≡ len → step (elem k) ≡ None) → (m k : ℕ) → k < len → walk step m (elem k) ≡ then (wrap false len (k + m)) (λ p. Some (elem p))
   once over zero k h = rw (add-zero, lt-ltb k len h)
   once over (suc m) k h = ⊎_elim last (λ q. inner q (once over m (suc k) q)) (eq-or-lt_of_le h)
     where
-      last : suc k ≡ len → walk step (suc m) (elem k) ≡ then (wrap false len (k + suc m)) (λ p. At (elem p))
+      last : suc k ≡ len → walk step (suc m) (elem k) ≡ then (wrap false len (k + suc m)) (λ p. Some (elem p))
       last e = rw (over k e, le-ltb (k + suc m) len (omega arith))
 
-      inner : suc k < len → walk step m (elem (suc k)) ≡ then (wrap false len (suc k + m)) (λ p. At (elem p)) → walk step (suc m) (elem k) ≡ then (wrap false len (k + suc m)) (λ p. At (elem p))
+      inner : suc k < len → walk step m (elem (suc k)) ≡ then (wrap false len (suc k + m)) (λ p. Some (elem p)) → walk step (suc m) (elem k) ≡ then (wrap false len (k + suc m)) (λ p. Some (elem p))
       inner q r =
           let e : k + suc m ≡ suc k + m = omega arith in
           rw (on k q, e) r
 
-  round : ((k : ℕ) → suc k ≡ len → step (elem k) ≡ At (elem 0)) → (m k : ℕ) → k < len → walk step m (elem k) ≡ At (elem ((k + m) % len))
+  round : ((k : ℕ) → suc k ≡ len → step (elem k) ≡ Some (elem 0)) → (m k : ℕ) → k < len → walk step m (elem k) ≡ Some (elem ((k + m) % len))
   round over zero k h = rw (add-zero, mod-eq_of_lt h)
   round over (suc m) k h = ⊎_elim (λ e. last e (round over m 0 (omega arith))) (λ q. inner q (round over m (suc k) q)) (eq-or-lt_of_le h)
     where
-      last : suc k ≡ len → walk step m (elem 0) ≡ At (elem ((0 + m) % len)) → walk step (suc m) (elem k) ≡ At (elem ((k + suc m) % len))
+      last : suc k ≡ len → walk step m (elem 0) ≡ Some (elem ((0 + m) % len)) → walk step (suc m) (elem k) ≡ Some (elem ((k + suc m) % len))
       last e r =
           let q : k + suc m ≡ len + m = omega arith in
           rw (over k e, q, add-mod_left len m) (rw zero-add at r)
 
-      inner : suc k < len → walk step m (elem (suc k)) ≡ At (elem ((suc k + m) % len)) → walk step (suc m) (elem k) ≡ At (elem ((k + suc m) % len))
+      inner : suc k < len → walk step m (elem (suc k)) ≡ Some (elem ((suc k + m) % len)) → walk step (suc m) (elem k) ≡ Some (elem ((k + suc m) % len))
       inner q r =
           let e : k + suc m ≡ suc k + m = omega arith in
           rw (on k q, e) r
 
   -- from the first, whether the list repeats or not: past the end as `over` says
-  pub walked : (repeat : Bool) → ((k : ℕ) → suc k ≡ len → step (elem k) ≡ pick repeat (At (elem 0)) Nothing) → 0 < len → (m : ℕ)
-      → walk step m (elem 0) ≡ then (wrap repeat len m) (λ p. At (elem p))
-  walked true over some m = round over m 0 some ∙ ap (λ (n : ℕ). At (elem (n % len))) (zero-add m)
-  walked false over some m = once over m 0 some ∙ ap (λ (n : ℕ). then (wrap false len n) (λ p. At (elem p))) (zero-add m)
+  pub walked : (repeat : Bool) → ((k : ℕ) → suc k ≡ len → step (elem k) ≡ pick repeat (Some (elem 0)) None) → 0 < len → (m : ℕ)
+      → walk step m (elem 0) ≡ then (wrap repeat len m) (λ p. Some (elem p))
+  walked true over some m = round over m 0 some ∙ ap (λ (n : ℕ). Some (elem (n % len))) (zero-add m)
+  walked false over some m = once over m 0 some ∙ ap (λ (n : ℕ). then (wrap false len n) (λ p. Some (elem p))) (zero-add m)
 
 -- two functions that agree at every place of the list lead to the same
-then_places : (repeat : Bool) (len m : ℕ) (f g : ℕ → Near) → 0 < len → ((p : ℕ) → p < len → f p ≡ g p) → then (wrap repeat len m) f ≡ then (wrap repeat len m) g
+then_places : (repeat : Bool) (len m : ℕ) (f g : ℕ → Option ℕ) → 0 < len → ((p : ℕ) → p < len → f p ≡ g p) → then (wrap repeat len m) f ≡ then (wrap repeat len m) g
 then_places true len m f g some h = h (m % len) (mod-lt m some)
 then_places false len m f g some h = ⊎_elim (λ q. rw (le-ltb m len q)) (λ q. rw (lt-ltb m len q) (h m q)) (le_or len m)
 
-mirror_places : (repeat : Bool) (len m : ℕ) (f : ℕ → Near) → 0 < len → then (mirror len (wrap repeat len m)) f ≡ then (wrap repeat len m) (λ p. f (len - 1 - p))
+mirror_places : (repeat : Bool) (len m : ℕ) (f : ℕ → Option ℕ) → 0 < len → then (mirror len (wrap repeat len m)) f ≡ then (wrap repeat len m) (λ p. f (len - 1 - p))
 mirror_places true len m f some = rw (lt-ltb (m % len) len (mod-lt m some))
 mirror_places false len m f some = ⊎_elim (λ q. rw (le-ltb m len q)) (λ q. rw (lt-ltb m len q, lt-ltb m len q)) (le_or len m)
 
@@ -83,23 +82,23 @@ module _ (l : List ℕ) (apart : (k : ℕ) → k < length l → place (get_or l 
   behind : ℕ → ℕ
   behind k = get_or l (length l - 1 - k) 0
 
-  first_is : 0 < length l → first_of l ≡ At (get_or l 0 0)
+  first_is : 0 < length l → first_of l ≡ Some (get_or l 0 0)
   first_is some = at_is l 0 some
 
-  last_is : 0 < length l → last_of l ≡ At (get_or l (length l - 1) 0)
+  last_is : 0 < length l → last_of l ≡ Some (get_or l (length l - 1) 0)
   last_is some = let e : length l ≡ suc (length l - 1) = omega arith in ap (before l) e ∙ at_is l (length l - 1) (omega arith)
 
-  next_is : (repeat : Bool) (k : ℕ) → suc k < length l → step_next repeat l (get_or l k 0) ≡ At (get_or l (suc k) 0)
+  next_is : (repeat : Bool) (k : ℕ) → suc k < length l → step_next repeat l (get_or l k 0) ≡ Some (get_or l (suc k) 0)
   next_is repeat k h = rw (apart k (omega arith), at_is l (suc k) h)
 
-  next_over : (repeat : Bool) (k : ℕ) → suc k ≡ length l → step_next repeat l (get_or l k 0) ≡ pick repeat (At (get_or l 0 0)) Nothing
+  next_over : (repeat : Bool) (k : ℕ) → suc k ≡ length l → step_next repeat l (get_or l k 0) ≡ pick repeat (Some (get_or l 0 0)) None
   next_over true k e = rw (apart k (omega arith), at_none l (suc k) (omega arith)) (first_is (omega arith))
   next_over false k e = rw (apart k (omega arith), at_none l (suc k) (omega arith))
 
-  previous_is : (repeat : Bool) (k : ℕ) → suc k < length l → step_previous repeat l (get_or l (suc k) 0) ≡ At (get_or l k 0)
+  previous_is : (repeat : Bool) (k : ℕ) → suc k < length l → step_previous repeat l (get_or l (suc k) 0) ≡ Some (get_or l k 0)
   previous_is repeat k h = rw (apart (suc k) h, at_is l k (omega arith))
 
-  previous_over : (repeat : Bool) → 0 < length l → step_previous repeat l (get_or l 0 0) ≡ pick repeat (At (get_or l (length l - 1) 0)) Nothing
+  previous_over : (repeat : Bool) → 0 < length l → step_previous repeat l (get_or l 0 0) ≡ pick repeat (Some (get_or l (length l - 1) 0)) None
   previous_over true some = rw (apart 0 some) (last_is some)
   previous_over false some = rw (apart 0 some)
 
@@ -107,22 +106,22 @@ module _ (l : List ℕ) (apart : (k : ℕ) → k < length l → place (get_or l 
   unfolding elem
   ahead_is repeat m some =
       walked (step_next repeat l) (length l) elem (next_is repeat) repeat (next_over repeat) some m
-      ∙ then_places repeat (length l) m (λ p. At (elem p)) (at l) some (λ p h. sym (at_is l p h))
+      ∙ then_places repeat (length l) m (λ p. Some (elem p)) (at l) some (λ p h. sym (at_is l p h))
 
   back_is : (repeat : Bool) (m : ℕ) → 0 < length l → walk (step_previous repeat l) m (get_or l (length l - 1) 0) ≡ then (mirror (length l) (wrap repeat (length l) m)) (at l)
   unfolding behind
   back_is repeat m some =
       ap (λ (n : ℕ). walk (step_previous repeat l) m (get_or l n 0)) (let e : length l - 1 ≡ length l - 1 - 0 = omega arith in e)
       ∙ walked (step_previous repeat l) (length l) behind on repeat over some m
-      ∙ then_places repeat (length l) m (λ p. At (behind p)) (λ p. at l (length l - 1 - p)) some (λ p h. sym (at_is l (length l - 1 - p) (omega arith)))
+      ∙ then_places repeat (length l) m (λ p. Some (behind p)) (λ p. at l (length l - 1 - p)) some (λ p h. sym (at_is l (length l - 1 - p) (omega arith)))
       ∙ sym (mirror_places repeat (length l) m (at l) some)
     where
-      on : (k : ℕ) → suc k < length l → step_previous repeat l (behind k) ≡ At (behind (suc k))
+      on : (k : ℕ) → suc k < length l → step_previous repeat l (behind k) ≡ Some (behind (suc k))
       on k h =
           let e : length l - 1 - k ≡ suc (length l - 1 - suc k) = omega arith in
           rw e (previous_is repeat (length l - 1 - suc k) (omega arith))
 
-      over : (k : ℕ) → suc k ≡ length l → step_previous repeat l (behind k) ≡ pick repeat (At (behind 0)) Nothing
+      over : (k : ℕ) → suc k ≡ length l → step_previous repeat l (behind k) ≡ pick repeat (Some (behind 0)) None
       over k h =
           let e : length l - 1 - k ≡ 0 = omega arith in
           let z : length l - 1 - 0 ≡ length l - 1 = omega arith in
@@ -140,7 +139,7 @@ module _ (l : List ℕ) (apart : (k : ℕ) → k < length l → place (get_or l 
   unfolding move_in place_after
   move_is Previous repeat zero h = previous_over repeat h ∙ end repeat
     where
-      end : (r : Bool) → pick r (At (get_or l (length l - 1) 0)) Nothing ≡ then (pick r (At (length l - 1)) Nothing) (at l)
+      end : (r : Bool) → pick r (Some (get_or l (length l - 1) 0)) None ≡ then (pick r (Some (length l - 1)) None) (at l)
       end true = sym (at_is l (length l - 1) (omega arith))
       end false = refl
   move_is Previous repeat (suc k) h =
@@ -152,7 +151,7 @@ module _ (l : List ℕ) (apart : (k : ℕ) → k < length l → place (get_or l 
       (λ q. rw (lt-ltb (k + 1) (length l) (omega arith), add-one) (next_is repeat k q ∙ sym (at_is l (suc k) q)))
       (eq-or-lt_of_le h)
     where
-      end : (r : Bool) → pick r (At (get_or l 0 0)) Nothing ≡ then (pick r (At 0) Nothing) (at l)
+      end : (r : Bool) → pick r (Some (get_or l 0 0)) None ≡ then (pick r (Some 0) None) (at l)
       end true = sym (at_is l 0 (omega arith))
       end false = refl
   move_is First repeat k h = refl

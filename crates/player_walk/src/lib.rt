@@ -5,12 +5,6 @@ ghost use Rattle.std.specs.Prelude.{◌≡◌, ◌<◌};
 ghost use Rattle.player_walk.specs.Signed.{signed_word, is_negative};
 ghost use Rattle.player_walk.specs.Places.{way_of, wrap, mirror, goto_place, place_after};
 
-#[derive(Clone, Copy)]
-pub enum Near {
-    At(usize),
-    Nothing,
-}
-
 // The five moves. Goto carries a signed number, as its word in two's complement.
 #[derive(Clone, Copy)]
 pub enum Step {
@@ -30,12 +24,14 @@ pub enum Way {
 }
 
 // Whether the number of a word is below 0.
+#[tactic(auto, using(crate::proofs::Ways::negative))]
 pub fn is_negative(word: u32) -> bool
     ensures { result ≡ is_negative (signed_word word) }
 {
     0x8000_0000 <= word
 }
 
+#[tactic(auto, using(crate::proofs::Ways::stays, crate::proofs::Ways::ahead, crate::proofs::Ways::back))]
 pub fn way_of(word: u32) -> Way
     ensures { result ≡ way_of (signed_word word) }
 {
@@ -49,40 +45,36 @@ pub fn way_of(word: u32) -> Way
 }
 
 // The place that m steps lead to from the first of len places. Only where the list repeats is m folded by len.
-fn wrapped(repeat: bool, len: usize, m: usize) -> Near
+fn wrapped(repeat: bool, len: usize, m: usize) -> Option<usize>
     requires { 0 < len }
     ensures { result ≡ wrap repeat len m }
 {
     if repeat {
-        return Near::At(m % len);
+        return Some(m % len);
     }
     if m < len {
-        return Near::At(m);
+        return Some(m);
     }
-    Near::Nothing
+    None
 }
 
 // The same place counted from the other end.
-fn mirrored(len: usize, p: Near) -> Near
+fn mirrored(len: usize, p: Option<usize>) -> Option<usize>
     ensures { result ≡ mirror len p }
 {
-    match p {
-        Near::At(k) => {
-            if k < len {
-                return Near::At(len - 1 - k);
-            }
-            Near::Nothing
-        }
-        Near::Nothing => Near::Nothing,
+    let k = p?;
+    if k < len {
+        return Some(len - 1 - k);
     }
+    None
 }
 
-fn goto_place(repeat: bool, len: usize, k: usize, way: Way) -> Near
+fn goto_place(repeat: bool, len: usize, k: usize, way: Way) -> Option<usize>
     requires { 0 < len }
     ensures { result ≡ goto_place repeat len k way }
 {
     match way {
-        Way::Stay => Near::At(k),
+        Way::Stay => Some(k),
         Way::Ahead(m) => wrapped(repeat, len, ground::wide_word(m)),
         Way::Back(m) => {
             let p = wrapped(repeat, len, ground::wide_word(m));
@@ -92,31 +84,32 @@ fn goto_place(repeat: bool, len: usize, k: usize, way: Way) -> Near
 }
 
 // The place that a move leads to from place k of len.
-pub fn place_after(step: Step, repeat: bool, len: usize, k: usize) -> Near
+#[tactic(auto, unfolding(crate::specs::Places::place_after))]
+pub fn place_after(step: Step, repeat: bool, len: usize, k: usize) -> Option<usize>
     requires { k < len }
     ensures { result ≡ place_after step repeat len k }
 {
     match step {
         Step::Previous => {
             if 0 < k {
-                return Near::At(k - 1);
+                return Some(k - 1);
             }
             if repeat {
-                return Near::At(len - 1);
+                return Some(len - 1);
             }
-            Near::Nothing
+            None
         }
         Step::Next => {
             if k + 1 < len {
-                return Near::At(k + 1);
+                return Some(k + 1);
             }
             if repeat {
-                return Near::At(0);
+                return Some(0);
             }
-            Near::Nothing
+            None
         }
-        Step::First => Near::At(0),
-        Step::Last => Near::At(len - 1),
+        Step::First => Some(0),
+        Step::Last => Some(len - 1),
         Step::Goto(n) => {
             let w = way_of(n);
             goto_place(repeat, len, k, w)

@@ -7,7 +7,4 @@ use Rattle.player_groups.specs.Family.{is_sibling}
 use Rattle.player_groups.proofs.siblings_below.Given as goal
 
 abbrev pub invariant-loop-i : goal.invariant-loop-i
-invariant-loop-i l = (l.i ≤ l.end) × (l.n ≤ l.i) × (l.n + length (those (is_sibling l.groups l.g.0) (span l.i (l.end - l.i))) ≡ length (those (is_sibling l.groups l.g.0) (span 0 l.end)))
-
-abbrev pub decreases-loop-i : goal.decreases-loop-i
-decreases-loop-i l = l.end - l.i
+invariant-loop-i l = (l.n ≤ l.i) × (l.n + length (those (is_sibling l.groups l.g.0) (span l.i (l.i-end - l.i))) ≡ length (those (is_sibling l.groups l.g.0) (span 0 l.i-end)))

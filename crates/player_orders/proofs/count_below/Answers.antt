@@ -1,5 +1,4 @@
 -- `player_orders::count_below`: what is counted so far and the keys below x in the rest of the run are together those of the whole run.
-use Prim.Native.Nat.{◌-◌}
 use borrow.Author.Tests.{lt-ltb, le-ltb}
 use borrow.Author.Rules.{rules}
 use Rattle.player_orders.specs.Keys.{key_of}
@@ -10,15 +9,15 @@ use Rattle.player_orders.proofs.count_below.Goals as goal
 pub loop-i-init : goal.loop-i-init
 loop-i-init c =
     let a = c.args in
-    (search rules, search rules, search rules, whole (key_of a.by a.tracks.now) a.x a.first.0 a.count)
+    (search rules, whole (key_of a.by a.tracks.now) a.x a.first.0 a.count)
 
 pub loop-i-preserved : goal.loop-i-preserved
 loop-i-preserved c =
     elim c.if-less.branch [
-      | then-less w ↦ (search rules, search rules, search rules, rw w.n-is (counts _ _ _ _ _ _ _ c.loop-i-test.true c.key-y.ensures.0 c.loop-i.invariant.3 (lt-ltb _ _ w.if-less.true)))
-      | else-less w ↦ (search rules, search rules, search rules, rw w.n-is (passes _ _ _ _ _ _ _ c.loop-i-test.true c.key-y.ensures.0 c.loop-i.invariant.3 (le-ltb _ _ w.if-less.false)))
+      | then-less w ↦ (search rules, rw w.n-is (counts _ _ _ _ _ _ _ c.loop-i-test.true c.key-y.ensures.0 c.loop-i.invariant.1 (lt-ltb _ _ w.if-less.true)))
+      | else-less w ↦ (search rules, rw w.n-is (passes _ _ _ _ _ _ _ c.loop-i-test.true c.key-y.ensures.0 c.loop-i.invariant.1 (le-ltb _ _ w.if-less.false)))
     ]
 
 pub returns : goal.returns
 returns c =
-    counted _ _ _ _ _ _ c.loop-i-test.false c.loop-i.invariant.3
+    counted _ _ _ _ _ _ c.loop-i-test.false c.loop-i.invariant.1

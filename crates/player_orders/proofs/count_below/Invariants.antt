@@ -7,7 +7,4 @@ use Rattle.player_orders.proofs.count_below.Given as goal
 
 abbrev pub invariant-loop-i : goal.invariant-loop-i
 invariant-loop-i l =
-    (l.initial.i ≤ l.i) × (l.i ≤ l.end) × (l.n ≤ l.i) × (l.n + below (key_of l.by l.tracks) l.x (span l.i (l.end - l.i)) ≡ below (key_of l.by l.tracks) l.x (span l.initial.i l.count))
-
-abbrev pub decreases-loop-i : goal.decreases-loop-i
-decreases-loop-i l = l.end - l.i
+    (l.n ≤ l.i) × (l.n + below (key_of l.by l.tracks) l.x (span l.i (l.end - l.i)) ≡ below (key_of l.by l.tracks) l.x (span l.initial.i l.count))

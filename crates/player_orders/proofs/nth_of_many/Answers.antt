@@ -1,12 +1,11 @@
 -- `player_orders::nth_of_many`: the key at place k stays in the range, which is halved until as many keys as k are below its middle.
 use mathlib.Core.Path.{sym, ap, ◌∙◌}
 use mathlib.Core.Logic.{⊎_elim}
-use Prim.Native.Nat.{◌-◌}
 use native.Mathlib.Nat.{eq-or-lt_of_le}
 use borrow.Author.Rules.{rules}
 use Rattle.player_walk.specs.Steps.{at}
 use Rattle.player_orders.specs.Order.{ordered}
-use Rattle.player_orders.proofs.Halve.{goal, starts, up, down}
+use Rattle.player_orders.proofs.Halve.{starts, up, down}
 use Rattle.player_orders.proofs.nth_of_many.Goals as goal
 
 pub loop-by-init : goal.loop-by-init

@@ -1,23 +1,16 @@
--- `player_segments::not_above`: halving keeps the starts not above x on the left and the others on the right.
-use Prim.Native.Nat.{◌+◌, ◌-◌, ◌/◌}
-use native.Mathlib.Omega.{arith}
-use Rattle.player_segments.proofs.Cuts.{bracket, up, down, closed}
+-- `player_segments::not_above`: the starts rise, so those not above x stand before the others.
+use Rattle.std.proofs.Common.{leb, leb-true, leb-false, arith, rules}
+use Rattle.std.proofs.lemmas.List.Sorted.{IsPartitionPoint-from_clause, IsPartitionedBy-leb, IsNonDecreasingBy-from_default}
+use Rattle.player_segments.proofs.Cuts.{rises_le}
 use Rattle.player_segments.proofs.not_above.Goals as goal
-
-pub loop-lo-init : goal.loop-lo-init
-loop-lo-init c =
-    bracket _ _
-
-pub loop-lo-preserved-then-starts-mid : goal.loop-lo-preserved-then-starts-mid
-loop-lo-preserved-then-starts-mid c =
-    let l = c.loop-lo in
-    up _ _ l.lo l.hi (l.lo + (l.hi - l.lo) / 2) c.requires.rise l.invariant (omega arith) (omega arith) c.if-starts-mid.true
-
-pub loop-lo-preserved : goal.loop-lo-preserved
-loop-lo-preserved c =
-    let l = c.loop-lo in
-    down _ _ l.lo l.hi (l.lo + (l.hi - l.lo) / 2) c.requires.rise l.invariant (omega arith) (omega arith) c.if-starts-mid.false
 
 pub returns : goal.returns
 returns c =
-    closed _ _ _ _ c.loop-lo.invariant c.loop-lo-test.false
+    let s = c.args.starts.now in
+    let parted = IsPartitionedBy-leb (λ y. y) s c.args.x.0 (IsNonDecreasingBy-from_default (λ y. y) s 0 (λ i j. rises_le s c.requires.rise j i)) in
+    let point = IsPartitionPoint-from_clause (λ y. leb y c.args.x.0) s _ c.partition_point.ensures.partitioned parted (λ a r q k. search rules) in
+    record {
+      within = c.partition_point.ensures.bound;
+      low = λ k h. leb-true _ _ (point.0 k 0 (omega arith) h);
+      high = λ k a h. leb-false _ _ (point.1 k 0 a h);
+    }

@@ -12,4 +12,4 @@ returns-then-order-le2 c =
 pub returns : goal.returns
 returns c =
     let a = c.args in
-    c.along_run-2.ensures ∙ walked_run a.order a.tracks.now _ a.first.0 a.count a.t.0 c.requires _ c.by_of-by.ensures (omega arith) a.n a.allowed
+    c.along_run-2.ensures ∙ walked_run a.order a.tracks.now _ a.first.0 a.count a.t.0 c.requires _ c.from-by.ensures (omega arith) a.n a.allowed

@@ -6,10 +6,7 @@ use Rattle.player_segments.specs.Segments.{near_position}
 use Rattle.player_steps.specs.Stepping.{along_segments}
 use Rattle.player_steps.proofs.segments_on.Given as goal
 
-abbrev pub invariant-loop-left : goal.invariant-loop-left
-invariant-loop-left l =
+abbrev pub invariant-loop-i : goal.invariant-loop-i
+invariant-loop-i l =
     (0 < l.made) × (l.made ≤ l.allowed)
-    × (more l.made (steps (along_segments l.starts (near_position l.past) l.step) (l.allowed - l.made) l.left l.at.0) ≡ more 1 (steps (along_segments l.starts (near_position l.past) l.step) (l.allowed - 1) l.wanted l.initial.at.0))
-
-abbrev pub decreases-loop-left : goal.decreases-loop-left
-decreases-loop-left l = l.left
+    × (more l.made (steps (along_segments l.starts (near_position l.past) l.step) (l.allowed - l.made) (l.wanted - l.i) l.at.0) ≡ more 1 (steps (along_segments l.starts (near_position l.past) l.step) (l.allowed - 1) l.wanted l.initial.at.0))
