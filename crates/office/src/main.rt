@@ -16,7 +16,10 @@
 ghost use Rattle.std.specs.Prelude.{◌-◌, ◌<◌, ◌≤◌, length};
 ghost use Rattle.desk_slots.specs.Slots.{slot_count};
 
-use desk_replies::Answer;
+use catalogue_titles::{Loan, Part};
+use desk_goto::Arrival;
+use desk_replies::Reply;
+use ground::{Carried, Refusal};
 
 // "Groups: 0 (no tracks), 1 (tracks 0–2), 2 (none), 3 (track 3); parents 0."
 const GROUPS: [u32; 12] = [0, 0, 0, 0, 0, 3, 0, 3, 0, 0, 3, 1];
@@ -96,23 +99,13 @@ struct Ask {
     octet: u8,
     number: u32,
     room: usize,
-    // Whether nothing is renamed, and else how many words of the titles are entries.
-    plain: bool,
-    entries: usize,
-}
-
-fn at_most(n: usize, most: usize) -> usize
-    ensures { result ≤ most }
-{
-    if n < most {
-        return n;
-    }
-    most
+    // How many words of the titles are entries; none where nothing is renamed.
+    entries: Option<usize>,
 }
 
 // The first n octets, or all where there are fewer.
 fn front(s: &[u8], n: usize) -> &[u8] {
-    let e = at_most(n, s.len());
+    let e = n.min(s.len());
     &s[0..e]
 }
 
@@ -158,10 +151,8 @@ fn write_octet(x: u8) {
 }
 
 fn write_octets(s: &[u8]) {
-    let mut i: usize = 0;
-    while i < s.len() {
-        write_octet(s[i]);
-        i += 1;
+    for octet in s {
+        write_octet(*octet);
     }
 }
 
@@ -226,10 +217,8 @@ fn write_slot(w: u32, s: u32)
 
 // The characteristics of a word of slots.
 fn write_slots(w: u32) {
-    let mut s: u32 = 0;
-    while s < desk_slots::SLOTS {
+    for s in 0..desk_slots::SLOTS {
         write_slot(w, s);
-        s += 1;
     }
 }
 
@@ -297,50 +286,57 @@ fn write_refused(number: u32) {
 }
 
 // A refusal: its number, and what it carries.
-fn refuse(r: ground::Refusal) {
-    write_refused(r.number);
-    let carried = r.carried;
-    match carried {
-        ground::Carried::Nothing => {}
-        ground::Carried::One(offset) => {
+fn refuse(refusal: Refusal) {
+    write_refused(u32::from(refusal.reason));
+    match refusal.carried {
+        Carried::Nothing => {}
+        Carried::One(offset) => {
             write_place(offset);
         }
-        ground::Carried::Two(track, offset) => {
+        Carried::Two(track, offset) => {
             write_place(track);
             write_place(offset);
         }
     }
 }
 
-fn write_answer(answer: Answer) {
-    match answer {
-        Answer::Done => {
+fn write_reply(reply: Reply) {
+    match reply {
+        Reply::Done => {
             io::write_all(1, b"done");
         }
-        Answer::Octets(_) => {
+        Reply::Octets(_) => {
             io::write_all(1, b"read");
         }
-        Answer::Served(who, service, characteristic, _) => {
+        Reply::Served(who, service, characteristic, _) => {
             io::write_all(1, b"take");
             write_number(who);
             write_number(service);
             write_number(characteristic);
         }
-        Answer::Handed(service, characteristic, _) => {
+        Reply::Handed(service, characteristic, _) => {
             io::write_all(1, b"own take");
             write_number(service);
             write_number(characteristic);
         }
-        Answer::Refused(r) => {
-            refuse(r);
+    }
+}
+
+fn write_answer(answer: Result<Reply, Refusal>) {
+    match answer {
+        Ok(reply) => {
+            write_reply(reply);
+        }
+        Err(refusal) => {
+            refuse(refusal);
         }
     }
 }
 
 // "Nothing owed: the answer says so and nothing changes."
-fn write_taken(answer: Answer) {
+fn write_taken(answer: Result<Reply, Refusal>) {
     match answer {
-        Answer::Done => {
+        Ok(Reply::Done) => {
             io::write_all(1, b"nothing");
         }
         _ => {
@@ -350,9 +346,9 @@ fn write_taken(answer: Answer) {
 }
 
 // Which text the title is a part of, where it stands in it and how long it is; or the refusal.
-fn write_title(answer: Answer, part: catalogue_titles::Part) {
-    match answer {
-        Answer::Done => {
+fn write_title(title: Result<Part, Refusal>) {
+    match title {
+        Ok(part) => {
             if part.renamed {
                 io::write_all(1, b"title office");
             } else {
@@ -361,41 +357,35 @@ fn write_title(answer: Answer, part: catalogue_titles::Part) {
             write_number(part.offset);
             write_number(part.len);
         }
-        _ => {
-            write_answer(answer);
+        Err(refusal) => {
+            refuse(refusal);
         }
     }
 }
 
 // Writes the line of a call, with the state that it left.
-fn report(answer: Answer, state: &[u8; 649]) {
+fn report(answer: Result<Reply, Refusal>, state: &[u8; 649]) {
     write_answer(answer);
     write_state(state);
     io::write_all(1, b"\n");
 }
 
 // How many octets an answer says were handed out.
-fn handed(answer: Answer) -> usize {
+fn handed(answer: Result<Reply, Refusal>) -> usize {
     match answer {
-        Answer::Octets(n) => n,
-        Answer::Served(_, _, _, n) => n,
+        Ok(Reply::Octets(n)) => n,
+        Ok(Reply::Served(_, _, _, n)) => n,
         _ => 0,
     }
 }
 
 // Whether all octets are as they were lent.
 fn is_untouched(s: &[u8]) -> bool {
-    let mut same = true;
-    let mut i: usize = 0;
-    while i < s.len() {
-        same = same & (s[i] == LENT);
-        i += 1;
-    }
-    same
+    s.iter().all(|octet| *octet == LENT)
 }
 
 // The rest of the line of a read or a take, from the octets on. "lent octets behind the answer stay"
-fn report_lent(answer: Answer, state: &[u8; 649], out: &[u8; MOST_ROOM]) {
+fn report_lent(answer: Result<Reply, Refusal>, state: &[u8; 649], out: &[u8; MOST_ROOM]) {
     let whole = &out[..];
     let n = handed(answer);
     write_octets(front(whole, n));
@@ -406,25 +396,11 @@ fn report_lent(answer: Answer, state: &[u8; 649], out: &[u8; MOST_ROOM]) {
     io::write_all(1, b"\n");
 }
 
-fn read<'a>(
-    groups: &[u32],
-    tracks: &[u32],
-    segments: &[u32],
-    text: &'a [u8],
-    renames: &[u32],
-    office: &'a [u8],
-    state: &mut [u8; 649],
-    c: Ask,
-) {
+fn read(loan: &Loan, state: &mut [u8; 649], c: Ask) {
     let mut out = [LENT; MOST_ROOM];
-    let room = at_most(c.room, MOST_ROOM);
+    let room = c.room.min(MOST_ROOM);
     let answer = desk_exchange::read(
-        groups,
-        tracks,
-        segments,
-        text,
-        renames,
-        office,
+        loan,
         state,
         c.who,
         c.service,
@@ -436,63 +412,28 @@ fn read<'a>(
     report_lent(answer, state, &out);
 }
 
-fn take<'a>(
-    groups: &[u32],
-    tracks: &[u32],
-    segments: &[u32],
-    text: &'a [u8],
-    renames: &[u32],
-    office: &'a [u8],
-    state: &mut [u8; 649],
-    c: Ask,
-) {
+fn take(loan: &Loan, state: &mut [u8; 649], c: Ask) {
     let mut out = [LENT; MOST_ROOM];
-    let room = at_most(c.room, MOST_ROOM);
-    let answer = desk_take::take(
-        groups,
-        tracks,
-        segments,
-        text,
-        renames,
-        office,
-        state,
-        &mut out[0..room],
-    );
+    let room = c.room.min(MOST_ROOM);
+    let answer = desk_take::take(loan, state, &mut out[0..room]);
     write_taken(answer);
     report_lent(answer, state, &out);
 }
 
 // The title itself, as the one call hands it back, behind what the other says of it.
-fn title<'a>(
-    groups: &[u32],
-    tracks: &[u32],
-    segments: &[u32],
-    text: &'a [u8],
-    renames: &[u32],
-    office: &'a [u8],
-    state: &[u8; 649],
-    c: Ask,
-) {
-    let w = desk_title::which(
-        groups, tracks, segments, text, renames, office, state, c.service,
-    );
-    let part = desk_title::title(
-        groups, tracks, segments, text, renames, office, state, c.service,
-    );
-    let answer = w.answer;
-    let said = w.part;
-    write_title(answer, said);
-    write_octets(part);
+fn title(loan: &Loan, state: &[u8; 649], c: Ask) {
+    write_title(desk_title::which(loan, state, c.service));
+    write_octets(desk_title::title(loan, state, c.service));
     write_state(state);
     io::write_all(1, b"\n");
 }
 
 // What the manual's Goto comes to, the steps made, and where the player would be; or the refusal.
-fn write_arrival(answer: Answer, a: desk_goto::Arrival) {
-    match answer {
-        Answer::Done => {
+fn write_arrival(arrival: Result<Arrival, Refusal>) {
+    match arrival {
+        Ok(a) => {
             io::write_all(1, b"goto");
-            write_number(a.outcome as u32);
+            write_number(u32::from(a.outcome));
             write_number(a.steps);
             io::write_all(1, b" at");
             write_number(a.place.group.0);
@@ -500,40 +441,22 @@ fn write_arrival(answer: Answer, a: desk_goto::Arrival) {
             write_number(a.place.position.0);
             write_rest(a.place.rest);
         }
-        _ => {
-            write_answer(answer);
+        Err(refusal) => {
+            refuse(refusal);
         }
     }
 }
 
 // The manual's Goto: the number stands in the frame, the allowed steps and the opcode in the text.
-fn manual_goto(
-    groups: &[u32],
-    tracks: &[u32],
-    segments: &[u32],
-    text: &[u8],
-    renames: &[u32],
-    office: &[u8],
-    state: &[u8; 649],
-    c: Ask,
-    words: &[u8],
-) {
-    let s = desk_goto::manual_goto(
-        groups,
-        tracks,
-        segments,
-        text,
-        renames,
-        office,
+fn manual_goto(loan: &Loan, state: &[u8; 649], c: Ask, words: &[u8]) {
+    write_arrival(desk_goto::manual_goto(
+        loan,
         state,
         c.service,
         word(rest(words, 4)),
         c.number,
         word(words),
-    );
-    let answer = s.answer;
-    let arrival = s.arrival;
-    write_arrival(answer, arrival);
+    ));
     write_state(state);
     io::write_all(1, b"\n");
 }
@@ -742,27 +665,12 @@ fn word(s: &[u8]) -> u32 {
 }
 
 // "Start names both players at once": service 0's mask and Content Control ID stand in the frame, its name and all of service 1 in the text.
-fn start(
-    groups: &[u32],
-    tracks: &[u32],
-    segments: &[u32],
-    text: &[u8],
-    renames: &[u32],
-    office: &[u8],
-    state: &mut [u8; 649],
-    c: Ask,
-    words: &[u8],
-) {
+fn start(loan: &Loan, state: &mut [u8; 649], c: Ask, words: &[u8]) {
     let n = count_at(words, 0);
     let name = front(rest(words, 1), n);
     let other = rest(words, 1 + n);
     let answer = desk_console::start(
-        groups,
-        tracks,
-        segments,
-        text,
-        renames,
-        office,
+        loan,
         name,
         c.number,
         c.octet,
@@ -775,38 +683,19 @@ fn start(
 }
 
 // The calls of the desk itself, and notes.
-fn call_desk<'a>(
-    groups: &[u32],
-    tracks: &[u32],
-    segments: &[u32],
-    text: &'a [u8],
-    renames: &[u32],
-    office: &'a [u8],
-    state: &mut [u8; 649],
-    c: Ask,
-    words: &[u8],
-) {
+fn call_desk(loan: &Loan, state: &mut [u8; 649], c: Ask, words: &[u8]) {
     let kind = c.kind;
     match kind {
         1 => {
-            start(
-                groups, tracks, segments, text, renames, office, state, c, words,
-            );
+            start(loan, state, c, words);
         }
         2 => {
-            let answer = desk_console::set_name(
-                groups, tracks, segments, text, renames, office, state, c.service, words,
-            );
+            let answer = desk_console::set_name(loan, state, c.service, words);
             report(answer, state);
         }
         3 => {
             let answer = desk_console::activate(
-                groups,
-                tracks,
-                segments,
-                text,
-                renames,
-                office,
+                loan,
                 state,
                 c.service,
                 catalogue_tables::GroupNo(c.number),
@@ -814,15 +703,11 @@ fn call_desk<'a>(
             report(answer, state);
         }
         4 => {
-            let answer = desk_console::deactivate(
-                groups, tracks, segments, text, renames, office, state, c.service,
-            );
+            let answer = desk_console::deactivate(loan, state, c.service);
             report(answer, state);
         }
         5 => {
-            let answer = desk_console::advance(
-                groups, tracks, segments, text, renames, office, state, c.service, c.number,
-            );
+            let answer = desk_console::advance(loan, state, c.service, c.number);
             report(answer, state);
         }
         _ => {
@@ -832,100 +717,41 @@ fn call_desk<'a>(
 }
 
 // The calls of the clients, and damage.
-fn call_client<'a>(
-    groups: &[u32],
-    tracks: &[u32],
-    segments: &[u32],
-    text: &'a [u8],
-    renames: &[u32],
-    office: &'a [u8],
-    state: &mut [u8; 649],
-    c: Ask,
-    words: &[u8],
-) {
+fn call_client(loan: &Loan, state: &mut [u8; 649], c: Ask, words: &[u8]) {
     let kind = c.kind;
     let characteristic = ground::wide_octet(c.octet);
     match kind {
         6 => {
-            let answer = desk_links::connect(
-                groups,
-                tracks,
-                segments,
-                text,
-                renames,
-                office,
-                state,
-                c.who,
-                c.number,
-                c.octet != 0,
-            );
+            let answer = desk_links::connect(loan, state, c.who, c.number, c.octet != 0);
             report(answer, state);
         }
         7 => {
-            let answer = desk_links::disconnect(
-                groups, tracks, segments, text, renames, office, state, c.who,
-            );
+            let answer = desk_links::disconnect(loan, state, c.who);
             report(answer, state);
         }
         8 => {
-            let answer = desk_links::subscribe(
-                groups,
-                tracks,
-                segments,
-                text,
-                renames,
-                office,
-                state,
-                c.who,
-                c.service,
-                characteristic,
-            );
+            let answer = desk_links::subscribe(loan, state, c.who, c.service, characteristic);
             report(answer, state);
         }
         9 => {
-            let answer = desk_links::unsubscribe(
-                groups,
-                tracks,
-                segments,
-                text,
-                renames,
-                office,
-                state,
-                c.who,
-                c.service,
-                characteristic,
-            );
+            let answer = desk_links::unsubscribe(loan, state, c.who, c.service, characteristic);
             report(answer, state);
         }
         10 => {
-            read(groups, tracks, segments, text, renames, office, state, c);
+            read(loan, state, c);
         }
         11 => {
-            let answer = desk_exchange::write(
-                groups,
-                tracks,
-                segments,
-                text,
-                renames,
-                office,
-                state,
-                c.who,
-                c.service,
-                characteristic,
-                words,
-            );
+            let answer = desk_exchange::write(loan, state, c.who, c.service, characteristic, words);
             report(answer, state);
         }
         12 => {
-            take(groups, tracks, segments, text, renames, office, state, c);
+            take(loan, state, c);
         }
         15 => {
-            title(groups, tracks, segments, text, renames, office, state, c);
+            title(loan, state, c);
         }
         16 => {
-            manual_goto(
-                groups, tracks, segments, text, renames, office, state, c, words,
-            );
+            manual_goto(loan, state, c, words);
         }
         _ => {
             damaged(state, c);
@@ -939,91 +765,63 @@ fn left(state: &[u8; 649]) -> desk_state::Desk {
 }
 
 // Makes a call on the octets of the state, as a caller from C does.
-fn call_with<'a>(
-    groups: &[u32],
-    tracks: &[u32],
-    segments: &[u32],
-    text: &'a [u8],
-    renames: &[u32],
-    office: &'a [u8],
-    d: desk_state::Desk,
-    c: Ask,
-    words: &[u8],
-) -> desk_state::Desk {
+fn call_with(loan: &Loan, d: desk_state::Desk, c: Ask, words: &[u8]) -> desk_state::Desk {
     let mut state = [0u8; 649];
     mcs_state::encode(d, &mut state);
     if c.kind < 6 {
-        call_desk(
-            groups, tracks, segments, text, renames, office, &mut state, c, words,
-        );
+        call_desk(loan, &mut state, c, words);
     } else {
-        call_client(
-            groups, tracks, segments, text, renames, office, &mut state, c, words,
-        );
+        call_client(loan, &mut state, c, words);
     }
     left(&state)
 }
 
 // Fills the table with the little endian words of s.
 fn read_words(table: &mut [u32; MOST_RENAMES], s: &[u8]) {
-    let mut i: usize = 0;
-    while i < MOST_RENAMES {
+    for i in 0..MOST_RENAMES {
         table[i] = word(rest(s, i * 4));
-        i += 1;
     }
 }
 
 // The first n words, or all where there are fewer.
 fn front_of_words(table: &[u32; MOST_RENAMES], n: usize) -> &[u32] {
     let whole = &table[..];
-    let e = at_most(n, whole.len());
+    let e = n.min(whole.len());
     &whole[0..e]
 }
 
 // The office's text, behind the words of the entries.
 fn office_of(titles: &[u8], entries: usize) -> &[u8] {
-    rest(titles, at_most(entries, MOST_RENAMES) * 4)
+    rest(titles, entries.min(MOST_RENAMES) * 4)
 }
 
 // Makes a call with the titles that are lent by now.
-fn call<'a>(
+fn call(
     groups: &[u32],
     tracks: &[u32],
     segments: &[u32],
-    text: &'a [u8],
-    titles: &'a [u8],
+    text: &[u8],
+    titles: &[u8],
     d: desk_state::Desk,
     c: Ask,
     words: &[u8],
 ) -> desk_state::Desk {
-    if c.plain {
-        let zeros = [0u32; 512];
-        let n = at_most(catalogue_tables::track_count(tracks), 256) * 2;
-        return call_with(
-            groups,
-            tracks,
-            segments,
-            text,
-            &zeros[0..n],
-            front(titles, 0),
-            d,
-            c,
-            words,
-        );
-    }
     let mut renames = [0u32; MOST_RENAMES];
-    read_words(&mut renames, titles);
-    call_with(
-        groups,
-        tracks,
-        segments,
-        text,
-        front_of_words(&renames, c.entries),
-        office_of(titles, c.entries),
-        d,
-        c,
-        words,
-    )
+    let zeros = [0u32; 512];
+    let mut loan = Loan {
+        groups: groups,
+        tracks: tracks,
+        segments: segments,
+        text: text,
+        renames: &zeros[0..(catalogue_tables::track_count(tracks).min(256) * 2)],
+        office: front(titles, 0),
+    };
+    if let Some(entries) = c.entries {
+        read_words(&mut renames, titles);
+        loan.renames = front_of_words(&renames, entries);
+        loan.office = office_of(titles, entries);
+    }
+    call_with(&loan, d, c, words)
 }
 
 // 64 groups, of which the last has all tracks, and 256 tracks of duration 0, without segments and with empty titles.
@@ -1121,11 +919,11 @@ fn titles_of(s: &[u8]) -> &[u8] {
     front(rest(s, 12), text_length(s))
 }
 
-fn report_titles(titles: &[u8], plain: bool, entries: usize) {
-    if plain {
+fn report_titles(titles: &[u8], lent: Option<usize>) {
+    let Some(entries) = lent else {
         io::write_all(1, b"titles none\n");
         return;
-    }
+    };
     let office = office_of(titles, entries);
     io::write_all(1, b"titles");
     write_place(entries);
@@ -1133,19 +931,13 @@ fn report_titles(titles: &[u8], plain: bool, entries: usize) {
     io::write_all(1, b"\n");
 }
 
-// Makes the call of the first frame, with these titles; `plain` says that nothing is renamed, and else so many words of them are entries.
-fn frame(
-    s: &[u8],
-    titles: &[u8],
-    plain: bool,
-    entries: usize,
-    d: desk_state::Desk,
-) -> desk_state::Desk {
+// Makes the call of the first frame, with these titles, of which so many words are entries.
+fn frame(s: &[u8], titles: &[u8], entries: Option<usize>, d: desk_state::Desk) -> desk_state::Desk {
     if s.len() < 12 {
         return d;
     }
     if lends(s) {
-        report_titles(titles, plain, entries);
+        report_titles(titles, entries);
         return d;
     }
     let catalogue = s[0];
@@ -1162,7 +954,6 @@ fn frame(
         octet: octet,
         number: number,
         room: room,
-        plain: plain,
         entries: entries,
     };
     let words = front(rest(s, 12), text_length(s));
@@ -1182,16 +973,20 @@ fn frames(s: &[u8]) {
     let mut d = desk_state::fresh_desk(p, p);
     let mut left = s;
     let mut titles = s;
-    let mut plain = true;
-    let mut entries: usize = 0;
+    let mut entries: Option<usize> = None;
+    // Stays a while: a turn goes on by the length of a frame.
     while 0 < left.len() {
         if lends(left) {
             let lent = titles_of(left);
             titles = &lent[0..];
-            plain = count_at(left, 4) == 1;
-            entries = ground::wide_word(word(rest(left, 5)));
+            let words = ground::wide_word(word(rest(left, 5)));
+            entries = if count_at(left, 4) == 1 {
+                None
+            } else {
+                Some(words)
+            };
         }
-        d = frame(left, titles, plain, entries, d);
+        d = frame(left, titles, entries, d);
         let after = behind(left);
         left = &after[0..];
     }
