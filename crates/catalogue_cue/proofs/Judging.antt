@@ -8,10 +8,13 @@ use native.Mathlib.Numerals.{add-one}
 use native.Mathlib.Omega.{arith}
 use lib.ListN.{length, get_or}
 use Rattle.ground.specs.Cases.{pick}
-use Rattle.ground.specs.Refusals.{Said, refused_with}
+use Rattle.ground.specs.Refusals.{Said, number_of, refused_with}
 use Rattle.catalogue_cue.specs.declared.Line.{Line}
 use Rattle.catalogue_cue.specs.declared.Line.TheVariants.{Start, Passed, NotUnderstood}
-use Rattle.catalogue_cue.specs.declared.Weighed.{Weighed}
+use Rattle.std.specs.Prelude.{Result, Ok, Err}
+use Rattle.ground.specs.declared.Reason.{Reason}
+use Rattle.ground.specs.declared.Reason.TheVariants.{NotRising}
+use Rattle.catalogue_cue.specs.declared.Starts.{Starts}
 use Rattle.catalogue_cue.specs.Sheet.{line_of, sheet_lines, starts_of, may_follow}
 use Rattle.catalogue_cue.specs.Scan.{lines_from, ReadAt, rises, weighed_of, judged}
 use Rattle.catalogue_cue.proofs.Lines.{from_zero, from_beyond}
@@ -24,19 +27,34 @@ rises_is before count last start m l = rw (sym m, sym l) (by before)
     by [] = refl
     by (x ∷ b) = refl
 
+-- of two answers, an `Ok` is no `Err`; and what each holds
+apart : {s : Starts} {r : Reason} → ◌≡◌ {A = Result Starts Reason} (Ok s) (Err r) → ⊥
+apart e = let z : ◌≡◌ {A = ℕ} 0 1 = ap kind e in absurd (omega arith)
+  where
+    kind : Result Starts Reason → ℕ
+    kind (Ok s) = 0
+    kind (Err r) = 1
+
+told : {r q : Reason} → ◌≡◌ {A = Result Starts Reason} (Err r) (Err q) → number_of r ≡ number_of q
+told {r} {q} e = ap number e
+  where
+    number : Result Starts Reason → ℕ
+    number (Ok s) = 0
+    number (Err r) = number_of r
+
+kept : {s q : Starts} → ◌≡◌ {A = Result Starts Reason} (Ok s) (Ok q) → s ≡ q
+kept {s} {q} e = ap starts e
+  where
+    starts : Result Starts Reason → Starts
+    starts (Ok s) = s
+    starts (Err r) = q
+
 pub record Judging (sheet : List ℕ) (behind : Said) (at number count last : ℕ) : Type 0 where
   pub before : List ℕ
   pub many : length before ≡ count
   pub latest : get_or before 0 0 ≡ last
   pub left : judged number before (map line_of (lines_from sheet at)) behind ≡ judged 1 [] (sheet_lines sheet) behind
   pub total : count + length (starts_of (map line_of (lines_from sheet at))) ≡ length (starts_of (sheet_lines sheet))
-
--- what a line that was weighed tells
-pub record Turned (sheet : List ℕ) (behind : Said) (number count next : ℕ) (w : Weighed) : Type 0 where
-  pub bad : w.fault ≡ 1 → refused_with 226 (number ∷ []) ≡ judged 1 [] (sheet_lines sheet) behind
-  pub fallen : w.fault ≡ 2 → refused_with 227 (number ∷ []) ≡ judged 1 [] (sheet_lines sheet) behind
-  pub goes : (w.fault ≡ 1 → ⊥) → (w.fault ≡ 2 → ⊥) → Judging sheet behind next (number + 1) w.count w.last
-  pub counts : w.count ≤ count + 1
 
 pub judging_starts : (sheet : List ℕ) (behind : Said) → Judging sheet behind 0 1 0 0
 judging_starts sheet behind =
@@ -78,53 +96,59 @@ module _ {sheet : List ℕ} {behind : Said} {at number count last : ℕ} (J : Ju
     abbrev said : ℕ → Said
     said n = refused_with n (number ∷ [])
 
-    module _ (whole : Said) where
-      bad : (ln : Line) → judged number J.before (ln ∷ rest) behind ≡ whole → (weighed_of ln count last).fault ≡ 1 → said 226 ≡ whole
-      unfolding judged
-      bad Passed j f = absurd (omega arith)
-      bad NotUnderstood j f = j
-      bad (Start n) j f = by (rises count last n) f
-        where
-          by : (t : Bool) → pick {A = ℕ} t 0 2 ≡ 1 → said 226 ≡ whole
-          by true e = absurd (omega arith)
-          by false e = absurd (omega arith)
+    abbrev so_far : Starts
+    so_far = record { count = count; last = last }
 
-      fallen : (ln : Line) → judged number J.before (ln ∷ rest) behind ≡ whole → (weighed_of ln count last).fault ≡ 2 → said 227 ≡ whole
-      unfolding judged
-      fallen Passed j f = absurd (omega arith)
-      fallen NotUnderstood j f = absurd (omega arith)
-      fallen (Start n) j f = by (rises count last n) (rises_is J.before count last n J.many J.latest) f
-        where
-          by : (t : Bool) → t ≡ may_follow J.before n → pick {A = ℕ} t 0 2 ≡ 2 → said 227 ≡ whole
-          by true e g = absurd (omega arith)
-          by false e g = rw (sym e) at j
-
-    goes_on : (ln : Line) → judged number J.before (ln ∷ rest) behind ≡ judged 1 [] (sheet_lines sheet) behind
-        → count + length (starts_of (ln ∷ rest)) ≡ length (starts_of (sheet_lines sheet))
-        → ((weighed_of ln count last).fault ≡ 1 → ⊥) → ((weighed_of ln count last).fault ≡ 2 → ⊥)
-        → Judging sheet behind next (number + 1) (weighed_of ln count last).count (weighed_of ln count last).last
-    unfolding judged starts_of rest
-    goes_on Passed j t a b = record { before = J.before; many = J.many; latest = J.latest; left = rw add-one j; total = t }
-    goes_on NotUnderstood j t a b = absurd (a refl)
-    goes_on (Start n) j t a b = by (rises count last n) (rises_is J.before count last n J.many J.latest) b
+    -- a line that is refused: that is what is said of the sheet
+    pub refuses : (r : Reason) → Err r ≡ weighed_of line so_far → said (number_of r) ≡ judged 1 [] (sheet_lines sheet) behind
+    unfolding judged
+    refuses r e = of_line line e judged_here
       where
-        by : (u : Bool) → u ≡ may_follow J.before n → (pick {A = ℕ} u 0 2 ≡ 2 → ⊥) → Judging sheet behind next (number + 1) (count + 1) n
-        by true e g =
-            record {
-              before = n ∷ J.before;
-              many = rw add-one (ap suc J.many);
-              latest = refl;
-              left = rw add-one (rw (sym e) at j);
-              total = omega (arith, t);
-            }
-        by false e g = absurd (g refl)
+        of_line : (ln : Line) → Err r ≡ weighed_of ln so_far → judged number J.before (ln ∷ rest) behind ≡ judged 1 [] (sheet_lines sheet) behind
+            → said (number_of r) ≡ judged 1 [] (sheet_lines sheet) behind
+        of_line Passed e j = absurd (apart (sym e))
+        of_line NotUnderstood e j = ap said (told e) ∙ j
+        of_line (Start n) e j = by (rises count last n) (rises_is J.before count last n J.many J.latest) e
+          where
+            by : (t : Bool) → t ≡ may_follow J.before n → ◌≡◌ {A = Result Starts Reason} (Err r) (pick t (Ok (record { count = count + 1; last = n })) (Err NotRising))
+                → said (number_of r) ≡ judged 1 [] (sheet_lines sheet) behind
+            by true m e = absurd (apart (sym e))
+            by false m e = ap said (told e) ∙ rw (sym m) at j
 
-    counts : (ln : Line) → (weighed_of ln count last).count ≤ count + 1
-    counts Passed = omega arith
-    counts NotUnderstood = omega arith
-    counts (Start n) = omega arith
+    -- one that is not: with it the lines behind it say the whole
+    pub goes_on : (s : Starts) → Ok s ≡ weighed_of line so_far → Judging sheet behind next (number + 1) s.count s.last
+    unfolding judged starts_of rest
+    goes_on s e = of_line line e judged_here counted_here
+      where
+        of_line : (ln : Line) → Ok s ≡ weighed_of ln so_far → judged number J.before (ln ∷ rest) behind ≡ judged 1 [] (sheet_lines sheet) behind
+            → count + length (starts_of (ln ∷ rest)) ≡ length (starts_of (sheet_lines sheet)) → Judging sheet behind next (number + 1) s.count s.last
+        of_line Passed e j t =
+            let q = kept e in
+            record { before = J.before; many = J.many ∙ sym (ap (λ (x : Starts). x.count) q); latest = J.latest ∙ sym (ap (λ (x : Starts). x.last) q); left = rw add-one j; total = ap (λ (x : Starts). x.count + length (starts_of rest)) q ∙ t }
+        of_line NotUnderstood e j t = absurd (apart e)
+        of_line (Start n) e j t = by (rises count last n) (rises_is J.before count last n J.many J.latest) e
+          where
+            by : (u : Bool) → u ≡ may_follow J.before n → ◌≡◌ {A = Result Starts Reason} (Ok s) (pick u (Ok (record { count = count + 1; last = n })) (Err NotRising))
+                → Judging sheet behind next (number + 1) s.count s.last
+            by true m e =
+                let q = kept e in
+                record {
+                  before = n ∷ J.before;
+                  many = rw add-one (ap suc J.many) ∙ sym (ap (λ (x : Starts). x.count) q);
+                  latest = sym (ap (λ (x : Starts). x.last) q);
+                  left = rw add-one (rw (sym m) at j);
+                  total = omega (arith, t, ap (λ (x : Starts). x.count) q);
+                }
+            by false m e = absurd (apart e)
 
-    pub turned : {w : Weighed} → w ≡ weighed_of line count last → Turned sheet behind number count next w
-    turned {w} e =
-        rw e
-        (record { bad = bad _ line judged_here; fallen = fallen _ line judged_here; goes = goes_on line judged_here counted_here; counts = counts line })
+    pub counts : (s : Starts) → Ok s ≡ weighed_of line so_far → s.count ≤ count + 1
+    counts s e = of_line line e
+      where
+        of_line : (ln : Line) → Ok s ≡ weighed_of ln so_far → s.count ≤ count + 1
+        of_line Passed e = omega (arith, ap (λ (x : Starts). x.count) (kept e))
+        of_line NotUnderstood e = absurd (apart e)
+        of_line (Start n) e = by (rises count last n) e
+          where
+            by : (u : Bool) → ◌≡◌ {A = Result Starts Reason} (Ok s) (pick u (Ok (record { count = count + 1; last = n })) (Err NotRising)) → s.count ≤ count + 1
+            by true e = omega (arith, ap (λ (x : Starts). x.count) (kept e))
+            by false e = absurd (apart e)

@@ -1,12 +1,14 @@
 -- What the small functions find that go along a sheet (SCOPE 6). Laws in `proofs/` say how this is tied to the lines of the sheet.
 -- Assumes nothing.
-use Rattle.std.specs.Prelude.{◌≡◌, Bool, true, false, not, ◌&&◌, List, [], ◌∷◌, map, ◌⊎◌, ℕ, zero, suc, ◌+◌, ◌-◌, ◌<◌, ◌≤◌, eqb, leb, length, get_or, drop}
+use Rattle.std.specs.Prelude.{◌≡◌, Bool, true, false, not, ◌&&◌, List, [], ◌∷◌, map, ◌⊎◌, ℕ, zero, suc, ◌+◌, ◌-◌, ◌<◌, ◌≤◌, eqb, leb, length, get_or, drop, Result, Ok, Err}
 use Rattle.ground.specs.Cases.{pick}
 use Rattle.ground.specs.Lists.{part}
 use Rattle.ground.specs.Refusals.{Said, refused_with}
 use Rattle.catalogue_cue.specs.declared.Line.{Line}
 use Rattle.catalogue_cue.specs.declared.Line.TheVariants.{Start, Passed, NotUnderstood}
-use Rattle.catalogue_cue.specs.declared.Weighed.{Weighed}
+use Rattle.ground.specs.declared.Reason.{Reason}
+use Rattle.ground.specs.declared.Reason.TheVariants.{BadLine, NotRising}
+use Rattle.catalogue_cue.specs.declared.Starts.{Starts}
 use Rattle.catalogue_cue.specs.Sheet.{lf, cr, space, lines, is_start, line_of, may_follow}
 
 -- how many octets stand before the first one that passes the test
@@ -78,12 +80,11 @@ abbrev pub rises : ℕ → ℕ → ℕ → Bool
 rises zero last start = may_follow [] start
 rises (suc n) last start = may_follow (last ∷ []) start
 
--- What a line is that stands behind `count` starts, of which the last is `last`. Its fault is 0 where it is right, 1 where it is not understood, and 2 where
--- its start may not follow. Then come how many starts there are with it, and the last of them.
-abbrev pub weighed_of : Line → ℕ → ℕ → Weighed
-weighed_of Passed count last = record { fault = 0; count = count; last = last }
-weighed_of NotUnderstood count last = record { fault = 1; count = count; last = last }
-weighed_of (Start n) count last = record { fault = pick (rises count last n) 0 2; count = count + 1; last = n }
+-- the starts so far with those of one line more; or why that line is refused: it is not understood, or its start may not follow
+abbrev pub weighed_of : Line → Starts → Result Starts Reason
+weighed_of Passed starts = Ok starts
+weighed_of NotUnderstood starts = Err BadLine
+weighed_of (Start n) starts = pick (rises starts.count starts.last n) (Ok (record { count = starts.count + 1; last = n })) (Err NotRising)
 
 -- the same as the row of the lines in `Sheet`, line by line; where no line is at fault, it is what stands behind that row
 unfoldable pub judged : ℕ → List ℕ → List Line → Said → Said

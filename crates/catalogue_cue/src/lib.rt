@@ -32,10 +32,9 @@ struct LineRead {
     next: usize,
 }
 
-// What a line is behind other lines: its fault; how many starts there are with it; and the last of them.
+// The starts of the lines so far: how many, and the last of them.
 #[derive(Clone, Copy)]
-struct Weighed {
-    fault: u8,
+struct Starts {
     count: usize,
     last: u32,
 }
@@ -375,48 +374,31 @@ fn skim_line(sheet: &[u8], at: usize) -> LineRead
 }
 
 // Whether a start may follow the others (SCOPE 6.9).
-fn may_follow(count: usize, last: u32, start: u32) -> bool
-    ensures { result ≡ rises count last start }
+fn may_follow(starts: Starts, start: u32) -> bool
+    ensures { result ≡ rises starts.count starts.last start }
 {
-    if count == 0 {
+    if starts.count == 0 {
         return start == 0;
     }
-    last < start
+    starts.last < start
 }
 
-// What a line is behind `count` starts, of which the last is `last`.
-fn weigh(line: Line, count: usize, last: u32) -> Weighed
-    requires { count ≤ 65537 }
-    ensures { result ≡ weighed_of line count last }
+// The starts with those of one line more, or why the line is refused.
+fn weigh(line: Line, starts: Starts) -> Result<Starts, Reason>
+    requires { starts.count ≤ 65537 }
+    ensures { result ≡ weighed_of line starts }
 {
     match line {
-        Line::Passed => {
-            Weighed {
-                fault: 0,
-                count: count,
-                last: last,
-            }
-        }
-        Line::NotUnderstood => {
-            Weighed {
-                fault: 1,
-                count: count,
-                last: last,
-            }
-        }
+        Line::Passed => Ok(starts),
+        Line::NotUnderstood => Err(Reason::BadLine),
         Line::Start(start) => {
-            if may_follow(count, last, start) {
-                return Weighed {
-                    fault: 0,
-                    count: count + 1,
-                    last: start,
-                };
+            if !may_follow(starts, start) {
+                return Err(Reason::NotRising);
             }
-            Weighed {
-                fault: 2,
-                count: count + 1,
+            Ok(Starts {
+                count: starts.count + 1,
                 last: start,
-            }
+            })
         }
     }
 }
@@ -430,28 +412,21 @@ fn survey(sheet: &[u8], room: usize) -> Result<usize, Refusal>
     }
     let mut at: usize = 0;
     let mut number: usize = 1;
-    let mut count: usize = 0;
-    let mut last: u32 = 0;
+    let mut starts = Starts { count: 0, last: 0 };
     // Stays a while: a step is as long as its line, which is known only once the line is read.
     while at <= sheet.len() {
         let read = read_line(sheet, at);
-        let line = read.line;
-        let w = weigh(line, count, last);
-        if w.fault == 1 {
-            return Err(Reason::BadLine.at(number));
+        match weigh(read.line, starts) {
+            Ok(next) => starts = next,
+            Err(reason) => return Err(reason.at(number)),
         }
-        if w.fault == 2 {
-            return Err(Reason::NotRising.at(number));
-        }
-        count = w.count;
-        last = w.last;
         at = read.next;
         number += 1;
     }
-    if room < count {
+    if room < starts.count {
         return Err(Refusal::from(Reason::ManyStarts));
     }
-    Ok(count)
+    Ok(starts.count)
 }
 
 // Writes the start that a line gives, if it gives one, at the place n, and says which place is the next one then.

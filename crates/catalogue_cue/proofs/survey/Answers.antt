@@ -8,7 +8,7 @@ use borrow.Author.Rules.{rules}
 use Rattle.ground.specs.Refusals.{granted}
 use Rattle.ground.proofs.Cases.{past, here}
 use Rattle.catalogue_cue.proofs.Said.{cue_said_lem}
-use Rattle.catalogue_cue.proofs.Judging.{judging_starts, judging_ends, all_counted, turned}
+use Rattle.catalogue_cue.proofs.Judging.{judging_starts, judging_ends, all_counted, refuses, goes_on, counts}
 use Rattle.catalogue_cue.proofs.survey.Goals as goal
 
 pub returns-then-sheet-gt-MOST_SHEET : goal.returns-then-sheet-gt-MOST_SHEET
@@ -19,31 +19,27 @@ pub loop-at-init : goal.loop-at-init
 loop-at-init c =
     record { within = search rules; numbered = search rules; few = search rules; judging = judging_starts _ _ }
 
-pub returns-then-w-eq1 : goal.returns-then-w-eq1
-returns-then-w-eq1 c =
-    let turn = turned c.loop-at.invariant.judging c.read_line-read.ensures c.weigh-w.ensures in
-    past _ (le-ltb _ _ c.if-sheet-gt-MOST_SHEET.false) (c.at.ensures ∙ turn.bad c.if-w-eq1.true) ∙ sym (cue_said_lem _ _)
-
-pub returns-then-w-eq2 : goal.returns-then-w-eq2
-returns-then-w-eq2 c =
-    let turn = turned c.loop-at.invariant.judging c.read_line-read.ensures c.weigh-w.ensures in
-    past _ (le-ltb _ _ c.if-sheet-gt-MOST_SHEET.false) (c.at-then-w-eq2.ensures ∙ turn.fallen c.if-w-eq2.true) ∙ sym (cue_said_lem _ _)
+pub returns-in-Err : goal.returns-in-Err
+returns-in-Err c =
+    past _ (le-ltb _ _ c.if-sheet-gt-MOST_SHEET.false)
+    (c.at.ensures ∙ refuses c.loop-at.invariant.judging c.read_line-read.ensures _ c.in-Err.ensures)
+    ∙ sym (cue_said_lem _ _)
 
 pub loop-at-preserved : goal.loop-at-preserved
 loop-at-preserved c =
-    let turn = turned c.loop-at.invariant.judging c.read_line-read.ensures c.weigh-w.ensures in
-    let r = c.read_line-read.ensures in
-    record { within = r.bound; numbered = omega (arith, r.onward); few = omega (arith, turn.counts); judging = turn.goes c.if-w-eq1.false c.if-w-eq2.false }
-
-pub returns-then-room-count : goal.returns-then-room-count
-returns-then-room-count c =
     let J = c.loop-at.invariant.judging in
-    let many = rw (all_counted J c.loop-at-test.false) at c.if-room-count.true in
-    past _ (le-ltb _ _ c.if-sheet-gt-MOST_SHEET.false) (here _ (lt-ltb _ _ many) c.from-then-room-count.ensures ∙ sym (judging_ends J c.loop-at-test.false)) ∙ sym (cue_said_lem _ _)
+    let r = c.read_line-read.ensures in
+    record { within = r.bound; numbered = omega (arith, r.onward); few = omega (arith, counts J r _ c.in-Ok.ensures); judging = goes_on J r _ c.in-Ok.ensures }
+
+pub returns-then-room-starts : goal.returns-then-room-starts
+returns-then-room-starts c =
+    let J = c.loop-at.invariant.judging in
+    let many = rw (all_counted J c.loop-at-test.false) at c.if-room-starts.true in
+    past _ (le-ltb _ _ c.if-sheet-gt-MOST_SHEET.false) (here _ (lt-ltb _ _ many) c.from-then-room-starts.ensures ∙ sym (judging_ends J c.loop-at-test.false)) ∙ sym (cue_said_lem _ _)
 
 pub returns : goal.returns
 returns c =
     let J = c.loop-at.invariant.judging in
     let counted = all_counted J c.loop-at-test.false in
-    let fits = rw counted at c.if-room-count.false in
+    let fits = rw counted at c.if-room-starts.false in
     past _ (le-ltb _ _ c.if-sheet-gt-MOST_SHEET.false) (past _ (le-ltb _ _ fits) (ap (λ (n : ℕ). granted (n ∷ [])) counted) ∙ sym (judging_ends J c.loop-at-test.false)) ∙ sym (cue_said_lem _ _)

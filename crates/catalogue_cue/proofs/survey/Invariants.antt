@@ -9,8 +9,8 @@ abbrev pub invariant-loop-at : goal.invariant-loop-at
 invariant-loop-at l = record {
   within : l.at ≤ length l.sheet + 1;
   numbered : l.number ≤ l.at + 1;
-  few : l.count ≤ l.number;
-  judging : Judging l.sheet (behind_of l.sheet l.room) l.at l.number l.count l.last;
+  few : l.starts.count ≤ l.number;
+  judging : Judging l.sheet (behind_of l.sheet l.room) l.at l.number l.starts.count l.starts.last;
 }
 
 abbrev pub decreases-loop-at : goal.decreases-loop-at
