@@ -6,11 +6,10 @@ ghost use Rattle.std.specs.Prelude.{◌≤◌, length};
 ghost use Rattle.ground.specs.Limits.{most_groups};
 ghost use Rattle.player_orders.specs.Order.{Run};
 
-use card_load::Loaded;
-use catalogue_check::Catalogue;
+use ground::Refusal;
 
-fn refuse(number: u64) {
-    io::print_decimal(1, number);
+fn refuse(refusal: Refusal) {
+    io::print_decimal(1, u64::from(u32::from(refusal.reason)));
     io::write_all(1, b"\n");
 }
 
@@ -52,10 +51,8 @@ fn write_run(tracks: &[u32], first: catalogue_tables::TrackNo, count: u32)
     requires { Run (length tracks.now) first.0 count }
 {
     let mut found = player_orders::entry_track(tracks, 5, first, count);
-    let mut left = count;
-    while 0 < left {
+    for _turn in 0..count {
         found = write_found(tracks, first, count, found);
-        left -= 1;
     }
 }
 
@@ -83,10 +80,8 @@ fn write_group(groups: &[u32], tracks: &[u32], g: u32) {
 fn write_groups(groups: &[u32], tracks: &[u32], count: usize)
     requires { count ≤ most_groups }
 {
-    let mut g: usize = 0;
-    while g < count {
+    for g in 0..count {
         write_group(groups, tracks, g as u32);
-        g += 1;
     }
 }
 
@@ -94,25 +89,14 @@ fn write_groups(groups: &[u32], tracks: &[u32], count: usize)
 fn check(count: usize, groups: &[u32], tracks: &[u32], segments: &[u32], text: &[u8])
     requires { count ≤ most_groups }
 {
-    let answer = catalogue_check::check(groups, tracks, segments, text);
-    match answer {
-        Catalogue::Refused(r) => {
-            refuse(r.number as u64);
+    match catalogue_check::check(groups, tracks, segments, text) {
+        Err(refusal) => {
+            refuse(refusal);
         }
-        Catalogue::Fine => {
+        Ok(()) => {
             write_groups(groups, tracks, count);
         }
     }
-}
-
-// A count that keeps within its limit, as every count of a loaded card does.
-fn within(count: usize, limit: usize) -> usize
-    ensures { result ≤ limit }
-{
-    if count < limit {
-        return count;
-    }
-    limit
 }
 
 fn write_card(card: &[u8]) {
@@ -120,17 +104,17 @@ fn write_card(card: &[u8]) {
     let mut tracks = [0u32; 1536];
     let mut segments = [0u32; 1024];
     let mut text = [0u8; 32768];
-    let answer = card_load::load(card, &mut groups, &mut tracks, &mut segments, &mut text);
-    match answer {
-        Loaded::Refused(r) => {
-            refuse(r.number as u64);
+    match card_load::load(card, &mut groups, &mut tracks, &mut segments, &mut text) {
+        Err(refusal) => {
+            refuse(refusal);
         }
-        Loaded::Done(counts) => {
-            let n = within(counts.groups, ground::MOST_GROUPS);
+        Ok(counts) => {
+            // Every count of a loaded card keeps within its limit.
+            let n = counts.groups.min(ground::MOST_GROUPS);
             let g = n * 3;
-            let t = within(counts.tracks, ground::MOST_TRACKS) * 6;
-            let s = within(counts.segments, ground::MOST_SEGMENTS);
-            let x = within(counts.text, ground::MOST_TEXT);
+            let t = counts.tracks.min(ground::MOST_TRACKS) * 6;
+            let s = counts.segments.min(ground::MOST_SEGMENTS);
+            let x = counts.text.min(ground::MOST_TEXT);
             check(
                 n,
                 &groups[0..g],

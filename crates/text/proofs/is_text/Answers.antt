@@ -1,7 +1,7 @@
 -- `text::is_text`: an answer that is `Ok` is the one that is granted.
 use mathlib.Core.Path.{◌≡◌, refl, ap, ◌∙◌}
 use Rattle.std.specs.Prelude.{Result, Ok, Err}
-use Rattle.core.specs.Result.{is_ok}
+use Rattle.std.specs.Result.{is_ok}
 use Rattle.ground.specs.Refusals.{Said}
 use Rattle.text.specs.declared.NotText.{NotText}
 use Rattle.text.specs.Utf8.{text_said, is_fine}
