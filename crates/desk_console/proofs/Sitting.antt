@@ -15,7 +15,9 @@ use Rattle.player_moves.proofs.Ready as ready
 use Rattle.player_values.proofs.Fits.{player_sits}
 use Rattle.desk_slots.specs.Slots.{service_count}
 use Rattle.desk_state.specs.declared.Desk.{Desk}
-use Rattle.desk_replies.specs.declared.Answer.{Answer}
+use Rattle.std.specs.Prelude.{Result}
+use Rattle.ground.specs.declared.Refusal.{Refusal}
+use Rattle.desk_replies.specs.declared.Reply.{Reply}
 use Rattle.desk_replies.specs.Replies.{fronted, Answers}
 use Rattle.desk_replies.proofs.Gates as gates
 use Rattle.desk_console.specs.Console.{player_of}
@@ -38,5 +40,5 @@ module _ (k : Lent) (d : Desk) (behind : List Row) (passed : NoneApplies (fronte
   sits_after q r e kept = player_sits (catalogue_of k) right q (ap (player_rule k.groups k.tracks) e ∙ kept)
 
 -- and a call comes to what telling them comes to, where no row refuses
-pub told_so : {l m : Left Desk} {old new : List ℕ} {answer : Answer} → l ≡ m → Answers l old answer new → Answers m old answer new
+pub told_so : {l m : Left Desk} {old new : List ℕ} {answer : Result Reply Refusal} → l ≡ m → Answers l old answer new → Answers m old answer new
 told_so {l} {m} {old} {new} {answer} = subst (λ (x : Left Desk). Answers x old answer new)
