@@ -1,17 +1,17 @@
 // The calls of the desk itself, as the clients see them. Each checks catalogue and state itself, and refuses by the numbers of SCOPE 20.2.
 #![tactic(auto)]
 
-ghost use Rattle.std.specs.Prelude.{◌≡◌, ◌<◌, ◌≤◌, length};
-ghost use Rattle.catalogue_titles.specs.Lent.{lent};
+ghost use Rattle.std.specs.Prelude.{◌≡◌, true, [], ◌≤◌, length, Ok};
+ghost use Rattle.ground.specs.Refusals.{granted, said_by};
 ghost use Rattle.ground.specs.Limits.{most_title};
+ghost use Rattle.catalogue_titles.specs.Lent.{lent};
 ghost use Rattle.player_state.specs.Player.{started_player};
-ghost use Rattle.desk_slots.specs.Slots.{service_count};
+ghost use Rattle.player_check.specs.Standing.{player_rule};
 ghost use Rattle.desk_state.specs.Desk.{started_desk};
 ghost use Rattle.mcs_state.specs.Codec.{desk_of};
-ghost use Rattle.mcs_state.specs.Stored.{Plain};
-ghost use Rattle.desk_replies.specs.Replies.{Answers};
-ghost use Rattle.player_moves.specs.Moves.{Sits};
-ghost use Rattle.desk_console.specs.Console.{start_call, player_of, becoming, name_call, activate_call, deactivate_call, quiet_advance, advance_call};
+ghost use Rattle.desk_replies.specs.declared.Reply.TheVariants.{Done};
+ghost use Rattle.desk_replies.specs.Replies.{on_service, Answers};
+ghost use Rattle.desk_console.specs.Console.{start_call, becoming, name_call, activate_call, deactivate_call, quiet_advance, advance_call};
 
 use catalogue_titles::Loan;
 use desk_replies::Reply;
@@ -56,18 +56,10 @@ pub fn start(
 }
 
 // The service's player becomes q by a call of no client, and every client is told. quiet: an advance in Playing that stays below D.
-fn becoming(
-    loan: &Loan,
-    state: &mut [u8; 649],
-    service: u32,
-    q: player_state::Player,
-    quiet: bool,
-) -> Result<Reply, Refusal>
-    requires plain { Plain state.old }
-    requires service_lt_service_count { service < service_count }
-    requires sits { Sits loan.now.groups.now loan.now.tracks.now (player_of (desk_of state.old) service) }
-    requires sits_2 { Sits loan.now.groups.now loan.now.tracks.now q }
-    ensures { Answers (becoming (lent loan.now) (desk_of state.old) service quiet q) state.old result state.new }
+fn becoming(loan: &Loan, state: &mut [u8; 649], service: u32, q: player_state::Player, quiet: bool)
+    requires passed { granted [] ≡ said_by (on_service (lent loan.now) (desk_of state.old) service) }
+    requires stands { player_rule loan.now.groups.now loan.now.tracks.now q ≡ true }
+    ensures { Answers (becoming (lent loan.now) (desk_of state.old) service quiet q) state.old (Ok Done) state.new }
 {
     let cause = desk_notices::no_writer(quiet);
     let s = mcs_state::service_at(state, service);
@@ -81,8 +73,8 @@ fn becoming(
         q,
         cause,
     );
+    mcs_state::are_octets(state);
     mcs_state::put_service(state, service, told);
-    Ok(Reply::Done)
 }
 
 // Another name.
@@ -98,8 +90,8 @@ pub fn set_name(
     player_check::check_name(name)?;
     let p = mcs_state::player_at(state, service);
     let q = player_state::set_name(p, name);
-    mcs_state::are_octets(state);
-    becoming(loan, state, service, q, false)
+    becoming(loan, state, service, q, false);
+    Ok(Reply::Done)
 }
 
 // A group becomes current.
@@ -117,8 +109,8 @@ pub fn activate(
     }
     let p = mcs_state::player_at(state, service);
     let q = player_moves::activate(loan.groups, loan.tracks, p, group);
-    mcs_state::are_octets(state);
-    becoming(loan, state, service, q, false)
+    becoming(loan, state, service, q, false);
+    Ok(Reply::Done)
 }
 
 // No track is current.
@@ -128,8 +120,8 @@ pub fn deactivate(loan: &Loan, state: &mut [u8; 649], service: u32) -> Result<Re
     desk_replies::service_gate(loan, state, service)?;
     let p = mcs_state::player_at(state, service);
     let q = player_state::deactivate(p);
-    mcs_state::are_octets(state);
-    becoming(loan, state, service, q, false)
+    becoming(loan, state, service, q, false);
+    Ok(Reply::Done)
 }
 
 // Whether a step of time stays below the end of the track that plays.
@@ -155,6 +147,6 @@ pub fn advance(
     let p = mcs_state::player_at(state, service);
     let q = player_moves::advance(loan.groups, loan.tracks, p, step);
     let quiet = is_quiet(loan.tracks, p, step);
-    mcs_state::are_octets(state);
-    becoming(loan, state, service, q, quiet)
+    becoming(loan, state, service, q, quiet);
+    Ok(Reply::Done)
 }
