@@ -1,7 +1,7 @@
 -- `desk_console::start`: 200, 224, 207 of the generic player's name and then of the other's, then fresh players and nobody connected.
 use mathlib.Core.Path.{◌≡◌, refl, ap, ◌∙◌}
 use mathlib.Core.Bool.{false}
-use mathlib.Core.List.{List, [], ◌∷◌, ◌++◌}
+use mathlib.Core.List.{List, [], ◌∷◌}
 use Prim.Native.Nat.{ℕ}
 use denote.Bor.{Bor}
 use borrow.Author.Tests.{not-false}
@@ -66,9 +66,10 @@ returns-in_err-check_name-2 c =
 
 pub fresh-d-requires : goal.fresh-d-requires
 fresh-d-requires c =
-    let a = c.args in
-    (text_short _ (not-false _ (none (name_row a.name0.now ∷ []) c.in_ok-check_name.ensures refl).0),
-    text_short _ (not-false _ (none (name_row a.name1.now ∷ []) c.in_ok-check_name-2.ensures refl).0))
+    let a = c.args in (
+      text_short _ (not-false _ (none (name_row a.name0.now ∷ []) c.in_ok-check_name.ensures refl).0),
+      text_short _ (not-false _ (none (name_row a.name1.now ∷ []) c.in_ok-check_name-2.ensures refl).0),
+    )
 
 pub returns : goal.returns
 unfolding start_call
