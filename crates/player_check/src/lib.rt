@@ -13,7 +13,9 @@ pub fn check_name(name: &[u8]) -> Result<(), text::NotText>
     ensures { said_of result ≡ said_by (name_row name.now ∷ []) }
 {
     if ground::MOST_TITLE < name.len() {
-        return Err(text::NotText { at: ground::MOST_TITLE });
+        return Err(text::NotText {
+            at: ground::MOST_TITLE,
+        });
     }
     text::check(name)
 }
