@@ -30,7 +30,7 @@ pub record Sound (a : Account) : Type 0 where
 
 -- the link of a connected record, part by part
 pub record Linked (l : Link) : Type 0 where
-  pub mtu_from_lem : 23 ≤ l.mtu
+  pub mtu_from : 23 ≤ l.mtu
   pub mtu_to : l.mtu ≤ 517
   pub marked : l.mark < place_count
 
@@ -127,7 +127,7 @@ connected_linked l e q =
     let r : (mtu_right l.mtu && ltb l.mark place_count) ≡ true = here_true _ _ _ q e in
     let m = and_left (mtu_right l.mtu) (ltb l.mark place_count) r in
     record {
-      mtu_from_lem = leb-true 23 l.mtu (and_left (leb 23 l.mtu) (leb l.mtu 517) m);
+      mtu_from = leb-true 23 l.mtu (and_left (leb 23 l.mtu) (leb l.mtu 517) m);
       mtu_to = leb-true l.mtu 517 (and_right (leb 23 l.mtu) (leb l.mtu 517) m);
       marked = ltb-true l.mark place_count (and_right (mtu_right l.mtu) (ltb l.mark place_count) r);
     }
@@ -135,7 +135,7 @@ connected_linked l e q =
 pub linked_connected : (l : Link) → l.connected ≡ true → Linked l → link_rule l ≡ true
 unfolding link_rule
 linked_connected l q k =
-    sym (here _ q (sym (and_both (and_both (le-leb 23 l.mtu k.mtu_from_lem) (le-leb l.mtu 517 k.mtu_to)) (lt-ltb l.mark place_count k.marked))))
+    sym (here _ q (sym (and_both (and_both (le-leb 23 l.mtu k.mtu_from) (le-leb l.mtu 517 k.mtu_to)) (lt-ltb l.mark place_count k.marked))))
 
 -- the account of a connected client is sound, and asks for nothing where the link is not encrypted; and the way back
 pub record Fit (l : Link) (a : Account) : Type 0 where
@@ -196,7 +196,7 @@ module _ (l : Link) (e : link_rule l ≡ true) where
       )
 
   pub mtu_least : 23 ≤ l.mtu
-  mtu_least = ⊎_elim (λ q. (connected_linked l e q).mtu_from_lem) (λ q. omega (arith, (unconnected q).0)) (true_or l.connected)
+  mtu_least = ⊎_elim (λ q. (connected_linked l e q).mtu_from) (λ q. omega (arith, (unconnected q).0)) (true_or l.connected)
 
   pub mark_within : l.mark < place_count
   mark_within = ⊎_elim (λ q. (connected_linked l e q).marked) (λ q. omega (arith, (unconnected q).1)) (true_or l.connected)

@@ -55,11 +55,8 @@ fn codes_right(waiting: usize, results: [Entry; 8]) -> bool
     ensures { result ≡ codes_right waiting results }
 {
     let mut good = true;
-    let mut i: usize = 0;
-    while i < waiting {
-        let e = results[i];
+    for e in &results[..waiting] {
         good = good & ((1 <= e.code) & (e.code <= 4));
-        i += 1;
     }
     good
 }
@@ -106,6 +103,7 @@ fn account_right(a: Account) -> bool
     subscribed & owed & fresh & covered & told & few & codes
 }
 
+#[tactic(auto, unfolding(crate::specs::Client::blank_rule))]
 fn account_blank(a: Account) -> bool
     ensures { result ≡ blank_rule a }
 {
@@ -113,6 +111,7 @@ fn account_blank(a: Account) -> bool
 }
 
 // Whether a link keeps the clients' part of 201.
+#[tactic(auto, unfolding(crate::specs::Client::link_rule))]
 pub fn link_right(l: Link) -> bool
     ensures { result ≡ link_rule l }
 {
@@ -124,6 +123,7 @@ pub fn link_right(l: Link) -> bool
 }
 
 // Whether an account of a client with this link keeps it.
+#[tactic(auto, unfolding(crate::specs::Client::account_fits))]
 pub fn account_fits(l: Link, a: Account) -> bool
     ensures { result ≡ account_fits l a }
 {
@@ -139,17 +139,15 @@ fn accounts_fit(l: Link, accounts: [Account; 2]) -> bool
     ensures { result ≡ all_below service_count (λ v. account_fits l (get_or accounts v no_account)) }
 {
     let mut good = true;
-    let mut v: usize = 0;
-    while v < 2 {
-        let a = accounts[v];
-        let fits = account_fits(l, a);
+    for a in &accounts {
+        let fits = account_fits(l, *a);
         good = good & fits;
-        v += 1;
     }
     good
 }
 
 // Whether a whole record does.
+#[tactic(auto, unfolding(crate::specs::Client::client_rule))]
 pub fn client_right(c: Client) -> bool
     ensures { result ≡ client_rule c }
 {
@@ -161,6 +159,7 @@ pub fn client_right(c: Client) -> bool
 }
 
 // An account with nothing asked for and nothing owed.
+#[tactic(auto, unfolding(crate::specs::Client::blank_account))]
 pub fn blank_account() -> Account
     ensures { result ≡ blank_account }
 {
@@ -175,6 +174,7 @@ pub fn blank_account() -> Account
 }
 
 // The link of start's record.
+#[tactic(auto, unfolding(crate::specs::Client::start_link))]
 pub fn fresh_link() -> Link
     ensures { result ≡ start_link }
 {
@@ -186,6 +186,7 @@ pub fn fresh_link() -> Link
     }
 }
 
+#[tactic(auto, unfolding(crate::specs::Client::connected_link))]
 pub fn connected_link(mtu: u32, encrypted: bool) -> Link
     ensures { result ≡ connected_link mtu encrypted }
 {
@@ -209,6 +210,7 @@ pub fn blank_client(l: Link) -> Client
 }
 
 // One result more, behind those that wait.
+#[tactic(auto, unfolding(crate::specs::Queue::pushed))]
 pub fn push_result(a: Account, opcode: u8, code: u8) -> Account
     ensures { result ≡ pushed opcode code a }
 {
@@ -242,6 +244,7 @@ fn shifted(rs: [Entry; 8]) -> [Entry; 8]
 }
 
 // The oldest result is handed out.
+#[tactic(auto, unfolding(crate::specs::Queue::popped))]
 pub fn pop_result(a: Account) -> Account
     ensures { result ≡ popped a }
 {
@@ -258,6 +261,7 @@ pub fn pop_result(a: Account) -> Account
 }
 
 // The client subscribes to a slot.
+#[tactic(auto, unfolding(crate::specs::Duties::joined))]
 pub fn join(a: Account, s: u32) -> Account
     requires { s < slot_count }
     ensures { result ≡ joined s a }
@@ -268,6 +272,7 @@ pub fn join(a: Account, s: u32) -> Account
 }
 
 // The client unsubscribes from a slot, and what that owes is dropped.
+#[tactic(auto, unfolding(crate::specs::Duties::dropped))]
 pub fn leave(a: Account, s: u32) -> Account
     requires { s < slot_count }
     ensures { result ≡ dropped s a }
@@ -283,6 +288,7 @@ pub fn leave(a: Account, s: u32) -> Account
 }
 
 // Values changed: `due` are the slots that fell due, `altered` the characteristics.
+#[tactic(auto, unfolding(crate::specs::Duties::noted))]
 pub fn note(a: Account, due: u32, altered: u32) -> Account
     ensures { result ≡ noted due altered a }
 {
@@ -294,6 +300,7 @@ pub fn note(a: Account, due: u32, altered: u32) -> Account
 }
 
 // The client read a characteristic at 0.
+#[tactic(auto, unfolding(crate::specs::Duties::was_read))]
 pub fn mark_read(a: Account, characteristic: u32) -> Account
     requires { characteristic < 32 }
     ensures { result ≡ was_read characteristic a }
@@ -304,6 +311,7 @@ pub fn mark_read(a: Account, characteristic: u32) -> Account
 }
 
 // A control write of the client came to a result.
+#[tactic(auto, unfolding(crate::specs::Duties::resulted))]
 pub fn note_result(a: Account, opcode: u8, code: u8) -> Account
     ensures { result ≡ resulted opcode code a }
 {
@@ -316,6 +324,7 @@ pub fn note_result(a: Account, opcode: u8, code: u8) -> Account
 }
 
 // The oldest result was handed out.
+#[tactic(auto, unfolding(crate::specs::Duties::result_taken))]
 fn result_taken(a: Account) -> Account
     ensures { result ≡ result_taken a }
 {
@@ -329,6 +338,7 @@ fn result_taken(a: Account) -> Account
 }
 
 // What a slot owed was handed out.
+#[tactic(auto, unfolding(crate::specs::Duties::served))]
 fn slot_served(a: Account, s: u32) -> Account
     requires { s < slot_count }
     ensures { result ≡ served s a }
@@ -342,6 +352,7 @@ fn slot_served(a: Account, s: u32) -> Account
 }
 
 // A client was served the slot of a place, and its round goes on behind it.
+#[tactic(auto, unfolding(crate::specs::Duties::passed_on))]
 pub fn serve(c: Client, place: u32) -> Client
     requires { place < place_count }
     ensures { result ≡ passed_on place c }

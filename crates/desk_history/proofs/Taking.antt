@@ -214,7 +214,7 @@ module _ (k : Lent) (right : lent_rule k ≡ true) (L : Ledger) (d : Desk) (ok :
     served_rule =
         client_stands after
         (linked_connected (with_mark place link) connected
-        (let l = connected_linked link (stands who inside) connected in record { mtu_from_lem = l.mtu_from_lem; mtu_to = l.mtu_to; marked = near_place.inside }))
+        (let l = connected_linked link (stands who inside) connected in record { mtu_from = l.mtu_from; mtu_to = l.mtu_to; marked = near_place.inside }))
         (each_account (λ w a. account_fits (with_mark place link) a ≡ true)
         (again (served slot account)
         (let f = connected_fit link account fitting connected in

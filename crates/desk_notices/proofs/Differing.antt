@@ -1,5 +1,5 @@
 -- That the comparison tells equal values, what a change is by it, and how the word of changes is gathered bit by bit. Assumes nothing.
-use mathlib.Core.Path.{◌≡◌, refl, sym, ap, ◌∙◌, subst}
+use mathlib.Core.Path.{◌≡◌, refl, sym, ap, ◌∙◌}
 use mathlib.Core.Bool.{Bool, true, false, not, ◌&&◌, ◌||◌, and-false, or-false, false≢true}
 use mathlib.Core.List.{List, [], ◌∷◌}
 use mathlib.Core.Logic.{◌↔◌, ⊎_elim}
@@ -10,10 +10,11 @@ use borrow.Author.Tests.{eq-eqb, ne_eqb, eqb-true, not-false}
 use lib.Dec.{eqb}
 use lib.ListN.{length, take}
 use lib.Seq.{take_all}
+use Rattle.std.proofs.lemmas.Slice.Eq.{bytes_eq-Decides}
 use Rattle.ground.specs.Cases.{pick, has}
 use Rattle.ground.specs.Words.{six_octets}
 use Rattle.ground.proofs.Words.{six_same}
-use Rattle.ground.proofs.Cases.{clash, and_left, and_right, and_both, le_or, true_or}
+use Rattle.ground.proofs.Cases.{le_or, true_or}
 use Rattle.player_walk.specs.Steps.{move_in}
 use Rattle.player_walk.specs.declared.Step.TheVariants.{Next}
 use Rattle.player_orders.specs.Order.{repeats}
@@ -28,36 +29,19 @@ use Rattle.desk_slots.specs.Characteristics.{readables, is_in, set_of}
 use Rattle.desk_slots.proofs.SetLaws.{set_is}
 use Rattle.desk_notices.specs.Changes.{same_octets, SameNext, changed, track_number, track_changed}
 
-pub same_self : (s : List ℕ) → same_octets s s ≡ true
-unfolding same_octets
-same_self [] = refl
-same_self (x ∷ s) = and_both (eq-eqb x x refl) (same_self s)
-
-pub same_eq : (s t : List ℕ) → same_octets s t ≡ true → s ≡ t
-unfolding same_octets
-same_eq [] [] e = refl
-same_eq [] (y ∷ t) e = clash e
-same_eq (x ∷ s) [] e = clash e
-same_eq (x ∷ s) (y ∷ t) e =
-    let a : x ≡ y = eqb-true x y (and_left (eqb x y) (same_octets s t) e) in
-    let b : s ≡ t = same_eq s t (and_right (eqb x y) (same_octets s t) e) in
-    λ i. a i ∷ b i
-
-pub eq_same : (s t : List ℕ) → s ≡ t → same_octets s t ≡ true
-eq_same s t e = subst (λ (u : List ℕ). same_octets s u ≡ true) e (same_self s)
-
 pub same_is_equal : (s t : List ℕ) → (same_octets s t ≡ true) ↔ (s ≡ t)
-same_is_equal s t = (same_eq s t, eq_same s t)
+unfolding same_octets
+same_is_equal = bytes_eq-Decides
 
 pub ne_same : (s t : List ℕ) → (s ≡ t → ⊥) → same_octets s t ≡ false
-ne_same s t h = ⊎_elim (λ e. absurd (h (same_eq s t e))) (λ e. e) (true_or (same_octets s t))
+ne_same s t h = ⊎_elim (λ e. absurd (h ((same_is_equal s t).0 e))) (λ e. e) (true_or (same_octets s t))
 
 -- where octets tell a number, they are the same where the numbers are
 same_by : (octets : ℕ → List ℕ) (a b : ℕ) → (octets a ≡ octets b → a ≡ b) → same_octets (octets a) (octets b) ≡ eqb a b
 same_by octets a b tell = at (ℕ_discrete a b)
   where
     at : Dec (a ≡ b) → same_octets (octets a) (octets b) ≡ eqb a b
-    at (yes e) = eq_same (octets a) (octets b) (ap octets e) ∙ sym (eq-eqb a b e)
+    at (yes e) = (same_is_equal (octets a) (octets b)).1 (ap octets e) ∙ sym (eq-eqb a b e)
     at (no n) = ne_same (octets a) (octets b) (λ e. n (tell e)) ∙ sym (ne_eqb a b n)
 
 -- the octets of two words
@@ -91,8 +75,8 @@ module _ (from : Source) (p q : Player) (c : ℕ) where
   pub changed_not : (changed from p q c ≡ false) ↔ (value_of from p c ≡ value_of from q c)
   unfolding changed
   changed_not = (
-    (λ e. same_eq (value_of from p c) (value_of from q c) (not-false (same_octets (value_of from p c) (value_of from q c)) e)),
-    (λ e. ap not (eq_same (value_of from p c) (value_of from q c) e)),
+    (λ e. (same_is_equal (value_of from p c) (value_of from q c)).0 (not-false (same_octets (value_of from p c) (value_of from q c)) e)),
+    (λ e. ap not ((same_is_equal (value_of from p c) (value_of from q c)).1 e)),
   )
 
 -- a change is told by what the two values are
@@ -103,7 +87,7 @@ by_values from p q c e f = λ i. not (same_octets (sym e i) (sym f i))
 -- of a state with itself
 pub unchanged_self : (from : Source) (p : Player) (c : ℕ) → (changed from p p c ≡ false) × (track_changed p p ≡ false)
 unfolding changed track_changed
-unchanged_self from p c = (ap not (same_self (value_of from p c)), ap not (eq-eqb (track_number p) (track_number p) refl))
+unchanged_self from p c = (ap not ((same_is_equal (value_of from p c) _).1 refl), ap not (eq-eqb (track_number p) (track_number p) refl))
 
 -- what is in a list is none that is not
 out : (s : List ℕ) (c : ℕ) → is_in s c ≡ false → (k : ℕ) → is_in s k ≡ true → c ≡ k → ⊥

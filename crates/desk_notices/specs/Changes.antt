@@ -1,6 +1,6 @@
 -- What a call changes (SCOPE 18.1): the value before the call and the value after it differ.
 -- Assumes nothing.
-use Rattle.std.specs.Prelude.{◌≡◌, Bool, true, false, not, ◌&&◌, List, [], ◌∷◌, ℕ, ◌+◌, eqb}
+use Rattle.std.specs.Prelude.{◌≡◌, Bool, not, List, ℕ, ◌+◌, eqb, bytes_eq}
 use Rattle.ground.specs.Cases.{pick}
 use Rattle.player_state.specs.declared.Player.{Player}
 use Rattle.player_state.specs.Player.{is_active}
@@ -8,10 +8,7 @@ use Rattle.player_values.specs.Values.{Source, value_of}
 
 -- two values, octet by octet
 unfoldable pub same_octets : List ℕ → List ℕ → Bool
-same_octets [] [] = true
-same_octets [] (y ∷ t) = false
-same_octets (x ∷ s) [] = false
-same_octets (x ∷ s) (y ∷ t) = eqb x y && same_octets s t
+same_octets a b = bytes_eq a b
 
 -- what tells the next track is the same of two players
 pub record SameNext (p q : Player) : Type 0 where

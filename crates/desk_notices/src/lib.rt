@@ -12,22 +12,14 @@ ghost use Rattle.ground.specs.Lists.{map_from};
 ghost use Rattle.desk_slots.specs.Slots.{slot_count};
 ghost use Rattle.desk_notices.specs.Owed.{spared, falls, noticed, settled, no_writer, by_writer};
 
+#[tactic(auto, unfolding(crate::specs::Changes::same_octets))]
 pub fn same(a: &[u8], b: &[u8]) -> bool
     ensures { result ≡ same_octets a.now b.now }
 {
-    if a.len() != b.len() {
-        return false;
-    }
-    let mut i: usize = 0;
-    while i < a.len() {
-        if a[i] != b[i] {
-            return false;
-        }
-        i += 1;
-    }
-    true
+    a == b
 }
 
+#[tactic(auto, unfolding(crate::specs::Changes::same_octets))]
 fn octets_differ(a: u8, b: u8) -> bool
     ensures { result ≡ not (same_octets (a ∷ []) (b ∷ [])) }
 {
@@ -207,6 +199,7 @@ pub fn changed_word<'a>(
 }
 
 // 0 where no track is current, else its number and one.
+#[tactic(auto, unfolding(crate::specs::Changes::track_number))]
 fn track_number(p: player_state::Player) -> u64
     ensures { result ≡ track_number p }
 {
@@ -216,6 +209,7 @@ fn track_number(p: player_state::Player) -> u64
     (p.place.track.0 as u64) + 1
 }
 
+#[tactic(auto, unfolding(crate::specs::Changes::track_changed))]
 pub fn track_changed(p: player_state::Player, q: player_state::Player) -> bool
     ensures { result ≡ track_changed p q }
 {
@@ -233,6 +227,7 @@ pub struct Cause {
 }
 
 // Whether a characteristic is not owed to a client, although it changed.
+#[tactic(auto, unfolding(crate::specs::Owed::spared))]
 fn is_spared(cause: Cause, who: u32, c: u32) -> bool
     ensures { result ≡ spared cause who c }
 {
@@ -245,14 +240,12 @@ fn due_to(altered: u32, track: bool, cause: Cause, who: u32) -> u32
     ensures { result ≡ set_of slot_count (falls altered track cause who) }
 {
     let mut due: u32 = 0;
-    let mut s: u32 = 0;
-    while s < desk_slots::SLOTS {
+    for s in 0..desk_slots::SLOTS {
         let c = desk_slots::characteristic_of(s);
         let spare = is_spared(cause, who, c);
         let changed = ground::has_bit(altered, c);
         let falls = (changed | (track & ((c == 4) | (c == 7)))) & !spare;
         due = desk_slots::with_if(due, s, falls);
-        s += 1;
     }
     due
 }
@@ -266,13 +259,11 @@ fn note_all(
     ensures { result ≡ map_from (noticed altered track cause) 0 accounts }
 {
     let mut out = accounts;
-    let mut i: usize = 0;
-    while i < 4 {
+    for i in 0..4 {
         let who = i as u32;
         let due = due_to(altered, track, cause, who);
         let a = out[i];
         out[i] = desk_client::note(a, due, altered);
-        i += 1;
     }
     out
 }

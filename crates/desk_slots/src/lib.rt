@@ -61,6 +61,7 @@ pub fn writer_knows(c: u32) -> bool
 }
 
 // How many octets are written to a characteristic; 0 where there is not one such number.
+#[tactic(auto, unfolding(crate::specs::Table::size_of))]
 pub fn size_of(c: u32) -> usize
     ensures { result ≡ size_of c }
 {
@@ -76,6 +77,7 @@ pub fn size_of(c: u32) -> usize
 }
 
 // The slot of a characteristic; SLOTS where it has none.
+#[tactic(auto, unfolding(crate::specs::Slots::slot_of))]
 pub fn slot_of(characteristic: u32) -> u32
     ensures { (result ≤ slot_count) × (result ≡ slot_of characteristic) }
 {
@@ -98,6 +100,7 @@ pub fn slot_of(characteristic: u32) -> u32
     }
 }
 
+#[tactic(auto, unfolding(crate::specs::Slots::characteristic_of))]
 pub fn characteristic_of(slot: u32) -> u32
     requires { slot < slot_count }
     ensures { (result < 32) × (result ≡ characteristic_of slot) }
@@ -121,6 +124,7 @@ pub fn characteristic_of(slot: u32) -> u32
 }
 
 // Whether no bit outside the slots is set.
+#[tactic(auto, unfolding(crate::specs::Slots::only_slots))]
 pub fn only_slots(w: u32) -> bool
     ensures { result ≡ only_slots w }
 {
@@ -155,6 +159,7 @@ pub fn without(w: u32, s: u32) -> u32
 }
 
 // What is in w or in v.
+#[tactic(auto, unfolding(crate::specs::Slots::union))]
 pub fn union_of(w: u32, v: u32) -> u32
     ensures { result ≡ union w v }
 {
@@ -162,6 +167,7 @@ pub fn union_of(w: u32, v: u32) -> u32
 }
 
 // What is in w and in v.
+#[tactic(auto, unfolding(crate::specs::Slots::inter))]
 pub fn intersection(w: u32, v: u32) -> u32
     ensures { result ≡ inter w v }
 {
@@ -176,6 +182,7 @@ pub fn difference(w: u32, v: u32) -> u32
 }
 
 // The service of a place, and its slot there.
+#[tactic(auto, unfolding(crate::specs::Slots::service_of))]
 pub fn service_of(place: u32) -> u32
     requires { place < place_count }
     ensures { (result < service_count) × (result ≡ service_of place) }
@@ -183,6 +190,7 @@ pub fn service_of(place: u32) -> u32
     place / SLOTS
 }
 
+#[tactic(auto, unfolding(crate::specs::Slots::slot_at))]
 pub fn slot_at(place: u32) -> u32
     ensures { (result < slot_count) × (result ≡ slot_at place) }
 {
@@ -212,14 +220,12 @@ pub fn next_client(owed: [u32; 4], after: u32) -> u32
     requires { after < client_count }
     ensures { (result ≤ client_count) × (result ≡ next client_count (owing owed) after) }
 {
-    let mut d: u32 = 1;
-    while d <= CLIENTS {
+    for d in 1..=CLIENTS {
         let c = (after + d) % CLIENTS;
         let i = c as usize;
         if owed[i] != 0 {
             return c;
         }
-        d += 1;
     }
     CLIENTS
 }

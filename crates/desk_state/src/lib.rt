@@ -31,6 +31,7 @@ fn fresh_service(p: player_state::Player) -> Service
 }
 
 // What start leaves, around fresh players.
+#[tactic(auto, unfolding(crate::specs::Desk::started_desk))]
 pub fn fresh_desk(generic: player_state::Player, named: player_state::Player) -> Desk
     ensures { result ≡ started_desk generic named }
 {
@@ -74,6 +75,7 @@ pub fn account_in(s: Service, who: u32) -> desk_client::Account
 }
 
 // The service with another account of a client.
+#[tactic(auto, unfolding(crate::specs::Desk::with_account))]
 pub fn with_account(s: Service, who: u32, a: desk_client::Account) -> Service
     requires { who < client_count }
     ensures { result ≡ with_account who a s }
@@ -84,6 +86,7 @@ pub fn with_account(s: Service, who: u32, a: desk_client::Account) -> Service
     t
 }
 
+#[tactic(auto, unfolding(crate::specs::Desk::with_service))]
 pub fn with_service(d: Desk, service: u32, s: Service) -> Desk
     requires { service < service_count }
     ensures { result ≡ with_service service s d }

@@ -1,5 +1,4 @@
 -- The laws that belong to no one function.
 pub mod Orders
 pub mod Laws
-pub mod Lent
 pub mod Settled

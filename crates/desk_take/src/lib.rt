@@ -104,12 +104,9 @@ fn players_right(groups: &[u32], tracks: &[u32], players: [player_state::Player;
     ensures { result ≡ players_rule groups.now tracks.now players }
 {
     let mut good = true;
-    let mut v: usize = 0;
-    while v < 2 {
-        let p = players[v];
-        let right = player_check::player_right(groups, tracks, p);
+    for p in &players {
+        let right = player_check::player_right(groups, tracks, *p);
         good = good & right;
-        v += 1;
     }
     good
 }

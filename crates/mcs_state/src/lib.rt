@@ -49,6 +49,7 @@ fn wide_at(s: &[u8], at: usize) -> usize
 }
 
 // The turn; none that a state may have where the layout is another.
+#[tactic(auto, unfolding(crate::specs::Codec::turn_from))]
 fn turn_from(s: &[u8]) -> u32
     requires { 5 ≤ length s.now }
     ensures { result ≡ turn_from s.now }
@@ -59,6 +60,7 @@ fn turn_from(s: &[u8]) -> u32
     NO_TURN
 }
 
+#[tactic(auto, unfolding(crate::specs::Codec::turn_octets))]
 fn turn_octets(turn: u32) -> [u8; 5]
     ensures { result ≡ turn_octets turn }
 {
@@ -72,6 +74,7 @@ fn turn_octets(turn: u32) -> [u8; 5]
 }
 
 // The ATT_MTU of a link; 0, which 201 refuses, where a yes-or-no octet is neither 0 nor 1.
+#[tactic(auto, unfolding(crate::specs::Codec::mtu_from))]
 fn mtu_from(s: &[u8]) -> u32
     requires { 10 ≤ length s.now }
     ensures { result ≡ mtu_from s.now }
@@ -99,6 +102,7 @@ fn link_from(s: &[u8], who: usize) -> Link
     }
 }
 
+#[tactic(auto, unfolding(crate::specs::Codec::link_octets))]
 fn link_octets(l: Link) -> [u8; 10]
     ensures { result ≡ link_octets l }
 {
@@ -167,6 +171,7 @@ fn account_from(s: &[u8], who: usize) -> Account
     }
 }
 
+#[tactic(auto, unfolding(crate::specs::Codec::account_octets))]
 fn account_octets(a: Account) -> [u8; 36]
     ensures { result ≡ account_octets a }
 {
@@ -254,6 +259,7 @@ fn player_from(name: &[u8], s: &[u8]) -> Player
 }
 
 // The 30 octets behind the name's.
+#[tactic(auto, unfolding(crate::specs::Codec::player_octets))]
 fn player_octets(p: Player) -> [u8; 30]
     ensures { result ≡ player_octets p }
 {
@@ -342,30 +348,10 @@ fn put(s: &mut [u8], at: usize, src: &[u8])
     requires { at + length src.now ≤ length s.old }
     ensures { s.new ≡ paste s.old at src.now (length src.now) }
 {
-    let mut i: usize = 0;
-    while i < src.len() {
-        s[at + i] = src[i];
-        i += 1;
-    }
+    s[at..at + src.len()].copy_from_slice(src);
 }
 
-// What owning an array tells, for the proof of a caller: no code comes of these.
-fn eight_results(rs: [Entry; 8])
-    ensures { length rs ≡ 8 }
-{}
-
-fn four_accounts(accounts: [Account; 4])
-    ensures { length accounts ≡ 4 }
-{}
-
-fn four_links(links: [Link; 4])
-    ensures { length links ≡ 4 }
-{}
-
-fn two_services(services: [Service; 2])
-    ensures { length services ≡ 2 }
-{}
-
+#[tactic(auto, unfolding(crate::specs::Codec::turn_octets))]
 fn lay_turn(s: &mut [u8], turn: u32)
     requires { 649 ≤ length s.old }
     ensures { s.new ≡ paste s.old 0 (turn_octets turn) 5 }
@@ -374,6 +360,7 @@ fn lay_turn(s: &mut [u8], turn: u32)
     put(s, 0, &octets);
 }
 
+#[tactic(auto, unfolding(crate::specs::Codec::link_octets))]
 fn lay_link(s: &mut [u8], who: usize, l: Link)
     requires { (who < 4) × (649 ≤ length s.old) }
     ensures { s.new ≡ paste s.old (5 + who * 10) (link_octets l) 10 }
@@ -390,6 +377,7 @@ fn lay_name(s: &mut [u8], at: usize, name: [u8; 128])
     put(s, at, &name);
 }
 
+#[tactic(auto, unfolding(crate::specs::Codec::player_octets))]
 fn lay_player(s: &mut [u8], at: usize, p: Player)
     requires { at + 302 ≤ length s.old }
     ensures { s.new ≡ paste s.old (at + 128) (player_octets p) 30 }
@@ -404,8 +392,6 @@ fn lay_account(s: &mut [u8], at: usize, who: usize, a: Account)
     ensures s_after { s.new ≡ paste s.old (at + (158 + who * 36)) (account_octets a) 36 }
     ensures kept { Kept account_from account_octets 36 a }
 {
-    let rs = a.results;
-    eight_results(rs);
     let octets = account_octets(a);
     put(s, at + (ACCOUNTS + who * ACCOUNT), &octets);
 }
@@ -419,7 +405,6 @@ fn lay_service(s: &mut [u8], service: usize, v: Service)
     let p = v.player;
     let name = p.name.octets;
     let accounts = v.accounts;
-    four_accounts(accounts);
     lay_name(s, at, name);
     lay_player(s, at, p);
     lay_account(s, at, 0, accounts[0]);
@@ -436,8 +421,6 @@ pub fn encode(d: Desk, s: &mut [u8])
 {
     let links = d.links;
     let services = d.services;
-    four_links(links);
-    two_services(services);
     lay_turn(s, d.turn);
     lay_link(s, 0, links[0]);
     lay_link(s, 1, links[1]);
@@ -520,13 +503,11 @@ fn accounts_fit(s: &[u8], service: u32) -> bool
     ensures { result ≡ accounts_fit (desk_of s.now).links (service_at (desk_of s.now) service).accounts }
 {
     let mut good = true;
-    let mut i: u32 = 0;
-    while i < desk_slots::CLIENTS {
+    for i in 0..desk_slots::CLIENTS {
         let l = link_at(s, i);
         let a = account_at(s, service, i);
         let fits = desk_client::account_fits(l, a);
         good = good & fits;
-        i += 1;
     }
     good
 }
@@ -536,13 +517,11 @@ fn services_right(groups: &[u32], tracks: &[u32], s: &[u8]) -> bool
     ensures { result ≡ services_rule groups.now tracks.now (desk_of s.now).links (desk_of s.now).services }
 {
     let mut good = true;
-    let mut v: u32 = 0;
-    while v < desk_slots::SERVICES {
+    for v in 0..desk_slots::SERVICES {
         let p = player_at(s, v);
         let player = player_check::player_right(groups, tracks, p);
         let fit = accounts_fit(s, v);
         good = good & (player & fit);
-        v += 1;
     }
     good
 }
@@ -552,12 +531,10 @@ fn links_right(s: &[u8]) -> bool
     ensures { result ≡ links_rule (desk_of s.now).links }
 {
     let mut good = true;
-    let mut i: u32 = 0;
-    while i < desk_slots::CLIENTS {
+    for i in 0..desk_slots::CLIENTS {
         let l = link_at(s, i);
         let right = desk_client::link_right(l);
         good = good & right;
-        i += 1;
     }
     good
 }
@@ -576,9 +553,7 @@ pub fn desk_right(groups: &[u32], tracks: &[u32], s: &[u8]) -> bool
 // What being lent octets tells, for the proof of a caller: no code comes of it.
 pub fn are_octets(s: &[u8])
     ensures { Octets s.now }
-{
-    eight_results([Entry { opcode: 0, code: 0 }; 8]);
-}
+{}
 
 // One part of the state written back, where the octets are those that their state is written as: the octets of the other parts stay. Over what one of
 // these leaves the next may write.

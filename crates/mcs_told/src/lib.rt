@@ -167,11 +167,7 @@ pub fn tell(on: bool, values: [u32; 4], words: &mut [u32])
     ensures { words.new ≡ told_after on values words.old }
 {
     if on {
-        let mut i: usize = 0;
-        while i < words.len() {
-            words[i] = values[i];
-            i += 1;
-        }
+        words.copy_from_slice(&values[..words.len()]);
     }
 }
 

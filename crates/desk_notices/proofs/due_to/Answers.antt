@@ -1,7 +1,6 @@
 -- `desk_notices::due_to`: after s turns, the slots below s.
 use mathlib.Core.Path.{refl, ap, ◌∙◌}
 use mathlib.Core.Bool.{not, ◌&&◌}
-use Prim.Native.Nat.{◌-◌}
 use native.Mathlib.Omega.{arith}
 use Rattle.ground.specs.Cases.{has}
 use Rattle.desk_slots.specs.Characteristics.{set_of}
@@ -12,7 +11,7 @@ use Rattle.desk_notices.proofs.due_to.Goals as goal
 pub loop-s-init : goal.loop-s-init
 unfolding set_of
 loop-s-init c =
-    (omega arith, refl)
+    refl
 
 pub loop-s-preserved : goal.loop-s-preserved
 loop-s-preserved c =
@@ -21,8 +20,8 @@ loop-s-preserved c =
     let at = c.characteristic_of-c.ensures.1 in
     let changed = c.has_bit-changed.ensures ∙ ap (has a.altered) at in
     let spare = c.is_spared-spare.ensures ∙ ap (spared a.cause a.who) at in
-    (omega arith, set_turn (falls a.altered a.track a.cause a.who) l.s l.due _ _ l.invariant.1 (λ k. falls_due (changed k) a.track (at k) && not (spare k)) c.with_if-due.ensures)
+    set_turn (falls a.altered a.track a.cause a.who) l.s l.due _ _ l.invariant (λ k. falls_due (changed k) a.track (at k) && not (spare k)) c.with_if-due.ensures
 
 pub returns : goal.returns
 returns c =
-    set_end _ c.loop-s.invariant.0 (omega arith) c.loop-s.invariant.1
+    set_end _ (omega arith) (omega arith) c.loop-s.invariant

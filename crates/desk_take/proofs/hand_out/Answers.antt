@@ -1,8 +1,8 @@
 -- `desk_take::hand_out`: the next place, its present value or the oldest result.
 use mathlib.Core.Path.{◌≡◌, sym, ap, ◌∙◌, subst}
-use mathlib.Core.Bool.{true}
+use mathlib.Core.Bool.{Bool, true, false}
 use mathlib.Core.List.{List, [], ◌∷◌}
-use Prim.Native.Nat.{ℕ, ◌<◌, ◌≤◌}
+use Prim.Native.Nat.{ℕ, ◌<◌, ◌≤◌, ◌-◌}
 use native.Mathlib.Omega.{arith}
 use lib.ListN.{length, get_or}
 use Rattle.ground.specs.Cases.{has}
@@ -13,7 +13,7 @@ use Rattle.desk_slots.specs.Slots.{place_count, characteristic_of, service_of, s
 use Rattle.desk_slots.specs.Round.{next}
 use Rattle.player_state.specs.declared.Player.{Player}
 use Rattle.player_check.specs.Standing.{player_rule}
-use Rattle.player_values.specs.Values.{source, value_of}
+use Rattle.player_values.specs.Values.{source_of, value_of}
 use Rattle.player_values.proofs.Fits.{player_sits, name_short, title_fits}
 use Rattle.desk_client.specs.Client.{is_control, blank_entry, account_with}
 use Rattle.desk_client.specs.Duties.{passed_on}
@@ -21,6 +21,55 @@ use Rattle.desk_client.proofs.Rule.{client_link, mtu_least, mark_within}
 use Rattle.desk_take.specs.Serving.{next_place, result_octets, player_at, handed_octets, handed_values}
 use Rattle.desk_take.proofs.Laws.{each_player, result_handed, value_handed}
 use Rattle.desk_take.proofs.hand_out.Goals as goal
+use Rattle.desk_take.proofs.hand_out.Goals.{After-is_control}
+
+-- the place that comes next, and what stands there
+module _ (c : After-is_control) where
+  abbrev lent : Lent
+  lent = lending c.args.groups.now c.args.tracks.now c.args.segments.now c.args.text.now c.args.renames.now c.args.office.now
+
+  abbrev of : Player
+  of = player_at c.args.players c.service_of-service.result
+
+  place : c.next_place-place.result ≡ next_place c.args.c
+  place = c.next_place-place.ensures.1 ∙ ap (λ (w : ℕ). next place_count (has w) c.args.c.link.mark) c.places_owed-owed.ensures.1
+
+  service : c.service_of-service.result ≡ service_of (next_place c.args.c)
+  service = c.service_of-service.ensures.1 ∙ ap service_of place
+
+  slot : c.slot_at-s.result ≡ slot_at (next_place c.args.c)
+  slot = c.slot_at-s.ensures.1 ∙ ap slot_at place
+
+  number : c.characteristic_of-characteristic.result ≡ characteristic_of (slot_at (next_place c.args.c))
+  number = c.characteristic_of-characteristic.ensures.1 ∙ ap characteristic_of slot
+
+  -- what is said of n octets that are handed out, and the record afterwards
+  said : (n : ℕ) → n ≡ length (handed_octets lent c.args.players c.args.c)
+      → (c.service_of-service.result ∷ c.characteristic_of-characteristic.result ∷ n ∷ [] ≡ handed_values lent c.args.players c.args.c)
+      × (c.serve-next.result ≡ passed_on (next_place c.args.c) c.args.c)
+  said n e = (λ k. service k ∷ number k ∷ e k ∷ [], c.serve-next.ensures ∙ ap (λ (n : ℕ). passed_on n c.args.c) place)
+
+  least : 23 ≤ c.args.c.link.mtu
+  least = mtu_least c.args.c.link (client_link c.args.c c.requires.c_value.0)
+
+  control : {t : Bool} → c.is_control.result ≡ t → is_control (slot_at (next_place c.args.c)) ≡ t
+  control e = sym (c.is_control.ensures ∙ ap is_control slot) ∙ e
+
+  result : c.is_control.result ≡ true
+      → result_octets (get_or (account_with c.args.c c.service_of-service.result).results 0 blank_entry) ≡ handed_octets lent c.args.players c.args.c
+  result e =
+      ap (λ (n : ℕ). result_octets (get_or (account_with c.args.c n).results 0 blank_entry)) service
+      ∙ result_handed lent c.args.players c.args.c (control e) least
+
+  value : c.is_control.result ≡ false → (most : ℕ) → most ≡ c.args.c.link.mtu - 3
+      → part_from 0 most (value_of (source_of lent) of c.characteristic_of-characteristic.result) ≡ handed_octets lent c.args.players c.args.c
+  value e most q =
+      (λ k. part_from 0 (q k) (value_of (source_of lent) (player_at c.args.players (service k)) (number k)))
+      ∙ value_handed lent c.args.players c.args.c (control e)
+
+  stands : player_rule c.args.groups.now c.args.tracks.now of ≡ true
+  stands =
+      each_player c.args.groups.now c.args.tracks.now c.args.players c.requires.players_value c.service_of-service.result c.service_of-service.ensures.0
 
 pub next_place-place-requires : goal.next_place-place-requires
 next_place-place-requires c =
@@ -29,108 +78,40 @@ next_place-place-requires c =
 
 pub returns-then-is_control-clause-len_value : goal.returns-then-is_control-clause-len_value
 returns-then-is_control-clause-len_value c =
-    let lent : Lent = lending c.args.groups.now c.args.tracks.now c.args.segments.now c.args.text.now c.args.renames.now c.args.office.now in
-    let place : c.next_place-place.result ≡ next_place c.args.c = c.next_place-place.ensures.1 ∙ ap (λ (w : ℕ). next place_count (has w) c.args.c.link.mark) c.places_owed-owed.ensures.1 in
-    let service : c.service_of-service.result ≡ service_of (next_place c.args.c) = c.service_of-service.ensures.1 ∙ ap service_of (place) in
-    let slot : c.slot_at-s.result ≡ slot_at (next_place c.args.c) = c.slot_at-s.ensures.1 ∙ ap slot_at (place) in
-    let number : c.characteristic_of-characteristic.result ≡ characteristic_of (slot_at (next_place c.args.c)) = c.characteristic_of-characteristic.ensures.1 ∙ ap characteristic_of (slot) in
-    let after : c.serve-next.result ≡ passed_on (next_place c.args.c) c.args.c = c.serve-next.ensures ∙ ap (λ (n : ℕ). passed_on n c.args.c) (place) in
-    let said : (n : ℕ) → n ≡ length (handed_octets (lent) c.args.players c.args.c)
-    → (c.service_of-service.result ∷ c.characteristic_of-characteristic.result ∷ n ∷ [] ≡ handed_values (lent) c.args.players c.args.c) × (c.serve-next.result ≡ passed_on (next_place c.args.c) c.args.c) = λ n e. (λ k. service k ∷ number k ∷ e k ∷ [], after) in
-    let least : 23 ≤ c.args.c.link.mtu = mtu_least c.args.c.link (client_link c.args.c c.requires.c_value.0) in
-    let control : c.is_control.result ≡ is_control (slot_at (next_place c.args.c)) = c.is_control.ensures ∙ ap is_control (slot) in
-    let octets =
-    ap (λ (n : ℕ). result_octets (get_or (account_with c.args.c n).results 0 blank_entry)) (service)
-    ∙ result_handed (lent) c.args.players c.args.c (sym (control) ∙ c.if-is_control.true) (least) in said c.put-n.result (c.put-n.ensures.value ∙ ap length octets)
+    let f = (goal.at.returns-then-is_control-clause-len_value c).After-is_control in
+    said f c.put-n.result (c.put-n.ensures.value ∙ ap length (result f c.if-is_control.true))
 
 pub returns-then-is_control-clause-out_after : goal.returns-then-is_control-clause-out_after
 returns-then-is_control-clause-out_after c =
-    let lent : Lent = lending c.args.groups.now c.args.tracks.now c.args.segments.now c.args.text.now c.args.renames.now c.args.office.now in
-    let place : c.next_place-place.result ≡ next_place c.args.c = c.next_place-place.ensures.1 ∙ ap (λ (w : ℕ). next place_count (has w) c.args.c.link.mark) c.places_owed-owed.ensures.1 in
-    let service : c.service_of-service.result ≡ service_of (next_place c.args.c) = c.service_of-service.ensures.1 ∙ ap service_of (place) in
-    let slot : c.slot_at-s.result ≡ slot_at (next_place c.args.c) = c.slot_at-s.ensures.1 ∙ ap slot_at (place) in
-    let number : c.characteristic_of-characteristic.result ≡ characteristic_of (slot_at (next_place c.args.c)) = c.characteristic_of-characteristic.ensures.1 ∙ ap characteristic_of (slot) in
-    let after : c.serve-next.result ≡ passed_on (next_place c.args.c) c.args.c = c.serve-next.ensures ∙ ap (λ (n : ℕ). passed_on n c.args.c) (place) in
-    let said : (n : ℕ) → n ≡ length (handed_octets (lent) c.args.players c.args.c)
-    → (c.service_of-service.result ∷ c.characteristic_of-characteristic.result ∷ n ∷ [] ≡ handed_values (lent) c.args.players c.args.c) × (c.serve-next.result ≡ passed_on (next_place c.args.c) c.args.c) = λ n e. (λ k. service k ∷ number k ∷ e k ∷ [], after) in
-    let least : 23 ≤ c.args.c.link.mtu = mtu_least c.args.c.link (client_link c.args.c c.requires.c_value.0) in
-    let control : c.is_control.result ≡ is_control (slot_at (next_place c.args.c)) = c.is_control.ensures ∙ ap is_control (slot) in
-    let octets =
-    ap (λ (n : ℕ). result_octets (get_or (account_with c.args.c n).results 0 blank_entry)) (service)
-    ∙ result_handed (lent) c.args.players c.args.c (sym (control) ∙ c.if-is_control.true) (least) in c.put-n.ensures.out_after ∙ ap (λ (front : List ℕ). filled front c.args.out.now) octets
+    let f = (goal.at.returns-then-is_control-clause-out_after c).After-is_control in
+    c.put-n.ensures.out_after ∙ ap (λ (front : List ℕ). filled front c.args.out.now) (result f c.if-is_control.true)
 
 pub overflow_sub-c : goal.overflow_sub-c
 overflow_sub-c c =
-    let least : 23 ≤ c.args.c.link.mtu = mtu_least c.args.c.link (client_link c.args.c c.requires.c_value.0) in
-    omega (arith, least)
-
-pub value-n-requires-clause-most_title_in_bounds : goal.value-n-requires-clause-most_title_in_bounds
-value-n-requires-clause-most_title_in_bounds c =
-    let lent : Lent = lending c.args.groups.now c.args.tracks.now c.args.segments.now c.args.text.now c.args.renames.now c.args.office.now in
-    let of : Player = player_at c.args.players c.service_of-service.result in
-    let stands : player_rule c.args.groups.now c.args.tracks.now (of) ≡ true = each_player c.args.groups.now c.args.tracks.now c.args.players c.requires.players_value c.service_of-service.result c.service_of-service.ensures.0 in
-    let right = fit_right (lent) c.requires.fit in c.requires.c_value.2
+    omega (arith, least (goal.at.overflow_sub-c c).After-is_control)
 
 pub value-n-requires-clause-sits : goal.value-n-requires-clause-sits
 value-n-requires-clause-sits c =
-    let lent : Lent = lending c.args.groups.now c.args.tracks.now c.args.segments.now c.args.text.now c.args.renames.now c.args.office.now in
-    let of : Player = player_at c.args.players c.service_of-service.result in
-    let stands : player_rule c.args.groups.now c.args.tracks.now (of) ≡ true = each_player c.args.groups.now c.args.tracks.now c.args.players c.requires.players_value c.service_of-service.result c.service_of-service.ensures.0 in
-    let right = fit_right (lent) c.requires.fit in player_sits (catalogue_of (lent)) right (of) (stands)
+    let f = (goal.at.value-n-requires-clause-sits c).After-is_control in
+    player_sits (catalogue_of (lent f)) (fit_right (lent f) c.requires.fit) (of f) (stands f)
 
 pub value-n-requires-clause-len_le_most_title : goal.value-n-requires-clause-len_le_most_title
 value-n-requires-clause-len_le_most_title c =
-    let lent : Lent = lending c.args.groups.now c.args.tracks.now c.args.segments.now c.args.text.now c.args.renames.now c.args.office.now in
-    let of : Player = player_at c.args.players c.service_of-service.result in
-    let stands : player_rule c.args.groups.now c.args.tracks.now (of) ≡ true = each_player c.args.groups.now c.args.tracks.now c.args.players c.requires.players_value c.service_of-service.result c.service_of-service.ensures.0 in
-    let right = fit_right (lent) c.requires.fit in name_short (catalogue_of (lent)) right (of) (stands)
+    let f = (goal.at.value-n-requires-clause-len_le_most_title c).After-is_control in
+    name_short (catalogue_of (lent f)) (fit_right (lent f) c.requires.fit) (of f) (stands f)
 
 pub value-n-requires-clause-p_len_bound : goal.value-n-requires-clause-p_len_bound
 value-n-requires-clause-p_len_bound c =
-    let lent : Lent = lending c.args.groups.now c.args.tracks.now c.args.segments.now c.args.text.now c.args.renames.now c.args.office.now in
-    let of : Player = player_at c.args.players c.service_of-service.result in
-    let stands : player_rule c.args.groups.now c.args.tracks.now (of) ≡ true = each_player c.args.groups.now c.args.tracks.now c.args.players c.requires.players_value c.service_of-service.result c.service_of-service.ensures.0 in
-    let right = fit_right (lent) c.requires.fit in title_fits (lent) c.requires.fit (of) (stands)
-
-pub value-n-requires-clause-from_in_bounds : goal.value-n-requires-clause-from_in_bounds
-value-n-requires-clause-from_in_bounds c =
-    let lent : Lent = lending c.args.groups.now c.args.tracks.now c.args.segments.now c.args.text.now c.args.renames.now c.args.office.now in
-    let of : Player = player_at c.args.players c.service_of-service.result in
-    let stands : player_rule c.args.groups.now c.args.tracks.now (of) ≡ true = each_player c.args.groups.now c.args.tracks.now c.args.players c.requires.players_value c.service_of-service.result c.service_of-service.ensures.0 in
-    let right = fit_right (lent) c.requires.fit in omega arith
+    let f = (goal.at.value-n-requires-clause-p_len_bound c).After-is_control in
+    title_fits (lent f) c.requires.fit (of f) (stands f)
 
 pub returns-clause-len_value : goal.returns-clause-len_value
 returns-clause-len_value c =
-    let lent : Lent = lending c.args.groups.now c.args.tracks.now c.args.segments.now c.args.text.now c.args.renames.now c.args.office.now in
-    let place : c.next_place-place.result ≡ next_place c.args.c = c.next_place-place.ensures.1 ∙ ap (λ (w : ℕ). next place_count (has w) c.args.c.link.mark) c.places_owed-owed.ensures.1 in
-    let service : c.service_of-service.result ≡ service_of (next_place c.args.c) = c.service_of-service.ensures.1 ∙ ap service_of (place) in
-    let slot : c.slot_at-s.result ≡ slot_at (next_place c.args.c) = c.slot_at-s.ensures.1 ∙ ap slot_at (place) in
-    let number : c.characteristic_of-characteristic.result ≡ characteristic_of (slot_at (next_place c.args.c)) = c.characteristic_of-characteristic.ensures.1 ∙ ap characteristic_of (slot) in
-    let after : c.serve-next.result ≡ passed_on (next_place c.args.c) c.args.c = c.serve-next.ensures ∙ ap (λ (n : ℕ). passed_on n c.args.c) (place) in
-    let said : (n : ℕ) → n ≡ length (handed_octets (lent) c.args.players c.args.c)
-    → (c.service_of-service.result ∷ c.characteristic_of-characteristic.result ∷ n ∷ [] ≡ handed_values (lent) c.args.players c.args.c) × (c.serve-next.result ≡ passed_on (next_place c.args.c) c.args.c) = λ n e. (λ k. service k ∷ number k ∷ e k ∷ [], after) in
-    let of : Player = player_at c.args.players c.service_of-service.result in
-    let control : c.is_control.result ≡ is_control (slot_at (next_place c.args.c)) = c.is_control.ensures ∙ ap is_control (slot) in
-    let most = c.wide_word-most.ensures.0 in
-    let from = source c.args.groups.now c.args.tracks.now c.args.text.now c.args.renames.now c.args.office.now in
-    let octets : part_from 0 c.wide_word-most.result (value_of from (of) c.characteristic_of-characteristic.result) ≡ handed_octets (lent) c.args.players c.args.c =
-    (λ k. part_from 0 (most k) (value_of from (player_at c.args.players (service k)) (number k)))
-    ∙ value_handed (lent) c.args.players c.args.c (sym (control) ∙ c.if-is_control.false) in said c.value-n.result (c.value-n.ensures.value ∙ ap length octets)
+    let f = (goal.at.returns-clause-len_value c).After-is_control in
+    said f c.value-n.result (c.value-n.ensures.value ∙ ap length (value f c.if-is_control.false c.wide_word-most.result c.wide_word-most.ensures.0))
 
 pub returns-clause-out_after : goal.returns-clause-out_after
 returns-clause-out_after c =
-    let lent : Lent = lending c.args.groups.now c.args.tracks.now c.args.segments.now c.args.text.now c.args.renames.now c.args.office.now in
-    let place : c.next_place-place.result ≡ next_place c.args.c = c.next_place-place.ensures.1 ∙ ap (λ (w : ℕ). next place_count (has w) c.args.c.link.mark) c.places_owed-owed.ensures.1 in
-    let service : c.service_of-service.result ≡ service_of (next_place c.args.c) = c.service_of-service.ensures.1 ∙ ap service_of (place) in
-    let slot : c.slot_at-s.result ≡ slot_at (next_place c.args.c) = c.slot_at-s.ensures.1 ∙ ap slot_at (place) in
-    let number : c.characteristic_of-characteristic.result ≡ characteristic_of (slot_at (next_place c.args.c)) = c.characteristic_of-characteristic.ensures.1 ∙ ap characteristic_of (slot) in
-    let after : c.serve-next.result ≡ passed_on (next_place c.args.c) c.args.c = c.serve-next.ensures ∙ ap (λ (n : ℕ). passed_on n c.args.c) (place) in
-    let said : (n : ℕ) → n ≡ length (handed_octets (lent) c.args.players c.args.c)
-    → (c.service_of-service.result ∷ c.characteristic_of-characteristic.result ∷ n ∷ [] ≡ handed_values (lent) c.args.players c.args.c) × (c.serve-next.result ≡ passed_on (next_place c.args.c) c.args.c) = λ n e. (λ k. service k ∷ number k ∷ e k ∷ [], after) in
-    let of : Player = player_at c.args.players c.service_of-service.result in
-    let control : c.is_control.result ≡ is_control (slot_at (next_place c.args.c)) = c.is_control.ensures ∙ ap is_control (slot) in
-    let most = c.wide_word-most.ensures.0 in
-    let from = source c.args.groups.now c.args.tracks.now c.args.text.now c.args.renames.now c.args.office.now in
-    let octets : part_from 0 c.wide_word-most.result (value_of from (of) c.characteristic_of-characteristic.result) ≡ handed_octets (lent) c.args.players c.args.c =
-    (λ k. part_from 0 (most k) (value_of from (player_at c.args.players (service k)) (number k)))
-    ∙ value_handed (lent) c.args.players c.args.c (sym (control) ∙ c.if-is_control.false) in c.value-n.ensures.out_after ∙ ap (λ (front : List ℕ). filled front c.args.out.now) octets
+    let f = (goal.at.returns-clause-out_after c).After-is_control in
+    c.value-n.ensures.out_after
+    ∙ ap (λ (front : List ℕ). filled front c.args.out.now) (value f c.if-is_control.false c.wide_word-most.result c.wide_word-most.ensures.0)

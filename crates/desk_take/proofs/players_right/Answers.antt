@@ -1,24 +1,21 @@
 -- `desk_take::players_right`: after v turns, the first v players.
 use mathlib.Core.Path.{refl}
-use Prim.Native.Nat.{◌-◌}
 use native.Mathlib.Omega.{arith}
 use Rattle.ground.specs.Lists.{all_below}
 use Rattle.ground.proofs.Bounded.{all_turn, all_end}
 use Rattle.desk_take.specs.Serving.{players_rule}
-use borrow.Author.Rules.{rules}
 use Rattle.desk_take.proofs.players_right.Goals as goal
 
-pub loop-v-init : goal.loop-v-init
+pub loop-p-init : goal.loop-p-init
 unfolding all_below
-loop-v-init c =
-    (search rules, refl)
+loop-p-init c =
+    refl
 
-pub loop-v-preserved : goal.loop-v-preserved
-loop-v-preserved c =
-    let l = c.loop-v in
-    (omega arith, all_turn _ _ _ _ l.invariant.1 c.player_right-right.ensures)
+pub loop-p-preserved : goal.loop-p-preserved
+loop-p-preserved c =
+    all_turn _ _ _ _ c.loop-p.invariant c.player_right-right.ensures
 
 pub returns : goal.returns
 unfolding players_rule
 returns c =
-    all_end _ c.loop-v.invariant.0 (omega arith) c.loop-v.invariant.1
+    all_end _ (omega arith) (omega arith) c.loop-p.invariant

@@ -5,6 +5,7 @@ use lib.ListN.{length}
 use lib.Seq.{paste}
 use Rattle.mcs_state.specs.Codec.{account_octets}
 use Rattle.mcs_state.proofs.Round.{account_kept}
+use borrow.Author.Rules.{rules}
 use Rattle.mcs_state.proofs.lay_account.Goals as goal
 
 pub returns-clause-s_after : goal.returns-clause-s_after
@@ -17,4 +18,4 @@ pub returns-clause-kept : goal.returns-clause-kept
 unfolding account_octets
 returns-clause-kept c =
     let a = c.args in
-    let e = c.account_octets-octets.ensures in account_kept a.a c.eight_results.ensures
+    let e = c.account_octets-octets.ensures in account_kept a.a (search rules)

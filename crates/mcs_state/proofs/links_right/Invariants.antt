@@ -1,6 +1,5 @@
 -- `mcs_state::links_right`: after i turns, the first i links.
 use mathlib.Core.Path.{◌≡◌}
-use Prim.Native.Nat.{◌≤◌, ◌-◌}
 use Rattle.ground.specs.Lists.{all_below}
 use Rattle.desk_state.specs.Desk.{link_at}
 use Rattle.desk_client.specs.Client.{link_rule}
@@ -8,7 +7,4 @@ use Rattle.mcs_state.specs.Codec.{desk_of}
 use Rattle.mcs_state.proofs.links_right.Given as goal
 
 abbrev pub invariant-loop-i : goal.invariant-loop-i
-invariant-loop-i l = (l.i ≤ 4) × (l.good ≡ all_below l.i (λ j. link_rule (link_at (desk_of l.s).links j)))
-
-abbrev pub decreases-loop-i : goal.decreases-loop-i
-decreases-loop-i l = 4 - l.i
+invariant-loop-i l = l.good ≡ all_below l.i (λ j. link_rule (link_at (desk_of l.s).links j))

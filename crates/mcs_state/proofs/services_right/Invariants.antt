@@ -1,6 +1,5 @@
 -- `mcs_state::services_right`: after v turns, the first v services.
 use mathlib.Core.Path.{◌≡◌}
-use Prim.Native.Nat.{◌≤◌, ◌-◌}
 use lib.ListN.{get_or}
 use Rattle.ground.specs.Lists.{all_below}
 use Rattle.desk_state.specs.Desk.{no_service, service_rule}
@@ -9,7 +8,4 @@ use Rattle.mcs_state.proofs.services_right.Given as goal
 
 abbrev pub invariant-loop-v : goal.invariant-loop-v
 invariant-loop-v l =
-    (l.v ≤ 2) × (l.good ≡ all_below l.v (λ j. service_rule l.groups l.tracks (desk_of l.s).links (get_or (desk_of l.s).services j no_service)))
-
-abbrev pub decreases-loop-v : goal.decreases-loop-v
-decreases-loop-v l = 2 - l.v
+    l.good ≡ all_below l.v (λ j. service_rule l.groups l.tracks (desk_of l.s).links (get_or (desk_of l.s).services j no_service))

@@ -11,8 +11,7 @@ use Rattle.mcs_told.proofs.finish.Goals as goal
 
 pub returns-clause-value : goal.returns-clause-value
 returns-clause-value c =
-    let said = said_of c.args.answer in
-    let told = c.told_of-t.ensures in ap (λ (x : Told). x.number) told
+    ap (λ (x : Told). x.number) c.told_of-t.ensures
 
 pub returns-clause-track_after : goal.returns-clause-track_after
 returns-clause-track_after c =
