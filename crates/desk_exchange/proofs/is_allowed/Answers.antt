@@ -20,10 +20,6 @@ pub any_group-requires-clause-bound : goal.any_group-requires-clause-bound
 any_group-requires-clause-bound c =
     group_long c.args.characteristic c.args.value.now c.requires.value_value c.in-14.is
 
-pub any_group-requires-clause-groups_bound : goal.any_group-requires-clause-groups_bound
-any_group-requires-clause-groups_bound c =
-    c.requires.groups_bound
-
 pub returns-in-15 : goal.returns-in-15
 unfolding allowed
 returns-in-15 c =
