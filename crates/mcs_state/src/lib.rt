@@ -64,13 +64,8 @@ fn turn_from(s: &[u8]) -> u32
 fn turn_octets(turn: u32) -> [u8; 5]
     ensures { result ≡ turn_octets turn }
 {
-    [
-        LAYOUT,
-        (turn % 256) as u8,
-        (turn / 256 % 256) as u8,
-        (turn / 65536 % 256) as u8,
-        (turn / 16777216) as u8,
-    ]
+    let [t0, t1, t2, t3] = turn.to_le_bytes();
+    [LAYOUT, t0, t1, t2, t3]
 }
 
 // The ATT_MTU of a link; 0, which 201 refuses, where a yes-or-no octet is neither 0 nor 1.
@@ -106,19 +101,19 @@ fn link_from(s: &[u8], who: usize) -> Link
 fn link_octets(l: Link) -> [u8; 10]
     ensures { result ≡ link_octets l }
 {
-    let mtu = l.mtu;
-    let mark = l.mark;
+    let [m0, m1, m2, m3] = l.mtu.to_le_bytes();
+    let [k0, k1, k2, k3] = l.mark.to_le_bytes();
     [
-        l.connected as u8,
-        l.encrypted as u8,
-        (mtu % 256) as u8,
-        (mtu / 256 % 256) as u8,
-        (mtu / 65536 % 256) as u8,
-        (mtu / 16777216) as u8,
-        (mark % 256) as u8,
-        (mark / 256 % 256) as u8,
-        (mark / 65536 % 256) as u8,
-        (mark / 16777216) as u8,
+        u8::from(l.connected),
+        u8::from(l.encrypted),
+        m0,
+        m1,
+        m2,
+        m3,
+        k0,
+        k1,
+        k2,
+        k3,
     ]
 }
 
@@ -175,32 +170,32 @@ fn account_from(s: &[u8], who: usize) -> Account
 fn account_octets(a: Account) -> [u8; 36]
     ensures { result ≡ account_octets a }
 {
-    let subscribed = a.subscribed;
-    let owed = a.owed;
-    let fresh = a.fresh;
-    let waiting = a.waiting;
+    let [s0, s1, s2, s3] = a.subscribed.to_le_bytes();
+    let [o0, o1, o2, o3] = a.owed.to_le_bytes();
+    let [f0, f1, f2, f3] = a.fresh.to_le_bytes();
+    let [w0, w1, w2, w3, w4, w5, w6, w7] = a.waiting.to_le_bytes();
     let rs = a.results;
     [
-        (subscribed % 256) as u8,
-        (subscribed / 256 % 256) as u8,
-        (subscribed / 65536 % 256) as u8,
-        (subscribed / 16777216) as u8,
-        (owed % 256) as u8,
-        (owed / 256 % 256) as u8,
-        (owed / 65536 % 256) as u8,
-        (owed / 16777216) as u8,
-        (fresh % 256) as u8,
-        (fresh / 256 % 256) as u8,
-        (fresh / 65536 % 256) as u8,
-        (fresh / 16777216) as u8,
-        (waiting % 256) as u8,
-        (waiting / 256 % 256) as u8,
-        (waiting / 65536 % 256) as u8,
-        (waiting / 16777216 % 256) as u8,
-        (waiting / 4294967296 % 256) as u8,
-        (waiting / 1099511627776 % 256) as u8,
-        (waiting / 281474976710656 % 256) as u8,
-        (waiting / 72057594037927936) as u8,
+        s0,
+        s1,
+        s2,
+        s3,
+        o0,
+        o1,
+        o2,
+        o3,
+        f0,
+        f1,
+        f2,
+        f3,
+        w0,
+        w1,
+        w2,
+        w3,
+        w4,
+        w5,
+        w6,
+        w7,
         rs[0].opcode,
         rs[0].code,
         rs[1].opcode,
