@@ -258,12 +258,12 @@ fn player_from(name: &[u8], s: &[u8]) -> Player
 fn player_octets(p: Player) -> [u8; 30]
     ensures { result ≡ player_octets p }
 {
-    let mask = p.offer.mask;
-    let group = p.place.group.0;
-    let track = p.place.track.0;
-    let position = p.place.position.0;
-    let upcoming = p.upcoming;
-    let rest = p.place.rest;
+    let [m0, m1, m2, m3] = p.offer.mask.to_le_bytes();
+    let [g0, g1, g2, g3] = p.place.group.0.to_le_bytes();
+    let [t0, t1, t2, t3] = p.place.track.0.to_le_bytes();
+    let [p0, p1, p2, p3] = p.place.position.0.to_le_bytes();
+    let [u0, u1, u2, u3] = p.upcoming.to_le_bytes();
+    let [r0, r1, r2, r3] = p.place.rest.to_le_bytes();
     [
         p.name.len,
         p.offer.ccid,
@@ -271,30 +271,30 @@ fn player_octets(p: Player) -> [u8; 30]
         p.mode.order,
         p.mode.speed,
         p.mode.seeking,
-        (mask % 256) as u8,
-        (mask / 256 % 256) as u8,
-        (mask / 65536 % 256) as u8,
-        (mask / 16777216) as u8,
-        (group % 256) as u8,
-        (group / 256 % 256) as u8,
-        (group / 65536 % 256) as u8,
-        (group / 16777216) as u8,
-        (track % 256) as u8,
-        (track / 256 % 256) as u8,
-        (track / 65536 % 256) as u8,
-        (track / 16777216) as u8,
-        (position % 256) as u8,
-        (position / 256 % 256) as u8,
-        (position / 65536 % 256) as u8,
-        (position / 16777216) as u8,
-        (upcoming % 256) as u8,
-        (upcoming / 256 % 256) as u8,
-        (upcoming / 65536 % 256) as u8,
-        (upcoming / 16777216) as u8,
-        (rest % 256) as u8,
-        (rest / 256 % 256) as u8,
-        (rest / 65536 % 256) as u8,
-        (rest / 16777216) as u8,
+        m0,
+        m1,
+        m2,
+        m3,
+        g0,
+        g1,
+        g2,
+        g3,
+        t0,
+        t1,
+        t2,
+        t3,
+        p0,
+        p1,
+        p2,
+        p3,
+        u0,
+        u1,
+        u2,
+        u3,
+        r0,
+        r1,
+        r2,
+        r3,
     ]
 }
 
