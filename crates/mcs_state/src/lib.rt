@@ -64,13 +64,8 @@ fn turn_from(s: &[u8]) -> u32
 fn turn_octets(turn: u32) -> [u8; 5]
     ensures { result ≡ turn_octets turn }
 {
-    [
-        LAYOUT,
-        (turn % 256) as u8,
-        (turn / 256 % 256) as u8,
-        (turn / 65536 % 256) as u8,
-        (turn / 16777216) as u8,
-    ]
+    let [t0, t1, t2, t3] = turn.to_le_bytes();
+    [LAYOUT, t0, t1, t2, t3]
 }
 
 // The ATT_MTU of a link; 0, which 201 refuses, where a yes-or-no octet is neither 0 nor 1.
@@ -106,19 +101,19 @@ fn link_from(s: &[u8], who: usize) -> Link
 fn link_octets(l: Link) -> [u8; 10]
     ensures { result ≡ link_octets l }
 {
-    let mtu = l.mtu;
-    let mark = l.mark;
+    let [m0, m1, m2, m3] = l.mtu.to_le_bytes();
+    let [k0, k1, k2, k3] = l.mark.to_le_bytes();
     [
-        l.connected as u8,
-        l.encrypted as u8,
-        (mtu % 256) as u8,
-        (mtu / 256 % 256) as u8,
-        (mtu / 65536 % 256) as u8,
-        (mtu / 16777216) as u8,
-        (mark % 256) as u8,
-        (mark / 256 % 256) as u8,
-        (mark / 65536 % 256) as u8,
-        (mark / 16777216) as u8,
+        u8::from(l.connected),
+        u8::from(l.encrypted),
+        m0,
+        m1,
+        m2,
+        m3,
+        k0,
+        k1,
+        k2,
+        k3,
     ]
 }
 
@@ -175,32 +170,32 @@ fn account_from(s: &[u8], who: usize) -> Account
 fn account_octets(a: Account) -> [u8; 36]
     ensures { result ≡ account_octets a }
 {
-    let subscribed = a.subscribed;
-    let owed = a.owed;
-    let fresh = a.fresh;
-    let waiting = a.waiting;
+    let [s0, s1, s2, s3] = a.subscribed.to_le_bytes();
+    let [o0, o1, o2, o3] = a.owed.to_le_bytes();
+    let [f0, f1, f2, f3] = a.fresh.to_le_bytes();
+    let [w0, w1, w2, w3, w4, w5, w6, w7] = a.waiting.to_le_bytes();
     let rs = a.results;
     [
-        (subscribed % 256) as u8,
-        (subscribed / 256 % 256) as u8,
-        (subscribed / 65536 % 256) as u8,
-        (subscribed / 16777216) as u8,
-        (owed % 256) as u8,
-        (owed / 256 % 256) as u8,
-        (owed / 65536 % 256) as u8,
-        (owed / 16777216) as u8,
-        (fresh % 256) as u8,
-        (fresh / 256 % 256) as u8,
-        (fresh / 65536 % 256) as u8,
-        (fresh / 16777216) as u8,
-        (waiting % 256) as u8,
-        (waiting / 256 % 256) as u8,
-        (waiting / 65536 % 256) as u8,
-        (waiting / 16777216 % 256) as u8,
-        (waiting / 4294967296 % 256) as u8,
-        (waiting / 1099511627776 % 256) as u8,
-        (waiting / 281474976710656 % 256) as u8,
-        (waiting / 72057594037927936) as u8,
+        s0,
+        s1,
+        s2,
+        s3,
+        o0,
+        o1,
+        o2,
+        o3,
+        f0,
+        f1,
+        f2,
+        f3,
+        w0,
+        w1,
+        w2,
+        w3,
+        w4,
+        w5,
+        w6,
+        w7,
         rs[0].opcode,
         rs[0].code,
         rs[1].opcode,
@@ -263,12 +258,12 @@ fn player_from(name: &[u8], s: &[u8]) -> Player
 fn player_octets(p: Player) -> [u8; 30]
     ensures { result ≡ player_octets p }
 {
-    let mask = p.offer.mask;
-    let group = p.place.group.0;
-    let track = p.place.track.0;
-    let position = p.place.position.0;
-    let upcoming = p.upcoming;
-    let rest = p.place.rest;
+    let [m0, m1, m2, m3] = p.offer.mask.to_le_bytes();
+    let [g0, g1, g2, g3] = p.place.group.0.to_le_bytes();
+    let [t0, t1, t2, t3] = p.place.track.0.to_le_bytes();
+    let [p0, p1, p2, p3] = p.place.position.0.to_le_bytes();
+    let [u0, u1, u2, u3] = p.upcoming.to_le_bytes();
+    let [r0, r1, r2, r3] = p.place.rest.to_le_bytes();
     [
         p.name.len,
         p.offer.ccid,
@@ -276,30 +271,30 @@ fn player_octets(p: Player) -> [u8; 30]
         p.mode.order,
         p.mode.speed,
         p.mode.seeking,
-        (mask % 256) as u8,
-        (mask / 256 % 256) as u8,
-        (mask / 65536 % 256) as u8,
-        (mask / 16777216) as u8,
-        (group % 256) as u8,
-        (group / 256 % 256) as u8,
-        (group / 65536 % 256) as u8,
-        (group / 16777216) as u8,
-        (track % 256) as u8,
-        (track / 256 % 256) as u8,
-        (track / 65536 % 256) as u8,
-        (track / 16777216) as u8,
-        (position % 256) as u8,
-        (position / 256 % 256) as u8,
-        (position / 65536 % 256) as u8,
-        (position / 16777216) as u8,
-        (upcoming % 256) as u8,
-        (upcoming / 256 % 256) as u8,
-        (upcoming / 65536 % 256) as u8,
-        (upcoming / 16777216) as u8,
-        (rest % 256) as u8,
-        (rest / 256 % 256) as u8,
-        (rest / 65536 % 256) as u8,
-        (rest / 16777216) as u8,
+        m0,
+        m1,
+        m2,
+        m3,
+        g0,
+        g1,
+        g2,
+        g3,
+        t0,
+        t1,
+        t2,
+        t3,
+        p0,
+        p1,
+        p2,
+        p3,
+        u0,
+        u1,
+        u2,
+        u3,
+        r0,
+        r1,
+        r2,
+        r3,
     ]
 }
 
