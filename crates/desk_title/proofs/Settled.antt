@@ -9,11 +9,15 @@ use base.Fml.{GName}
 use denote.Bor.{Bor}
 use denote.MutBor.{as_bor}
 use denote.Slice.{shr_slice_vals}
+use Rattle.std.specs.Prelude.{Result, Ok, Err}
+use Rattle.ground.specs.declared.Refusal.{Refusal}
 use Rattle.ground.specs.Refusals.{Left}
+use Rattle.ground.proofs.Cases.{clash}
+use Rattle.ground.proofs.Settled.{done_settles}
+use Rattle.catalogue_titles.specs.declared.Loan.{Loan}
 use Rattle.catalogue_titles.specs.declared.Part.{Part}
-use Rattle.catalogue_titles.specs.Titles.{IsPart}
-use Rattle.desk_replies.proofs.Settled.{answer_settles}
-use Rattle.desk_title.specs.declared.Titled.{Titled}
+use Rattle.catalogue_titles.specs.Titles.{front, IsPart}
+use Rattle.desk_title.specs.Title.{titled_by}
 use Rattle.desk_title.proofs.which.Reads as which
 use Rattle.desk_title.proofs.title.Reads as title
 
@@ -38,25 +42,35 @@ pub any_name : {text office : Bor (List ℕ)} {part : Part} {r : Bor (List ℕ)}
     → IsPart part text office (as_bor (record { ref_ptr = r.ref_ptr; ghost_name = other; now = r.now }))
 any_name a other = record { block = a.block; start = a.start; many = a.many; octets = a.octets }
 
-module _ (groups tracks segments text renames office state : Bor (List ℕ)) (service : ℕ) where
-  pub title_settled : (κs : Lfts 6) (r₁ r₂ : Bor (List ℕ))
-      → title.Post κs (groups, (tracks, (segments, (text, (renames, (office, (state, (service, tt)))))))) r₁ (groups, (tracks, (segments, (text, (renames, (office, (state, (service, tt))))))))
-      → title.Post κs (groups, (tracks, (segments, (text, (renames, (office, (state, (service, tt)))))))) r₂ (groups, (tracks, (segments, (text, (renames, (office, (state, (service, tt))))))))
+-- what is done says a part
+saying : Part → Result Unit Refusal → Result Part Refusal
+saying part (Ok u) = Ok part
+saying part (Err r) = Err r
+
+-- no two answers come to the same
+settles : (t₁ t₂ : Result Part Refusal) → titled_by t₁ ≡ titled_by t₂ → t₁ ≡ t₂
+unfolding saying
+settles (Ok p) (Ok q) e = ap (λ (l : Left Part). Ok l.state) e
+settles (Ok p) (Err r) e = clash (sym (ap (λ (l : Left Part). l.said.is_granted) e))
+settles (Err r) (Ok q) e = clash (ap (λ (l : Left Part). l.said.is_granted) e)
+settles (Err r) (Err s) e = ap (saying front) (done_settles (Err r) (Err s) (ap (λ (l : Left Part). l.said) e))
+
+module _ (loan : Bor Loan) (state : Bor (List ℕ)) (service : ℕ) where
+  pub title_settled : (κs : Lfts 3) (r₁ r₂ : Bor (List ℕ))
+      → title.Post κs (loan, (state, (service, tt))) r₁ (loan, (state, (service, tt)))
+      → title.Post κs (loan, (state, (service, tt))) r₂ (loan, (state, (service, tt)))
       → Same r₁ r₂
   title_settled κs r₁ r₂ = same
 
-  pub which_settled : (κs : Lfts 7) (t₁ t₂ : Titled)
-      → which.Post κs (groups, (tracks, (segments, (text, (renames, (office, (state, (service, tt)))))))) t₁ (groups, (tracks, (segments, (text, (renames, (office, (state, (service, tt))))))))
-      → which.Post κs (groups, (tracks, (segments, (text, (renames, (office, (state, (service, tt)))))))) t₂ (groups, (tracks, (segments, (text, (renames, (office, (state, (service, tt))))))))
+  pub which_settled : (κs : Lfts 3) (t₁ t₂ : Result Part Refusal)
+      → which.Post κs (loan, (state, (service, tt))) t₁ (loan, (state, (service, tt)))
+      → which.Post κs (loan, (state, (service, tt))) t₂ (loan, (state, (service, tt)))
       → t₁ ≡ t₂
-  which_settled κs t₁ t₂ p q =
-      let e = p ∙ sym q in
-      let a = answer_settles t₁.answer t₂.answer (ap (λ (l : Left Part). l.said) e) in
-      λ k. record { answer = a k; part = (e k).state }
+  which_settled κs t₁ t₂ p q = settles t₁ t₂ (p ∙ sym q)
 
   -- the two calls with the same inputs: what the one hands back is the part that the other says
-  pub agree : (κs : Lfts 6) (κs' : Lfts 7) (r : Bor (List ℕ)) (t : Titled)
-      → title.Post κs (groups, (tracks, (segments, (text, (renames, (office, (state, (service, tt)))))))) r (groups, (tracks, (segments, (text, (renames, (office, (state, (service, tt))))))))
-      → which.Post κs' (groups, (tracks, (segments, (text, (renames, (office, (state, (service, tt)))))))) t (groups, (tracks, (segments, (text, (renames, (office, (state, (service, tt))))))))
-      → IsPart t.part text office r
+  pub agree : (κs : Lfts 3) (κs' : Lfts 3) (r : Bor (List ℕ)) (t : Result Part Refusal)
+      → title.Post κs (loan, (state, (service, tt))) r (loan, (state, (service, tt)))
+      → which.Post κs' (loan, (state, (service, tt))) t (loan, (state, (service, tt)))
+      → IsPart (titled_by t).state loan.now.text loan.now.office r
   agree κs κs' r t a b = rw (ap (λ (l : Left Part). l.state) b) a

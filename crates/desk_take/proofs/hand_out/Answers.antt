@@ -7,7 +7,7 @@ use native.Mathlib.Omega.{arith}
 use lib.ListN.{length, get_or}
 use Rattle.ground.specs.Cases.{has}
 use Rattle.ground.specs.Lists.{filled, part_from}
-use Rattle.catalogue_titles.specs.Lent.{Lent, lending, catalogue_of}
+use Rattle.catalogue_titles.specs.Lent.{Lent, lent, catalogue_of}
 use Rattle.catalogue_titles.proofs.Laws.{fit_right}
 use Rattle.desk_slots.specs.Slots.{place_count, characteristic_of, service_of, slot_at}
 use Rattle.desk_slots.specs.Round.{next}
@@ -25,8 +25,8 @@ use Rattle.desk_take.proofs.hand_out.Goals.{After-is_control}
 
 -- the place that comes next, and what stands there
 module _ (c : After-is_control) where
-  abbrev lent : Lent
-  lent = lending c.args.groups.now c.args.tracks.now c.args.segments.now c.args.text.now c.args.renames.now c.args.office.now
+  abbrev k : Lent
+  k = lent c.args.loan.now
 
   abbrev of : Player
   of = player_at c.args.players c.service_of-service.result
@@ -44,10 +44,10 @@ module _ (c : After-is_control) where
   number = c.characteristic_of-characteristic.ensures.1 ∙ ap characteristic_of slot
 
   -- what is said of n octets that are handed out, and the record afterwards
-  said : (n : ℕ) → n ≡ length (handed_octets lent c.args.players c.args.c)
-      → (c.service_of-service.result ∷ c.characteristic_of-characteristic.result ∷ n ∷ [] ≡ handed_values lent c.args.players c.args.c)
+  said : (n : ℕ) → n ≡ length (handed_octets k c.args.players c.args.c)
+      → (c.service_of-service.result ∷ c.characteristic_of-characteristic.result ∷ n ∷ [] ≡ handed_values k c.args.players c.args.c)
       × (c.serve-next.result ≡ passed_on (next_place c.args.c) c.args.c)
-  said n e = (λ k. service k ∷ number k ∷ e k ∷ [], c.serve-next.ensures ∙ ap (λ (n : ℕ). passed_on n c.args.c) place)
+  said n e = (λ i. service i ∷ number i ∷ e i ∷ [], c.serve-next.ensures ∙ ap (λ (n : ℕ). passed_on n c.args.c) place)
 
   least : 23 ≤ c.args.c.link.mtu
   least = mtu_least c.args.c.link (client_link c.args.c c.requires.c_value.0)
@@ -56,20 +56,20 @@ module _ (c : After-is_control) where
   control e = sym (c.is_control.ensures ∙ ap is_control slot) ∙ e
 
   result : c.is_control.result ≡ true
-      → result_octets (get_or (account_with c.args.c c.service_of-service.result).results 0 blank_entry) ≡ handed_octets lent c.args.players c.args.c
+      → result_octets (get_or (account_with c.args.c c.service_of-service.result).results 0 blank_entry) ≡ handed_octets k c.args.players c.args.c
   result e =
       ap (λ (n : ℕ). result_octets (get_or (account_with c.args.c n).results 0 blank_entry)) service
-      ∙ result_handed lent c.args.players c.args.c (control e) least
+      ∙ result_handed k c.args.players c.args.c (control e) least
 
   value : c.is_control.result ≡ false → (most : ℕ) → most ≡ c.args.c.link.mtu - 3
-      → part_from 0 most (value_of (source_of lent) of c.characteristic_of-characteristic.result) ≡ handed_octets lent c.args.players c.args.c
+      → part_from 0 most (value_of (source_of k) of c.characteristic_of-characteristic.result) ≡ handed_octets k c.args.players c.args.c
   value e most q =
-      (λ k. part_from 0 (q k) (value_of (source_of lent) (player_at c.args.players (service k)) (number k)))
-      ∙ value_handed lent c.args.players c.args.c (control e)
+      (λ i. part_from 0 (q i) (value_of (source_of k) (player_at c.args.players (service i)) (number i)))
+      ∙ value_handed k c.args.players c.args.c (control e)
 
-  stands : player_rule c.args.groups.now c.args.tracks.now of ≡ true
+  stands : player_rule c.args.loan.now.groups.now c.args.loan.now.tracks.now of ≡ true
   stands =
-      each_player c.args.groups.now c.args.tracks.now c.args.players c.requires.players_value c.service_of-service.result c.service_of-service.ensures.0
+      each_player c.args.loan.now.groups.now c.args.loan.now.tracks.now c.args.players c.requires.players_value c.service_of-service.result c.service_of-service.ensures.0
 
 pub next_place-place-requires : goal.next_place-place-requires
 next_place-place-requires c =
@@ -93,17 +93,17 @@ overflow_sub-c c =
 pub value-n-requires-clause-sits : goal.value-n-requires-clause-sits
 value-n-requires-clause-sits c =
     let f = (goal.at.value-n-requires-clause-sits c).After-is_control in
-    player_sits (catalogue_of (lent f)) (fit_right (lent f) c.requires.fit) (of f) (stands f)
+    player_sits (catalogue_of (k f)) (fit_right (k f) c.requires.fit) (of f) (stands f)
 
 pub value-n-requires-clause-len_le_most_title : goal.value-n-requires-clause-len_le_most_title
 value-n-requires-clause-len_le_most_title c =
     let f = (goal.at.value-n-requires-clause-len_le_most_title c).After-is_control in
-    name_short (catalogue_of (lent f)) (fit_right (lent f) c.requires.fit) (of f) (stands f)
+    name_short (catalogue_of (k f)) (fit_right (k f) c.requires.fit) (of f) (stands f)
 
 pub value-n-requires-clause-p_len_bound : goal.value-n-requires-clause-p_len_bound
 value-n-requires-clause-p_len_bound c =
     let f = (goal.at.value-n-requires-clause-p_len_bound c).After-is_control in
-    title_fits (lent f) c.requires.fit (of f) (stands f)
+    title_fits (k f) c.requires.fit (of f) (stands f)
 
 pub returns-clause-len_value : goal.returns-clause-len_value
 returns-clause-len_value c =

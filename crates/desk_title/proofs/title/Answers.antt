@@ -1,18 +1,27 @@
 -- `desk_title::title`: the part that `which` says lies in its text, so nothing is cut off.
-use mathlib.Core.Path.{ap, sym, subst}
+use mathlib.Core.Path.{◌≡◌, refl, ap, sym, subst, ◌∙◌}
 use lib.ListN.{length}
+use Rattle.std.specs.Prelude.{Result, Ok, Err}
+use Rattle.std.specs.Result.{result_unwrap_or}
+use Rattle.ground.specs.declared.Refusal.{Refusal}
 use Rattle.ground.specs.Refusals.{Left}
 use Rattle.catalogue_titles.specs.declared.Part.{Part}
-use Rattle.catalogue_titles.specs.Titles.{Inside, IsPart}
-use Rattle.catalogue_titles.specs.Lent.{Lent, lending}
+use Rattle.catalogue_titles.specs.Titles.{front, Inside, IsPart}
+use Rattle.catalogue_titles.specs.Lent.{lent}
 use Rattle.mcs_state.specs.Codec.{desk_of}
+use Rattle.desk_title.specs.Title.{titled_by}
 use Rattle.desk_title.proofs.Lying.{title_inside}
 use Rattle.desk_title.proofs.title.Goals as goal
 
+-- the front stands beside a refusal
+beside : (t : Result Part Refusal) → result_unwrap_or t front ≡ (titled_by t).state
+beside (Ok part) = refl
+beside (Err r) = refl
+
 pub returns : goal.returns
 returns c =
-    let lent : Lent = lending c.args.groups.now c.args.tracks.now c.args.segments.now c.args.text.now c.args.renames.now c.args.office.now in
     let a = c.args in
-    let is = ap (λ (l : Left Part). l.state) c.which-t.ensures in
-    subst (λ (part : Part). IsPart part a.text a.office c.cut.result) is
-    (c.cut.ensures.part (subst (λ (part : Part). Inside part (length a.text.now) (length a.office.now)) (sym is) (title_inside (lent) (desk_of a.state.now) a.service)))
+    let is =
+    c.unwrap_or-part.ensures ∙ ap (result_unwrap_or c.which.result) c.front_part.ensures ∙ beside c.which.result ∙ ap (λ (l : Left Part). l.state) c.which.ensures in
+    subst (λ (part : Part). IsPart part a.loan.now.text a.loan.now.office c.cut.result) is
+    (c.cut.ensures.part (subst (λ (part : Part). Inside part (length a.loan.now.text.now) (length a.loan.now.office.now)) (sym is) (title_inside (lent a.loan.now) (desk_of a.state.now) a.service)))
