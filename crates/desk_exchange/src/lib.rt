@@ -4,16 +4,21 @@
 ghost use Rattle.std.specs.Prelude.{◌≡◌, ◌<◌, ◌≤◌, true, false, ◌++◌, ltb, length as len};
 ghost use Rattle.ground.specs.Limits.{most_groups, least_output};
 ghost use Rattle.ground.specs.Lists.{table_after};
-ghost use Rattle.catalogue_tables.specs.Tables.{tables, group_count};
-ghost use Rattle.catalogue_titles.specs.Lent.{Fit, lending};
+ghost use Rattle.ground.specs.Refusals.{done_said, said_by};
+ghost use Rattle.catalogue_tables.specs.Tables.{group_count};
+ghost use Rattle.catalogue_titles.specs.Lent.{Fit, lent, catalogue_of};
 ghost use Rattle.catalogue_tables.specs.Objects.{track_objects, group_objects};
 ghost use Rattle.catalogue_check.specs.Catalogue.{Right};
 ghost use Rattle.player_check.specs.Standing.{player_rule};
 ghost use Rattle.desk_slots.specs.Slots.{client_count};
 ghost use Rattle.mcs_state.specs.Codec.{desk_of};
-ghost use Rattle.desk_replies.specs.Replies.{Answers, Gated, said_of, fronted};
+ghost use Rattle.desk_replies.specs.Replies.{Answers, said_of, fronted};
 ghost use Rattle.desk_exchange.specs.Read.{value_now, reader_rows, after_read, read_octets, read_call};
 ghost use Rattle.desk_exchange.specs.Write.{writer_rows, control_length, length_right, object_of, track_at, group_at, own_track, any_group, allowed, number_of, control_written, player_written, written, write_call};
+
+use catalogue_titles::Loan;
+use desk_replies::Reply;
+use ground::{Reason, Refusal};
 
 // What a read leaves of the client's account.
 fn after_read(a: desk_client::Account, characteristic: u32, offset: u32) -> desk_client::Account
@@ -27,91 +32,65 @@ fn after_read(a: desk_client::Account, characteristic: u32, offset: u32) -> desk
 }
 
 // The refusals of a read.
-fn read_gate<'a>(
-    groups: &[u32],
-    tracks: &[u32],
-    segments: &[u32],
-    text: &'a [u8],
-    renames: &[u32],
-    office: &'a [u8],
+fn read_gate(
+    loan: &Loan,
     state: &[u8],
     who: u32,
     service: u32,
     characteristic: u32,
     offset: u32,
     room: usize,
-) -> desk_replies::Gate
+) -> Result<(), Refusal>
     requires { 649 ≤ len state.now }
-    ensures { Gated (fronted (lending groups.now tracks.now segments.now text.now renames.now office.now) (ltb room least_output) (desk_of state.now) ++ reader_rows (desk_of state.now) who service characteristic offset (len (value_now (lending groups.now tracks.now segments.now text.now renames.now office.now) (desk_of state.now) service characteristic))) result }
+    ensures { done_said result ≡ said_by (fronted (lent loan.now) (ltb room least_output) (desk_of state.now) ++ reader_rows (desk_of state.now) who service characteristic offset (len (value_now (lent loan.now) (desk_of state.now) service characteristic))) }
 {
-    let g = desk_replies::characteristic_gate(
-        groups,
-        tracks,
-        segments,
-        text,
-        renames,
-        office,
+    desk_replies::characteristic_gate(
+        loan,
         room < ground::LEAST_OUTPUT,
         state,
         who,
         service,
         characteristic,
-        ground::NOT_READABLE,
+        Reason::NotReadable,
         desk_slots::may_read(characteristic),
-    );
-    if !g.passes {
-        return g;
-    }
+    )?;
     if offset == 0 {
-        return g;
+        return Ok(());
     }
     let a = mcs_state::account_at(state, service, who);
     if !ground::has_bit(a.fresh, characteristic) {
-        return desk_replies::gate_shut(ground::VALUE_CHANGED);
+        return Err(Refusal::from(Reason::ValueChanged));
     }
     let p = mcs_state::player_at(state, service);
-    let n = player_values::length_of(groups, tracks, text, renames, office, p, characteristic);
+    let n = player_values::length_of(
+        loan.groups,
+        loan.tracks,
+        loan.text,
+        loan.renames,
+        loan.office,
+        p,
+        characteristic,
+    );
     if n < ground::wide_word(offset) {
-        return desk_replies::gate_shut(ground::BEYOND_END);
+        return Err(Refusal::from(Reason::BeyondEnd));
     }
-    g
+    Ok(())
 }
 
 // A client reads a characteristic from an offset on, over the front of out.
-pub fn read<'a>(
-    groups: &[u32],
-    tracks: &[u32],
-    segments: &[u32],
-    text: &'a [u8],
-    renames: &[u32],
-    office: &'a [u8],
+pub fn read(
+    loan: &Loan,
     state: &mut [u8; 649],
     who: u32,
     service: u32,
     characteristic: u32,
     offset: u32,
     out: &mut [u8],
-) -> desk_replies::Answer
-    ensures answers { Answers (read_call (lending groups.now tracks.now segments.now text.now renames.now office.now) (desk_of state.old) who service characteristic offset (len out.old)) state.old result state.new }
-    ensures out_after { out.new ≡ table_after (said_of result) (read_octets (lending groups.now tracks.now segments.now text.now renames.now office.now) (desk_of state.old) who service characteristic offset) out.old }
+) -> Result<Reply, Refusal>
+    ensures answers { Answers (read_call (lent loan.now) (desk_of state.old) who service characteristic offset (len out.old)) state.old result state.new }
+    ensures out_after { out.new ≡ table_after (said_of result) (read_octets (lent loan.now) (desk_of state.old) who service characteristic offset) out.old }
 {
-    let g = read_gate(
-        groups,
-        tracks,
-        segments,
-        text,
-        renames,
-        office,
-        state,
-        who,
-        service,
-        characteristic,
-        offset,
-        out.len(),
-    );
-    if !g.passes {
-        return g.answer;
-    }
+    read_gate(loan, state, who, service, characteristic, offset, out.len())?;
     let l = mcs_state::link_at(state, who);
     let a = mcs_state::account_at(state, service, who);
     let p = mcs_state::player_at(state, service);
@@ -119,11 +98,11 @@ pub fn read<'a>(
     let most = ground::wide_word(l.mtu - 1);
     let n = player_values::value(
         out,
-        groups,
-        tracks,
-        text,
-        renames,
-        office,
+        loan.groups,
+        loan.tracks,
+        loan.text,
+        loan.renames,
+        loan.office,
         p,
         characteristic,
         from,
@@ -132,7 +111,7 @@ pub fn read<'a>(
     let next = after_read(a, characteristic, offset);
     mcs_state::are_octets(state);
     mcs_state::put_account(state, service, who, next);
-    desk_replies::Answer::Octets(n)
+    Ok(Reply::Octets(n))
 }
 
 // Whether a write to 18 has as many octets as its opcode asks.
@@ -228,51 +207,38 @@ fn group_at(value: &[u8]) -> catalogue_tables::GroupNo
 
 // The refusals of a write.
 fn write_gate(
-    groups: &[u32],
-    tracks: &[u32],
-    segments: &[u32],
-    text: &[u8],
-    renames: &[u32],
-    office: &[u8],
+    loan: &Loan,
     state: &[u8],
     who: u32,
     service: u32,
     characteristic: u32,
     value: &[u8],
-) -> desk_replies::Gate
+) -> Result<(), Refusal>
     requires { 649 ≤ len state.now }
-    ensures { Gated (fronted (lending groups.now tracks.now segments.now text.now renames.now office.now) false (desk_of state.now) ++ writer_rows (lending groups.now tracks.now segments.now text.now renames.now office.now) (desk_of state.now) who service characteristic value.now) result }
+    ensures { done_said result ≡ said_by (fronted (lent loan.now) false (desk_of state.now) ++ writer_rows (lent loan.now) (desk_of state.now) who service characteristic value.now) }
 {
-    let g = desk_replies::characteristic_gate(
-        groups,
-        tracks,
-        segments,
-        text,
-        renames,
-        office,
+    desk_replies::characteristic_gate(
+        loan,
         false,
         state,
         who,
         service,
         characteristic,
-        ground::NOT_WRITABLE,
+        Reason::NotWritable,
         desk_slots::may_write(characteristic),
-    );
-    if !g.passes {
-        return g;
-    }
+    )?;
     if !length_right(characteristic, value) {
-        return desk_replies::gate_shut(ground::BAD_LENGTH);
+        return Err(Refusal::from(Reason::BadLength));
     }
     let p = mcs_state::player_at(state, service);
-    if !is_allowed(groups, p, characteristic, value) {
-        return desk_replies::gate_shut(ground::NOT_ALLOWED);
+    if !is_allowed(loan.groups, p, characteristic, value) {
+        return Err(Refusal::from(Reason::NotAllowed));
     }
     let a = mcs_state::account_at(state, service, who);
     if (characteristic == 18) & (desk_client::MOST_RESULTS <= a.waiting) {
-        return desk_replies::gate_shut(ground::TOO_MANY_RESULTS);
+        return Err(Refusal::from(Reason::TooManyResults));
     }
-    g
+    Ok(())
 }
 
 // The number that an opcode carries, where it does.
@@ -286,30 +252,29 @@ fn number_of(value: &[u8]) -> u32
 }
 
 // An opcode is carried out, and the writer gets its result.
-fn control<'a>(
-    groups: &[u32],
-    tracks: &[u32],
-    segments: &[u32],
-    text: &'a [u8],
-    renames: &[u32],
-    office: &'a [u8],
-    s: desk_state::Service,
-    who: u32,
-    value: &[u8],
-) -> desk_state::Service
-    requires fit { Fit (lending groups.now tracks.now segments.now text.now renames.now office.now) }
-    requires player_value { player_rule groups.now tracks.now s.player ≡ true }
+fn control(loan: &Loan, s: desk_state::Service, who: u32, value: &[u8]) -> desk_state::Service
+    requires fit { Fit (lent loan.now) }
+    requires player_value { player_rule loan.now.groups.now loan.now.tracks.now s.player ≡ true }
     requires who_lt_client_count { who < client_count }
-    ensures { result ≡ control_written (lending groups.now tracks.now segments.now text.now renames.now office.now) s who value.now }
+    ensures { result ≡ control_written (lent loan.now) s who value.now }
 {
     let p = s.player;
     let opcode = ground::octet_or_zero(value, 0);
     let number = number_of(value);
-    let done = player_moves::control(groups, tracks, segments, p, opcode, number);
+    let done = player_moves::control(loan.groups, loan.tracks, loan.segments, p, opcode, number);
     let q = done.player;
     let code = done.result;
     let cause = desk_notices::by_writer(who, 18);
-    let t = desk_notices::settle(groups, tracks, text, renames, office, s, q, cause);
+    let t = desk_notices::settle(
+        loan.groups,
+        loan.tracks,
+        loan.text,
+        loan.renames,
+        loan.office,
+        s,
+        q,
+        cause,
+    );
     let a = desk_state::account_in(t, who);
     let next = desk_client::note_result(a, opcode, code);
     desk_state::with_account(t, who, next)
@@ -317,107 +282,75 @@ fn control<'a>(
 
 // What the player becomes by an allowed write to any but 18.
 fn player_written(
-    groups: &[u32],
-    tracks: &[u32],
-    segments: &[u32],
-    text: &[u8],
+    loan: &Loan,
     p: player_state::Player,
     characteristic: u32,
     value: &[u8],
 ) -> player_state::Player
-    requires right { Right (tables groups.now tracks.now segments.now text.now) }
+    requires right { Right (catalogue_of (lent loan.now)) }
     requires value_value { length_right characteristic value.now ≡ true }
-    requires value_value_2 { allowed groups.now p characteristic value.now ≡ true }
-    ensures { result ≡ player_written (tables groups.now tracks.now segments.now text.now) p characteristic value.now }
+    requires value_value_2 { allowed loan.now.groups.now p characteristic value.now ≡ true }
+    ensures { result ≡ player_written (catalogue_of (lent loan.now)) p characteristic value.now }
 {
     let first = ground::octet_or_zero(value, 0);
     match characteristic {
-        7 => player_moves::write_position(tracks, p, ground::word_at(value, 0)),
+        7 => player_moves::write_position(loan.tracks, p, ground::word_at(value, 0)),
         8 => player_state::with_speed(p, first),
         11 => player_state::move_to(p, p.place.group, track_at(value)),
         12 => player_state::name_track(p, track_at(value)),
-        14 => player_moves::write_group(groups, tracks, p, group_at(value)),
+        14 => player_moves::write_group(loan.groups, loan.tracks, p, group_at(value)),
         _ => player_state::with_order(p, first),
     }
 }
 
 // What a write does.
-fn carry_out<'a>(
-    groups: &[u32],
-    tracks: &[u32],
-    segments: &[u32],
-    text: &'a [u8],
-    renames: &[u32],
-    office: &'a [u8],
+fn carry_out(
+    loan: &Loan,
     s: desk_state::Service,
     who: u32,
     characteristic: u32,
     value: &[u8],
 ) -> desk_state::Service
-    requires fit { Fit (lending groups.now tracks.now segments.now text.now renames.now office.now) }
-    requires player_value { player_rule groups.now tracks.now s.player ≡ true }
+    requires fit { Fit (lent loan.now) }
+    requires player_value { player_rule loan.now.groups.now loan.now.tracks.now s.player ≡ true }
     requires who_lt_client_count { who < client_count }
     requires value_value { length_right characteristic value.now ≡ true }
-    requires value_value_2 { allowed groups.now s.player characteristic value.now ≡ true }
-    ensures { result ≡ written (lending groups.now tracks.now segments.now text.now renames.now office.now) s who characteristic value.now }
+    requires value_value_2 { allowed loan.now.groups.now s.player characteristic value.now ≡ true }
+    ensures { result ≡ written (lent loan.now) s who characteristic value.now }
 {
     if characteristic == 18 {
-        return control(
-            groups, tracks, segments, text, renames, office, s, who, value,
-        );
+        return control(loan, s, who, value);
     }
     let p = s.player;
-    let q = player_written(groups, tracks, segments, text, p, characteristic, value);
+    let q = player_written(loan, p, characteristic, value);
     let cause = desk_notices::by_writer(who, characteristic);
-    desk_notices::settle(groups, tracks, text, renames, office, s, q, cause)
+    desk_notices::settle(
+        loan.groups,
+        loan.tracks,
+        loan.text,
+        loan.renames,
+        loan.office,
+        s,
+        q,
+        cause,
+    )
 }
 
 // A client writes a characteristic.
-pub fn write<'a>(
-    groups: &[u32],
-    tracks: &[u32],
-    segments: &[u32],
-    text: &'a [u8],
-    renames: &[u32],
-    office: &'a [u8],
+pub fn write(
+    loan: &Loan,
     state: &mut [u8; 649],
     who: u32,
     service: u32,
     characteristic: u32,
     value: &[u8],
-) -> desk_replies::Answer
-    ensures { Answers (write_call (lending groups.now tracks.now segments.now text.now renames.now office.now) (desk_of state.old) who service characteristic value.now) state.old result state.new }
+) -> Result<Reply, Refusal>
+    ensures { Answers (write_call (lent loan.now) (desk_of state.old) who service characteristic value.now) state.old result state.new }
 {
-    let g = write_gate(
-        groups,
-        tracks,
-        segments,
-        text,
-        renames,
-        office,
-        state,
-        who,
-        service,
-        characteristic,
-        value,
-    );
-    if !g.passes {
-        return g.answer;
-    }
+    write_gate(loan, state, who, service, characteristic, value)?;
     let s = mcs_state::service_at(state, service);
-    let written = carry_out(
-        groups,
-        tracks,
-        segments,
-        text,
-        renames,
-        office,
-        s,
-        who,
-        characteristic,
-        value,
-    );
+    let written = carry_out(loan, s, who, characteristic, value);
     mcs_state::are_octets(state);
     mcs_state::put_service(state, service, written);
-    desk_replies::Answer::Done
+    Ok(Reply::Done)
 }

@@ -2,7 +2,7 @@
 use mathlib.Core.Path.{sym, subst, ◌∙◌}
 use borrow.Author.Tests.{eq-eqb, ne_eqb}
 use Rattle.ground.proofs.Cases.{past, here}
-use Rattle.catalogue_titles.specs.Lent.{Lent, lending, catalogue_of}
+use Rattle.catalogue_titles.specs.Lent.{lent, catalogue_of}
 use Rattle.catalogue_titles.proofs.Laws.{fit_right}
 use Rattle.player_moves.specs.Moves.{Sits}
 use Rattle.player_values.specs.Values.{source_of}
@@ -19,33 +19,21 @@ returns-then-characteristic-eq18 c =
 
 pub player_written-q-requires-clause-right : goal.player_written-q-requires-clause-right
 player_written-q-requires-clause-right c =
-    let lent : Lent = lending c.args.groups.now c.args.tracks.now c.args.segments.now c.args.text.now c.args.renames.now c.args.office.now in
-    fit_right (lent) c.requires.fit
-
-pub player_written-q-requires-clause-value_value : goal.player_written-q-requires-clause-value_value
-player_written-q-requires-clause-value_value c =
-    let lent : Lent = lending c.args.groups.now c.args.tracks.now c.args.segments.now c.args.text.now c.args.renames.now c.args.office.now in
-    c.requires.value_value
-
-pub player_written-q-requires-clause-value_value_2 : goal.player_written-q-requires-clause-value_value_2
-player_written-q-requires-clause-value_value_2 c =
-    let lent : Lent = lending c.args.groups.now c.args.tracks.now c.args.segments.now c.args.text.now c.args.renames.now c.args.office.now in
-    c.requires.value_value_2
+    fit_right (lent c.args.loan.now) c.requires.fit
 
 pub settle-requires-clause-sits : goal.settle-requires-clause-sits
 settle-requires-clause-sits c =
-    let lent : Lent = lending c.args.groups.now c.args.tracks.now c.args.segments.now c.args.text.now c.args.renames.now c.args.office.now in
-    let a = c.args in player_sits (catalogue_of (lent)) (fit_right (lent) c.requires.fit) a.s.player c.requires.player_value
+    let a = c.args in
+    player_sits (catalogue_of (lent a.loan.now)) (fit_right (lent a.loan.now) c.requires.fit) a.s.player c.requires.player_value
 
 pub settle-requires-clause-sits_2 : goal.settle-requires-clause-sits_2
 settle-requires-clause-sits_2 c =
-    let lent : Lent = lending c.args.groups.now c.args.tracks.now c.args.segments.now c.args.text.now c.args.renames.now c.args.office.now in
-    let a = c.args in subst (Sits a.groups.now a.tracks.now) (sym c.player_written-q.ensures)
-    (written_sits (catalogue_of (lent)) (fit_right (lent) c.requires.fit) a.s.player c.requires.player_value a.value.now a.characteristic c.requires.value_value_2)
+    let a = c.args in
+    subst (Sits a.loan.now.groups.now a.loan.now.tracks.now) (sym c.player_written-q.ensures)
+    (written_sits (catalogue_of (lent a.loan.now)) (fit_right (lent a.loan.now) c.requires.fit) a.s.player c.requires.player_value a.value.now a.characteristic c.requires.value_value_2)
 
 pub returns : goal.returns
 unfolding written
 returns c =
-    let lent : Lent = lending c.args.groups.now c.args.tracks.now c.args.segments.now c.args.text.now c.args.renames.now c.args.office.now in
     past _ (ne_eqb _ _ c.if-characteristic-eq18.false)
-    (c.settle.ensures ∙ (λ k. settled (source_of (lent)) (c.by_writer-cause.ensures k) (c.player_written-q.ensures k) c.args.s))
+    (c.settle.ensures ∙ (λ k. settled (source_of (lent c.args.loan.now)) (c.by_writer-cause.ensures k) (c.player_written-q.ensures k) c.args.s))

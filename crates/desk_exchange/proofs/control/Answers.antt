@@ -1,7 +1,6 @@
 -- `desk_exchange::control`: what the opcode comes to is settled, and then its result is noted.
 use mathlib.Core.Path.{sym, ap, subst, ◌∙◌}
-use native.Mathlib.Omega.{arith}
-use Rattle.catalogue_titles.specs.Lent.{Lent, lending, catalogue_of}
+use Rattle.catalogue_titles.specs.Lent.{lent, catalogue_of}
 use Rattle.catalogue_titles.proofs.Laws.{fit_right}
 use Rattle.player_moves.specs.declared.Controlled.{Controlled}
 use Rattle.player_moves.specs.Moves.{Sits}
@@ -19,41 +18,26 @@ use Rattle.desk_exchange.proofs.control.Goals as goal
 
 pub control-done-requires-clause-shaped : goal.control-done-requires-clause-shaped
 control-done-requires-clause-shaped c =
-    let lent : Lent = lending c.args.groups.now c.args.tracks.now c.args.segments.now c.args.text.now c.args.renames.now c.args.office.now in
-    shaped (catalogue_of (lent)) (fit_right (lent) c.requires.fit)
-
-pub control-done-requires-clause-p_value : goal.control-done-requires-clause-p_value
-control-done-requires-clause-p_value c =
-    let lent : Lent = lending c.args.groups.now c.args.tracks.now c.args.segments.now c.args.text.now c.args.renames.now c.args.office.now in
-    c.requires.player_value
+    shaped (catalogue_of (lent c.args.loan.now)) (fit_right (lent c.args.loan.now) c.requires.fit)
 
 pub settle-t-requires-clause-sits : goal.settle-t-requires-clause-sits
 settle-t-requires-clause-sits c =
-    let lent : Lent = lending c.args.groups.now c.args.tracks.now c.args.segments.now c.args.text.now c.args.renames.now c.args.office.now in
-    let a = c.args in player_sits (catalogue_of (lent)) (fit_right (lent) c.requires.fit) a.s.player c.requires.player_value
+    let a = c.args in
+    player_sits (catalogue_of (lent a.loan.now)) (fit_right (lent a.loan.now) c.requires.fit) a.s.player c.requires.player_value
 
 pub settle-t-requires-clause-sits_2 : goal.settle-t-requires-clause-sits_2
 settle-t-requires-clause-sits_2 c =
-    let lent : Lent = lending c.args.groups.now c.args.tracks.now c.args.segments.now c.args.text.now c.args.renames.now c.args.office.now in
-    let a = c.args in subst (λ (done : Controlled). Sits a.groups.now a.tracks.now done.player) (sym c.control-done.ensures)
-    (player_sits (catalogue_of (lent)) (fit_right (lent) c.requires.fit) _
-    (kept_controlled a.groups.now a.tracks.now a.segments.now (shaped (catalogue_of (lent)) (fit_right (lent) c.requires.fit)) a.s.player c.requires.player_value
+    let a = c.args in
+    subst (λ (done : Controlled). Sits a.loan.now.groups.now a.loan.now.tracks.now done.player) (sym c.control-done.ensures)
+    (player_sits (catalogue_of (lent a.loan.now)) (fit_right (lent a.loan.now) c.requires.fit) _
+    (kept_controlled a.loan.now.groups.now a.loan.now.tracks.now a.loan.now.segments.now (shaped (catalogue_of (lent a.loan.now)) (fit_right (lent a.loan.now) c.requires.fit)) a.s.player c.requires.player_value
     c.octet_or_zero-opcode.result c.number_of-number.result))
-
-pub account_in-a-requires : goal.account_in-a-requires
-account_in-a-requires c =
-    omega (arith, c.requires.who_lt_client_count)
-
-pub with_account-requires : goal.with_account-requires
-with_account-requires c =
-    c.requires.who_lt_client_count
 
 pub returns : goal.returns
 unfolding control_written
 returns c =
-    let lent : Lent = lending c.args.groups.now c.args.tracks.now c.args.segments.now c.args.text.now c.args.renames.now c.args.office.now in
     let opcode = c.octet_or_zero-opcode.ensures in
-    let done = c.control-done.ensures ∙ (λ k. controlled c.args.groups.now c.args.tracks.now c.args.segments.now (opcode k) (c.number_of-number.ensures k) c.args.s.player) in
-    let told = c.settle-t.ensures ∙ (λ k. settled (source_of (lent)) (c.by_writer-cause.ensures k) (done k).player c.args.s) in
+    let done = c.control-done.ensures ∙ (λ k. controlled c.args.loan.now.groups.now c.args.loan.now.tracks.now c.args.loan.now.segments.now (opcode k) (c.number_of-number.ensures k) c.args.s.player) in
+    let told = c.settle-t.ensures ∙ (λ k. settled (source_of (lent c.args.loan.now)) (c.by_writer-cause.ensures k) (done k).player c.args.s) in
     let note = c.note_result-next.ensures ∙ (λ k. resulted (opcode k) (done k).result ((c.account_in-a.ensures ∙ ap (λ (t : Service). account_in t c.args.who) told) k)) in
     c.with_account.ensures ∙ (λ k. with_account c.args.who (note k) (told k))

@@ -1,6 +1,7 @@
 -- `desk_exchange::is_allowed`: the order, the two tracks, the group, and anything else.
 use mathlib.Core.Path.{refl, ap}
 use borrow.Author.Tests.{ne_eqb}
+use borrow.Author.Rules.{rules}
 use Rattle.ground.specs.Cases.{within}
 use Rattle.ground.proofs.Cases.{past}
 use Rattle.desk_exchange.specs.Write.{allowed}
@@ -18,10 +19,6 @@ own_track-requires-in-12 c =
 pub any_group-requires-clause-bound : goal.any_group-requires-clause-bound
 any_group-requires-clause-bound c =
     group_long c.args.characteristic c.args.value.now c.requires.value_value c.in-14.is
-
-pub any_group-requires-clause-groups_bound : goal.any_group-requires-clause-groups_bound
-any_group-requires-clause-groups_bound c =
-    c.requires.groups_bound
 
 pub returns-in-15 : goal.returns-in-15
 unfolding allowed
@@ -46,5 +43,5 @@ returns-in-14 c =
 pub returns-in_default : goal.returns-in_default
 unfolding allowed
 returns-in_default c =
-    let r = c.in_default.in_default-own.rest in
-    past _ (ne_eqb _ _ r.0.0.0.1) (past _ (ne_eqb _ _ r.0.0.1) (past _ (ne_eqb _ _ r.0.1) (past _ (ne_eqb _ _ r.1) refl)))
+    let m = c.args.characteristic in
+    past _ (ne_eqb m 15 (search rules)) (past _ (ne_eqb m 11 (search rules)) (past _ (ne_eqb m 12 (search rules)) (past _ (ne_eqb m 14 (search rules)) refl)))

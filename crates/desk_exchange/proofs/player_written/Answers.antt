@@ -3,8 +3,9 @@ use mathlib.Core.Path.{ap, ◌∙◌}
 use Prim.Native.Nat.{ℕ}
 use native.Mathlib.Omega.{arith}
 use borrow.Author.Tests.{ne_eqb}
+use borrow.Author.Rules.{rules}
 use Rattle.ground.proofs.Cases.{past}
-use Rattle.catalogue_tables.specs.Tables.{Tables, tables}
+use Rattle.catalogue_titles.specs.Lent.{lent, catalogue_of}
 use Rattle.player_state.specs.Player.{naming, with_order, with_speed}
 use Rattle.player_check.proofs.Laws.{group_there}
 use Rattle.player_moves.specs.Clock.{positioned, track_written, group_written}
@@ -19,62 +20,55 @@ word_at-requires c =
 
 pub track_at-requires-clause-bound : goal.track_at-requires-clause-bound
 track_at-requires-clause-bound c =
-    let lent : Tables = tables c.args.groups.now c.args.tracks.now c.args.segments.now c.args.text.now in
     let a = c.args in
-    let own = track_allowed a.groups.now a.p a.value.now a.characteristic c.requires.value_value_2 c.in-11.is in track_long a.characteristic a.value.now c.requires.value_value c.in-11.is
+    track_long a.characteristic a.value.now c.requires.value_value c.in-11.is
 
 pub track_at-requires-clause-track_objects_bound : goal.track_at-requires-clause-track_objects_bound
 track_at-requires-clause-track_objects_bound c =
-    let lent : Tables = tables c.args.groups.now c.args.tracks.now c.args.segments.now c.args.text.now in
     let a = c.args in
-    let own = track_allowed a.groups.now a.p a.value.now a.characteristic c.requires.value_value_2 c.in-11.is in (
-      track_above a.groups.now a.p a.value.now own,
-      omega (arith, track_small (lent) c.requires.right _ _ (track_within a.groups.now a.p a.value.now own)),
+    let own = track_allowed a.loan.now.groups.now a.p a.value.now a.characteristic c.requires.value_value_2 c.in-11.is in (
+      track_above a.loan.now.groups.now a.p a.value.now own,
+      omega (arith, track_small (catalogue_of (lent a.loan.now)) c.requires.right _ _ (track_within a.loan.now.groups.now a.p a.value.now own)),
     )
 
 pub track_at-requires-in-12-clause-bound : goal.track_at-requires-in-12-clause-bound
 track_at-requires-in-12-clause-bound c =
-    let lent : Tables = tables c.args.groups.now c.args.tracks.now c.args.segments.now c.args.text.now in
     let a = c.args in
-    let own = next_allowed a.groups.now a.p a.value.now a.characteristic c.requires.value_value_2 c.in-12.is in next_long a.characteristic a.value.now c.requires.value_value c.in-12.is
+    next_long a.characteristic a.value.now c.requires.value_value c.in-12.is
 
 pub track_at-requires-in-12-clause-track_objects_bound : goal.track_at-requires-in-12-clause-track_objects_bound
 track_at-requires-in-12-clause-track_objects_bound c =
-    let lent : Tables = tables c.args.groups.now c.args.tracks.now c.args.segments.now c.args.text.now in
     let a = c.args in
-    let own = next_allowed a.groups.now a.p a.value.now a.characteristic c.requires.value_value_2 c.in-12.is in (
-      track_above a.groups.now a.p a.value.now own,
-      omega (arith, track_small (lent) c.requires.right _ _ (track_within a.groups.now a.p a.value.now own)),
+    let own = next_allowed a.loan.now.groups.now a.p a.value.now a.characteristic c.requires.value_value_2 c.in-12.is in (
+      track_above a.loan.now.groups.now a.p a.value.now own,
+      omega (arith, track_small (catalogue_of (lent a.loan.now)) c.requires.right _ _ (track_within a.loan.now.groups.now a.p a.value.now own)),
     )
 
 pub group_at-requires-clause-bound : goal.group_at-requires-clause-bound
 group_at-requires-clause-bound c =
-    let lent : Tables = tables c.args.groups.now c.args.tracks.now c.args.segments.now c.args.text.now in
     let a = c.args in
-    let any = group_allowed a.groups.now a.p a.value.now a.characteristic c.requires.value_value_2 c.in-14.is in group_long a.characteristic a.value.now c.requires.value_value c.in-14.is
+    group_long a.characteristic a.value.now c.requires.value_value c.in-14.is
 
 pub group_at-requires-clause-group_objects_bound : goal.group_at-requires-clause-group_objects_bound
 group_at-requires-clause-group_objects_bound c =
-    let lent : Tables = tables c.args.groups.now c.args.tracks.now c.args.segments.now c.args.text.now in
     let a = c.args in
-    let any = group_allowed a.groups.now a.p a.value.now a.characteristic c.requires.value_value_2 c.in-14.is in (
-      group_above a.groups.now a.p a.value.now any,
-      omega (arith, group_small (lent) c.requires.right _ (group_right a.groups.now a.p a.value.now any)),
+    let any = group_allowed a.loan.now.groups.now a.p a.value.now a.characteristic c.requires.value_value_2 c.in-14.is in (
+      group_above a.loan.now.groups.now a.p a.value.now any,
+      omega (arith, group_small (catalogue_of (lent a.loan.now)) c.requires.right _ (group_right a.loan.now.groups.now a.p a.value.now any)),
     )
 
 pub write_group-requires : goal.write_group-requires
 write_group-requires c =
-    let lent : Tables = tables c.args.groups.now c.args.tracks.now c.args.segments.now c.args.text.now in
     let a = c.args in
-    let any = group_allowed a.groups.now a.p a.value.now a.characteristic c.requires.value_value_2 c.in-14.is in
-    run_of _ _ _ (shaped (lent) c.requires.right) c.group_at.result.0
-    (omega (arith, c.group_at.ensures, group_there a.groups.now (group_at a.value.now) (group_right a.groups.now a.p a.value.now any)))
+    let any = group_allowed a.loan.now.groups.now a.p a.value.now a.characteristic c.requires.value_value_2 c.in-14.is in
+    run_of _ _ _ (shaped (catalogue_of (lent a.loan.now)) c.requires.right) c.group_at.result.0
+    (omega (arith, c.group_at.ensures, group_there a.loan.now.groups.now (group_at a.value.now) (group_right a.loan.now.groups.now a.p a.value.now any)))
 
 pub returns-in-7 : goal.returns-in-7
 unfolding player_written
 returns-in-7 c =
     let a = c.args in
-    rw c.in-7.is (c.write_position.ensures ∙ ap (λ (n : ℕ). positioned a.tracks.now n a.p) c.word_at.ensures)
+    rw c.in-7.is (c.write_position.ensures ∙ ap (λ (n : ℕ). positioned a.loan.now.tracks.now n a.p) c.word_at.ensures)
 
 pub returns-in-8 : goal.returns-in-8
 unfolding player_written
@@ -95,11 +89,12 @@ pub returns-in-14 : goal.returns-in-14
 unfolding player_written
 returns-in-14 c =
     let a = c.args in
-    rw c.in-14.is (c.write_group.ensures ∙ ap (λ (n : ℕ). group_written a.groups.now a.tracks.now n a.p) c.group_at.ensures)
+    rw c.in-14.is (c.write_group.ensures ∙ ap (λ (n : ℕ). group_written a.loan.now.groups.now a.loan.now.tracks.now n a.p) c.group_at.ensures)
 
 pub returns-in_default : goal.returns-in_default
 unfolding player_written
 returns-in_default c =
-    let r = c.in_default.in_default-own.rest in
-    past _ (ne_eqb _ _ r.0.0.0.0.1) (past _ (ne_eqb _ _ r.0.0.0.1) (past _ (ne_eqb _ _ r.0.0.1) (past _ (ne_eqb _ _ r.0.1) (past _ (ne_eqb _ _ r.1)
+    let m = c.args.characteristic in
+    past _ (ne_eqb m 7 (search rules)) (past _ (ne_eqb m 8 (search rules)) (past _ (ne_eqb m 11 (search rules)) (past _ (ne_eqb m 12 (search rules))
+    (past _ (ne_eqb m 14 (search rules))
     (c.with_order.ensures ∙ ap (λ (n : ℕ). with_order n c.args.p) c.octet_or_zero-first.ensures)))))
