@@ -1,17 +1,17 @@
 -- The manual's Goto of a service's player. SCOPE 15.1: "It alters nothing, and says where the player would be." What it comes to and the steps made are told
 -- too.
 -- Assumes nothing.
-use Rattle.std.specs.Prelude.{List, [], ◌∷◌, ℕ}
-use Rattle.ground.specs.Refusals.{granted, Left, leaves, keeping, answered}
+use Rattle.std.specs.Prelude.{List, [], ◌∷◌, ℕ, Result, Ok, Err}
+use Rattle.ground.specs.Refusals.{granted, refusal_of, Left, leaves, keeping, answered}
+use Rattle.ground.specs.declared.Refusal.{Refusal}
 use Rattle.catalogue_titles.specs.Lent.{Lent}
 use Rattle.player_state.specs.Player.{place_at}
 use Rattle.player_goto.specs.declared.Gone.{Gone}
 use Rattle.player_goto.specs.Goto.{gone}
 use Rattle.desk_state.specs.declared.Desk.{Desk}
 use Rattle.desk_state.specs.Desk.{service_at}
-use Rattle.desk_replies.specs.Replies.{on_service, said_of}
+use Rattle.desk_replies.specs.Replies.{on_service}
 use Rattle.desk_goto.specs.declared.Arrival.{Arrival}
-use Rattle.desk_goto.specs.declared.Shown.{Shown}
 
 abbrev pub arrival_of : Gone → Arrival
 arrival_of g = record { outcome = g.outcome; steps = g.steps; place = g.player.place }
@@ -25,8 +25,10 @@ manual_call k d service opcode n allowed =
     answered (keeping no_arrival) (on_service k d service)
     (leaves (granted []) (arrival_of (gone k.groups k.tracks k.segments opcode n allowed (service_at d service).player)))
 
-abbrev pub shown_by : Shown → Left Arrival
-shown_by s = leaves (said_of s.answer) s.arrival
+-- what the call says, and the arrival beside it
+abbrev pub shown_by : Result Arrival Refusal → Left Arrival
+shown_by (Ok arrival) = leaves (granted []) arrival
+shown_by (Err r) = leaves (refusal_of r) no_arrival
 
 -- an arrival as words: the outcome and the steps; and the place
 abbrev pub made_values : Arrival → List ℕ

@@ -1,6 +1,6 @@
 -- What a client is handed next, from its own record (SCOPE 19.3 and 19.4).
 -- Assumes nothing.
-use Rattle.std.specs.Prelude.{◌≡◌, Bool, ◌&&◌, List, [], ◌∷◌, ◌++◌, map, ℕ, ◌-◌, eqb, ltb, length, take, get_or}
+use Rattle.std.specs.Prelude.{◌≡◌, Bool, ◌&&◌, List, [], ◌∷◌, ◌++◌, map, ℕ, ◌-◌, eqb, ltb, length, take, get_or, Result, Ok, Err}
 use Rattle.ground.specs.Cases.{pick, has}
 use Rattle.ground.specs.Limits.{least_output}
 use Rattle.ground.specs.Lists.{table_after, all_below, span}
@@ -17,8 +17,10 @@ use Rattle.desk_client.specs.declared.Client.{Client}
 use Rattle.desk_client.specs.Client.{is_control, blank_entry, account_with, client_rule}
 use Rattle.desk_client.specs.Duties.{passed_on}
 use Rattle.desk_state.specs.Desk.{no_player}
-use Rattle.desk_replies.specs.declared.Answer.{Answer}
+use Rattle.ground.specs.declared.Refusal.{Refusal}
+use Rattle.desk_replies.specs.declared.Reply.{Reply}
 use Rattle.desk_replies.specs.Replies.{said_of, lent_rows, state_row}
+use Rattle.desk_take.specs.declared.Own.{Own}
 
 -- SCOPE 19.7: "The owed slots of a client are one set of bits for each service"; these are one set of places, those at which the client is owed something
 unfoldable pub places_owed : Client → ℕ
@@ -74,7 +76,16 @@ own_call k players c room =
 unfoldable pub own_octets : Lent → List Player → Client → List ℕ
 own_octets k players c = pick (eqb (places_owed c) 0) [] (handed_octets k players c)
 
+-- what the take answers, and the record afterwards, which is as it was where the take is refused
+abbrev pub answer_by : Result Own Refusal → Result Reply Refusal
+answer_by (Ok own) = Ok own.reply
+answer_by (Err r) = Err r
+
+abbrev pub record_by : Client → Result Own Refusal → Client
+record_by c (Ok own) = own.client
+record_by c (Err r) = c
+
 -- its answer, the record and the output afterwards
-abbrev pub OwnTake : Lent → List Player → Client → List ℕ → Answer → Client → List ℕ → Type 0
+abbrev pub OwnTake : Lent → List Player → Client → List ℕ → Result Reply Refusal → Client → List ℕ → Type 0
 OwnTake k players c out answer c' out' =
     (leaves (said_of answer) c' ≡ own_call k players c (length out)) × (out' ≡ table_after (said_of answer) (own_octets k players c) out)

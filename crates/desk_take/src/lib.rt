@@ -3,14 +3,20 @@
 
 ghost use Rattle.std.specs.Prelude.{◌≡◌, true, ◌<◌, ◌≤◌, ◌^◌, length, ◌∷◌, []};
 ghost use Rattle.ground.specs.Lists.{filled, table_after};
-ghost use Rattle.catalogue_titles.specs.Lent.{Fit, lending};
+ghost use Rattle.catalogue_titles.specs.Lent.{Fit, lent};
 ghost use Rattle.desk_slots.specs.Slots.{client_count, place_count};
 ghost use Rattle.desk_client.specs.Client.{client_rule};
 ghost use Rattle.desk_state.specs.Desk.{client_at};
 ghost use Rattle.mcs_state.specs.Codec.{desk_of};
 ghost use Rattle.desk_replies.specs.Replies.{said_of, Answers};
-ghost use Rattle.desk_take.specs.Serving.{places_owed, handed_octets, handed_values, after_serving, players_rule, OwnTake};
+ghost use Rattle.desk_take.specs.Serving.{places_owed, handed_octets, handed_values, after_serving, players_rule, OwnTake, answer_by, record_by};
 ghost use Rattle.desk_take.specs.Take.{AllRight, owed_sets, players_of, take_call, take_octets};
+
+use catalogue_titles::Loan;
+use desk_client::Client;
+use desk_replies::Reply;
+use ground::{Reason, Refusal};
+use player_state::Player;
 
 // What a client was served, of which service, in how many octets, and its record afterwards.
 #[derive(Clone, Copy)]
@@ -18,18 +24,18 @@ struct Serving {
     service: u32,
     characteristic: u32,
     len: usize,
-    client: desk_client::Client,
+    client: Client,
 }
 
-// An answer, and a client's record afterwards.
+// What a take of a client's own record replies, and the record afterwards.
 #[derive(Clone, Copy)]
 pub struct Own {
-    pub answer: desk_replies::Answer,
-    pub client: desk_client::Client,
+    pub reply: Reply,
+    pub client: Client,
 }
 
 // The places at which a client is owed something.
-fn places_owed(c: desk_client::Client) -> u32
+fn places_owed(c: Client) -> u32
     requires { client_rule c ≡ true }
     ensures { (result < 2 ^ place_count) × (result ≡ places_owed c) }
 {
@@ -40,22 +46,12 @@ fn places_owed(c: desk_client::Client) -> u32
 }
 
 // A client is served its next place: the present value over the front of out, or of 18 the oldest result.
-fn hand_out<'a>(
-    groups: &[u32],
-    tracks: &[u32],
-    segments: &[u32],
-    text: &'a [u8],
-    renames: &[u32],
-    office: &'a [u8],
-    players: [player_state::Player; 2],
-    c: desk_client::Client,
-    out: &mut [u8],
-) -> Serving
-    requires fit { Fit (lending groups.now tracks.now segments.now text.now renames.now office.now) }
-    requires players_value { players_rule groups.now tracks.now players ≡ true }
+fn hand_out(loan: &Loan, players: [Player; 2], c: Client, out: &mut [u8]) -> Serving
+    requires fit { Fit (lent loan.now) }
+    requires players_value { players_rule loan.now.groups.now loan.now.tracks.now players ≡ true }
     requires c_value { (client_rule c ≡ true) × (0 < places_owed c) × (128 ≤ length out.old) }
-    ensures len_value { (result.service ∷ result.characteristic ∷ result.len ∷ [] ≡ handed_values (lending groups.now tracks.now segments.now text.now renames.now office.now) players c) × (result.client ≡ after_serving c) }
-    ensures out_after { out.new ≡ filled (handed_octets (lending groups.now tracks.now segments.now text.now renames.now office.now) players c) out.old }
+    ensures len_value { (result.service ∷ result.characteristic ∷ result.len ∷ [] ≡ handed_values (lent loan.now) players c) × (result.client ≡ after_serving c) }
+    ensures out_after { out.new ≡ filled (handed_octets (lent loan.now) players c) out.old }
 {
     let owed = places_owed(c);
     let place = desk_slots::next_place(owed, c.link.mark);
@@ -82,11 +78,11 @@ fn hand_out<'a>(
     let most = ground::wide_word(c.link.mtu - 3);
     let n = player_values::value(
         out,
-        groups,
-        tracks,
-        text,
-        renames,
-        office,
+        loan.groups,
+        loan.tracks,
+        loan.text,
+        loan.renames,
+        loan.office,
         p,
         characteristic,
         0,
@@ -100,7 +96,7 @@ fn hand_out<'a>(
     }
 }
 
-fn players_right(groups: &[u32], tracks: &[u32], players: [player_state::Player; 2]) -> bool
+fn players_right(groups: &[u32], tracks: &[u32], players: [Player; 2]) -> bool
     ensures { result ≡ players_rule groups.now tracks.now players }
 {
     let mut good = true;
@@ -112,80 +108,46 @@ fn players_right(groups: &[u32], tracks: &[u32], players: [player_state::Player;
 }
 
 // A client takes what its own record owes it, by either service.
-pub fn take_own<'a>(
-    c: desk_client::Client,
-    groups: &[u32],
-    tracks: &[u32],
-    segments: &[u32],
-    text: &'a [u8],
-    renames: &[u32],
-    office: &'a [u8],
-    players: [player_state::Player; 2],
+pub fn take_own(
+    c: Client,
+    loan: &Loan,
+    players: [Player; 2],
     out: &mut [u8],
-) -> Own
-    ensures { OwnTake (lending groups.now tracks.now segments.now text.now renames.now office.now) players c out.old result.answer result.client out.new }
+) -> Result<Own, Refusal>
+    ensures { OwnTake (lent loan.now) players c out.old (answer_by result) (record_by c result) out.new }
 {
-    let g = desk_replies::lent_gate(
-        groups,
-        tracks,
-        segments,
-        text,
-        renames,
-        office,
-        out.len() < ground::LEAST_OUTPUT,
-    );
-    if !g.passes {
-        let answer = g.answer;
-        return Own {
-            answer: answer,
-            client: c,
-        };
-    }
-    let stand = players_right(groups, tracks, players);
+    desk_replies::lent_gate(loan, out.len() < ground::LEAST_OUTPUT)?;
+    let stand = players_right(loan.groups, loan.tracks, players);
     let record = desk_client::client_right(c);
     if !(stand & record) {
-        let refusal = ground::refuse(ground::BAD_STATE);
-        return Own {
-            answer: desk_replies::Answer::Refused(refusal),
-            client: c,
-        };
+        return Err(Refusal::from(Reason::BadState));
     }
     let owed = places_owed(c);
     if owed == 0 {
-        return Own {
-            answer: desk_replies::Answer::Done,
+        return Ok(Own {
+            reply: Reply::Done,
             client: c,
-        };
+        });
     }
-    let h = hand_out(
-        groups, tracks, segments, text, renames, office, players, c, out,
-    );
-    let next = h.client;
-    Own {
-        answer: desk_replies::Answer::Handed(h.service, h.characteristic, h.len),
-        client: next,
-    }
+    let h = hand_out(loan, players, c, out);
+    Ok(Own {
+        reply: Reply::Handed(h.service, h.characteristic, h.len),
+        client: h.client,
+    })
 }
 
 // The same on a record that is lent, and updated where it stands.
-pub fn take_in<'a>(
-    c: &mut desk_client::Client,
-    groups: &[u32],
-    tracks: &[u32],
-    segments: &[u32],
-    text: &'a [u8],
-    renames: &[u32],
-    office: &'a [u8],
-    players: [player_state::Player; 2],
+pub fn take_in(
+    c: &mut Client,
+    loan: &Loan,
+    players: [Player; 2],
     out: &mut [u8],
-) -> desk_replies::Answer
-    ensures { OwnTake (lending groups.now tracks.now segments.now text.now renames.now office.now) players c.old out.old result c.new out.new }
+) -> Result<Reply, Refusal>
+    ensures { OwnTake (lent loan.now) players c.old out.old result c.new out.new }
 {
-    let h = take_own(
-        *c, groups, tracks, segments, text, renames, office, players, out,
-    );
-    *c = h.client;
-    h.answer
+    let own = take_own(*c, loan, players, out)?;
+    *c = own.client;
+    Ok(own.reply)
 }
 
 // The places at which a client is owed something, by the two services.
@@ -213,7 +175,7 @@ fn owed_sets(state: &[u8]) -> [u32; 4]
 }
 
 // The player of each service.
-fn players_of(state: &[u8]) -> [player_state::Player; 2]
+fn players_of(state: &[u8]) -> [Player; 2]
     requires { 649 ≤ length state.now }
     ensures { result ≡ players_of (desk_of state.now) }
 {
@@ -223,45 +185,21 @@ fn players_of(state: &[u8]) -> [player_state::Player; 2]
 }
 
 // The next value or result that is owed to anybody, over the front of out.
-pub fn take<'a>(
-    groups: &[u32],
-    tracks: &[u32],
-    segments: &[u32],
-    text: &'a [u8],
-    renames: &[u32],
-    office: &'a [u8],
-    state: &mut [u8; 649],
-    out: &mut [u8],
-) -> desk_replies::Answer
-    ensures answers { Answers (take_call (lending groups.now tracks.now segments.now text.now renames.now office.now) (desk_of state.old) (length out.old)) state.old result state.new }
-    ensures out_after { out.new ≡ table_after (said_of result) (take_octets (lending groups.now tracks.now segments.now text.now renames.now office.now) (desk_of state.old)) out.old }
+pub fn take(loan: &Loan, state: &mut [u8; 649], out: &mut [u8]) -> Result<Reply, Refusal>
+    ensures answers { Answers (take_call (lent loan.now) (desk_of state.old) (length out.old)) state.old result state.new }
+    ensures out_after { out.new ≡ table_after (said_of result) (take_octets (lent loan.now) (desk_of state.old)) out.old }
 {
-    let g = desk_replies::front_gate(
-        groups,
-        tracks,
-        segments,
-        text,
-        renames,
-        office,
-        out.len() < ground::LEAST_OUTPUT,
-        state,
-    );
-    if !g.passes {
-        return g.answer;
-    }
+    desk_replies::front_gate(loan, out.len() < ground::LEAST_OUTPUT, state)?;
     mcs_state::are_octets(state);
     let sets = owed_sets(state);
     let turn = mcs_state::turn_of(state);
     let who = desk_slots::next_client(sets, turn);
     if desk_slots::CLIENTS <= who {
-        return desk_replies::Answer::Done;
+        return Ok(Reply::Done);
     }
     let players = players_of(state);
     let c = mcs_state::client_at(state, who);
-    let h = hand_out(
-        groups, tracks, segments, text, renames, office, players, c, out,
-    );
-    let next = h.client;
-    mcs_state::put_served(state, who, next);
-    desk_replies::Answer::Served(who, h.service, h.characteristic, h.len)
+    let h = hand_out(loan, players, c, out);
+    mcs_state::put_served(state, who, h.client);
+    Ok(Reply::Served(who, h.service, h.characteristic, h.len))
 }

@@ -4,65 +4,26 @@
 
 ghost use Rattle.std.specs.Prelude.{◌≡◌};
 ghost use Rattle.catalogue_titles.specs.Titles.{IsPart};
-ghost use Rattle.catalogue_titles.specs.Lent.{lending};
+ghost use Rattle.catalogue_titles.specs.Lent.{lent};
 ghost use Rattle.mcs_state.specs.Codec.{desk_of};
 ghost use Rattle.desk_title.specs.Title.{title_call, titled_by};
 
-// Whether the title is to be had, and where it stands; the empty front of the card's text where it is refused.
-#[derive(Clone, Copy)]
-pub struct Titled {
-    pub answer: desk_replies::Answer,
-    pub part: catalogue_titles::Part,
-}
+use catalogue_titles::{Loan, Part};
+use ground::Refusal;
 
 // Of which text the title is a part, and where it stands in it; or the refusal.
-pub fn which(
-    groups: &[u32],
-    tracks: &[u32],
-    segments: &[u32],
-    text: &[u8],
-    renames: &[u32],
-    office: &[u8],
-    state: &[u8; 649],
-    service: u32,
-) -> Titled
-    ensures { titled_by result ≡ title_call (lending groups.now tracks.now segments.now text.now renames.now office.now) (desk_of state.now) service }
+pub fn which(loan: &Loan, state: &[u8; 649], service: u32) -> Result<Part, Refusal>
+    ensures { titled_by result ≡ title_call (lent loan.now) (desk_of state.now) service }
 {
-    let g = desk_replies::service_gate(
-        groups, tracks, segments, text, renames, office, state, service,
-    );
-    if !g.passes {
-        let answer = g.answer;
-        let front = catalogue_titles::front_part();
-        return Titled {
-            answer: answer,
-            part: front,
-        };
-    }
+    desk_replies::service_gate(loan, state, service)?;
     let p = mcs_state::player_at(state, service);
-    let part = player_values::title_part(tracks, renames, p);
-    Titled {
-        answer: desk_replies::Answer::Done,
-        part: part,
-    }
+    Ok(player_values::title_part(loan.tracks, loan.renames, p))
 }
 
-// The title itself, out of the text that it is a part of.
-pub fn title<'a>(
-    groups: &[u32],
-    tracks: &[u32],
-    segments: &[u32],
-    text: &'a [u8],
-    renames: &[u32],
-    office: &'a [u8],
-    state: &[u8; 649],
-    service: u32,
-) -> &'a [u8]
-    ensures { IsPart (title_call (lending groups.now tracks.now segments.now text.now renames.now office.now) (desk_of state.now) service).state text.entry office.entry result }
+// The title itself, out of the text that it is a part of; the empty front of the card's text where it is refused (SCOPE 5.7).
+pub fn title<'a>(loan: &Loan<'a>, state: &[u8; 649], service: u32) -> &'a [u8]
+    ensures { IsPart (title_call (lent loan.now) (desk_of state.now) service).state loan.now.text loan.now.office result }
 {
-    let t = which(
-        groups, tracks, segments, text, renames, office, state, service,
-    );
-    let part = t.part;
-    catalogue_titles::cut(part, text, office)
+    let part = which(loan, state, service).unwrap_or(catalogue_titles::front_part());
+    catalogue_titles::cut(part, loan.text, loan.office)
 }
