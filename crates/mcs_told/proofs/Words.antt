@@ -5,10 +5,10 @@ use mathlib.Core.List.{List, [], ◌∷◌}
 use Prim.Native.Nat.{ℕ, zero, suc, ◌<◌}
 use native.Mathlib.Omega.{arith}
 use lib.Dec.{lit≤}
-use lib.ListN.{get_or, set}
+use lib.ListN.{get_or}
 use Rattle.ground.specs.Cases.{pick}
 use Rattle.ground.specs.Lists.{table_after}
-use Rattle.ground.specs.Refusals.{Said, granted}
+use Rattle.ground.specs.Refusals.{Said}
 use Rattle.mcs_told.specs.declared.Told.{Told}
 use Rattle.mcs_told.specs.Calls.{AllWords, low_word, carries, carries_two, told_of, told_after, said_words, words_after, carried_after, track_after, offset_after}
 
