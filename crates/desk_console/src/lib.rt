@@ -125,13 +125,11 @@ pub fn deactivate(loan: &Loan, state: &mut [u8; 649], service: u32) -> Result<Re
 }
 
 // Whether a step of time stays below the end of the track that plays.
+#[tactic(auto, unfolding(crate::specs::Console::quiet_advance))]
 fn is_quiet(tracks: &[u32], p: player_state::Player, step: u32) -> bool
     ensures { result ≡ quiet_advance tracks.now step p }
 {
-    if p.mode.media == player_state::PLAYING {
-        return player_moves::stays_below(tracks, p, step);
-    }
-    false
+    p.mode.media == player_state::PLAYING && player_moves::stays_below(tracks, p, step)
 }
 
 // A step of time.

@@ -1,4 +1,4 @@
--- `desk_console::activate`: 200, 201, 219, 208, then the group's first track.
+-- `desk_console::activate`: 200, 224, 201, 219, 208, then the group's first track.
 use mathlib.Core.Path.{refl, sym, ap, ◌∙◌}
 use mathlib.Core.Bool.{false, not}
 use mathlib.Core.List.{[], ◌∷◌}
@@ -12,7 +12,7 @@ use Rattle.player_moves.proofs.Ready.{run_of}
 use Rattle.player_moves.proofs.Kept.{kept_activated}
 use Rattle.mcs_state.specs.Codec.{desk_of}
 use Rattle.desk_replies.specs.Replies.{on_service}
-use Rattle.desk_replies.proofs.Gates.{refuses, gate_refuses, refused_so}
+use Rattle.desk_replies.proofs.Gates.{gate_refuses, refused_so}
 use Rattle.desk_console.specs.Console.{player_of, becoming, activate_call}
 use Rattle.desk_console.proofs.Sitting as sitting
 use Rattle.desk_console.proofs.activate.Goals as goal

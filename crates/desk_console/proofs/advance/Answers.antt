@@ -1,14 +1,13 @@
--- `desk_console::advance`: 200, 201, 219, then a step of time.
+-- `desk_console::advance`: 200, 224, 201, 219, then a step of time.
 use mathlib.Core.Path.{ap, ◌∙◌}
 use mathlib.Core.List.{[]}
-use Rattle.ground.proofs.Cases.{here}
 use Rattle.catalogue_titles.specs.Lent.{lent}
 use Rattle.player_check.specs.Standing.{player_rule}
 use Rattle.player_moves.specs.Clock.{advanced}
 use Rattle.player_moves.proofs.Kept.{kept_advanced}
 use Rattle.mcs_state.specs.Codec.{desk_of}
 use Rattle.desk_replies.specs.Replies.{on_service}
-use Rattle.desk_replies.proofs.Gates.{refuses, gate_refuses}
+use Rattle.desk_replies.proofs.Gates.{gate_refuses}
 use Rattle.desk_console.specs.Console.{player_of, becoming, quiet_advance, advance_call}
 use Rattle.desk_console.proofs.Sitting as sitting
 use Rattle.desk_console.proofs.advance.Goals as goal

@@ -1,15 +1,14 @@
--- `desk_console::deactivate`: 200, 201, 219, then no track.
+-- `desk_console::deactivate`: 200, 224, 201, 219, then no track.
 use mathlib.Core.Path.{ap, ◌∙◌}
 use mathlib.Core.Bool.{false}
 use mathlib.Core.List.{[]}
-use Rattle.ground.proofs.Cases.{here}
 use Rattle.catalogue_titles.specs.Lent.{lent}
 use Rattle.player_check.specs.Standing.{player_rule}
 use Rattle.player_state.specs.Player.{deactivated}
 use Rattle.player_moves.proofs.Kept.{kept_deactivated}
 use Rattle.mcs_state.specs.Codec.{desk_of}
 use Rattle.desk_replies.specs.Replies.{on_service}
-use Rattle.desk_replies.proofs.Gates.{refuses, gate_refuses}
+use Rattle.desk_replies.proofs.Gates.{gate_refuses}
 use Rattle.desk_console.specs.Console.{player_of, becoming, deactivate_call}
 use Rattle.desk_console.proofs.Sitting as sitting
 use Rattle.desk_console.proofs.deactivate.Goals as goal

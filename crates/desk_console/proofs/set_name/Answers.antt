@@ -1,11 +1,11 @@
--- `desk_console::set_name`: 200, 201, 219, 207, then another name.
+-- `desk_console::set_name`: 200, 224, 201, 219, 207, then another name.
 use mathlib.Core.Path.{refl, ap, ◌∙◌}
-use mathlib.Core.Bool.{false, not}
+use mathlib.Core.Bool.{false}
 use mathlib.Core.List.{[], ◌∷◌}
 use borrow.Author.Tests.{not-false}
 use Rattle.ground.specs.Refusals.{Said, keeping}
 use Rattle.ground.proofs.Passed.{turned_into}
-use Rattle.ground.proofs.Cases.{past, here}
+use Rattle.ground.proofs.Cases.{past}
 use Rattle.catalogue_titles.specs.Lent.{lent}
 use Rattle.player_check.specs.Standing.{player_rule, name_row}
 use Rattle.player_check.proofs.Laws.{text_short}
