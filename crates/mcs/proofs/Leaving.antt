@@ -5,13 +5,15 @@ use mathlib.Core.List.{List, ◌++◌}
 use Prim.Native.Nat.{ℕ, ◌≤◌}
 use borrow.Author.Tests.{not-false}
 use lib.ListN.{length, drop}
+use Rattle.std.specs.Prelude.{Result}
 use Rattle.ground.specs.Cases.{pick}
+use Rattle.ground.specs.declared.Refusal.{Refusal}
 use Rattle.ground.specs.Refusals.{Said, Row, accepted, said_by, Left}
 use Rattle.ground.proofs.Cases.{clash}
 use Rattle.ground.proofs.Rows.{accepted_said, none_of, said_of_lem}
 use Rattle.catalogue_titles.specs.Lent.{Lent}
 use Rattle.desk_state.specs.declared.Desk.{Desk}
-use Rattle.desk_replies.specs.declared.Answer.{Answer}
+use Rattle.desk_replies.specs.declared.Reply.{Reply}
 use Rattle.desk_replies.specs.Replies.{said_of, state_after, Answers, state_right, fronted, asked}
 use Rattle.mcs_state.specs.Codec.{desk_of, desk_octets}
 use Rattle.mcs_state.specs.Stored.{Octets}
@@ -19,7 +21,7 @@ use Rattle.mcs_state.proofs.Plain.{plain}
 use Rattle.mcs_told.specs.Calls.{AllWords, track_after, offset_after, Ends}
 
 -- a call's answer, and the words for where a text is wrong that are told by it
-pub ends : {l : Left Desk} {old track offset new track' offset' : List ℕ} {number : ℕ} {answer : Answer} → Answers l old answer new
+pub ends : {l : Left Desk} {old track offset new track' offset' : List ℕ} {number : ℕ} {answer : Result Reply Refusal} → Answers l old answer new
     → (number ≡ (said_of answer).number) × ((track' ≡ track_after (said_of answer) track) × (offset' ≡ offset_after (said_of answer) offset))
     → Ends l old track offset number new track' offset'
 ends {l} {old} {track} {offset} a h =
@@ -38,7 +40,7 @@ ends_settled a b = (
 )
 
 -- an answer says small numbers, as the call does
-pub small_said : {l : Left Desk} {old new : List ℕ} {answer : Answer} → Answers l old answer new → AllWords l.said.values → AllWords (said_of answer).values
+pub small_said : {l : Left Desk} {old new : List ℕ} {answer : Result Reply Refusal} → Answers l old answer new → AllWords l.said.values → AllWords (said_of answer).values
 small_said a h = subst (λ (x : Said). AllWords x.values) (sym a.said) h
 
 -- a call that is accepted found a state that stands

@@ -26,6 +26,8 @@ ghost use Rattle.desk_title.specs.Title.{title_call};
 ghost use Rattle.desk_goto.specs.Manual.{manual_call};
 ghost use Rattle.mcs_told.specs.Calls.{Ends, words_after, carried_after, track_after, offset_after, part_after, made_after, arrival_after};
 
+use catalogue_titles::Loan;
+
 // Card load.
 pub fn mcs_card_load(
     card: &[u8],
@@ -70,7 +72,7 @@ pub fn mcs_card_write(
     ensures octet_after { octet.new ≡ offset_after (write_said (tables groups.now tracks.now segments.now text.now) (len card.old)) octet.old }
 {
     let w = card_write::write(groups, tracks, segments, text, card);
-    let t = mcs_told::told_of_write(w);
+    let t = mcs_told::told_of_count(w);
     let values = t.values;
     mcs_told::tell(t.granted, values, blocks);
     mcs_told::tell_place(t, track, octet);
@@ -90,7 +92,7 @@ pub fn mcs_cue_sheet(
     ensures line_after { line.new ≡ carried_after (cue_said sheet.now (len starts.old)) line.old }
 {
     let a = catalogue_cue::read(sheet, starts);
-    let t = mcs_told::told_of_cue(a);
+    let t = mcs_told::told_of_count(a);
     let values = t.values;
     mcs_told::tell(t.granted, values, count);
     mcs_told::tell(t.carries, values, line);
@@ -123,7 +125,7 @@ pub fn mcs_group_object_write(
         catalogue_tables::GroupNo(group),
         out,
     );
-    let t = mcs_told::told_of_object(a);
+    let t = mcs_told::told_of_count(a);
     let values = t.values;
     mcs_told::tell(t.granted, values, written);
     mcs_told::tell_place(t, track, octet);
@@ -156,7 +158,7 @@ pub fn mcs_segments_object_write(
         catalogue_tables::TrackNo(ofTrack),
         out,
     );
-    let t = mcs_told::told_of_object(a);
+    let t = mcs_told::told_of_count(a);
     let values = t.values;
     mcs_told::tell(t.granted, values, written);
     mcs_told::tell_place(t, track, octet);
@@ -203,10 +205,15 @@ pub fn mcs_start(
 ) -> u32
     ensures { Ends (start_call (lending groups.now tracks.now segments.now text.now renames.now office.now) (record { name = name0.now; mask = mask0; ccid = ccid0 }) (record { name = name1.now; mask = mask1; ccid = ccid1 })) state.old track.old octet.old result state.new track.new octet.new }
 {
-    let o = desk_console::start(
-        groups, tracks, segments, text, renames, office, name0, mask0, ccid0, name1, mask1, ccid1,
-        state,
-    );
+    let loan = Loan {
+        groups,
+        tracks,
+        segments,
+        text,
+        renames,
+        office,
+    };
+    let o = desk_console::start(&loan, name0, mask0, ccid0, name1, mask1, ccid1, state);
     mcs_told::finish(o, track, octet)
 }
 
@@ -226,9 +233,15 @@ pub fn mcs_set_name<'a>(
 ) -> u32
     ensures { Ends (name_call (lending groups.now tracks.now segments.now text.now renames.now office.now) (desk_of state.old) service name.now) state.old track.old octet.old result state.new track.new octet.new }
 {
-    let o = desk_console::set_name(
-        groups, tracks, segments, text, renames, office, state, service, name,
-    );
+    let loan = Loan {
+        groups,
+        tracks,
+        segments,
+        text,
+        renames,
+        office,
+    };
+    let o = desk_console::set_name(&loan, state, service, name);
     mcs_told::finish(o, track, octet)
 }
 
@@ -249,9 +262,15 @@ pub fn mcs_activate<'a>(
     ensures { Ends (activate_call (lending groups.now tracks.now segments.now text.now renames.now office.now) (desk_of state.old) service group) state.old track.old octet.old result state.new track.new octet.new }
 {
     let g = catalogue_tables::GroupNo(group);
-    let o = desk_console::activate(
-        groups, tracks, segments, text, renames, office, state, service, g,
-    );
+    let loan = Loan {
+        groups,
+        tracks,
+        segments,
+        text,
+        renames,
+        office,
+    };
+    let o = desk_console::activate(&loan, state, service, g);
     mcs_told::finish(o, track, octet)
 }
 
@@ -270,9 +289,15 @@ pub fn mcs_deactivate<'a>(
 ) -> u32
     ensures { Ends (deactivate_call (lending groups.now tracks.now segments.now text.now renames.now office.now) (desk_of state.old) service) state.old track.old octet.old result state.new track.new octet.new }
 {
-    let o = desk_console::deactivate(
-        groups, tracks, segments, text, renames, office, state, service,
-    );
+    let loan = Loan {
+        groups,
+        tracks,
+        segments,
+        text,
+        renames,
+        office,
+    };
+    let o = desk_console::deactivate(&loan, state, service);
     mcs_told::finish(o, track, octet)
 }
 
@@ -292,9 +317,15 @@ pub fn mcs_advance<'a>(
 ) -> u32
     ensures { Ends (advance_call (lending groups.now tracks.now segments.now text.now renames.now office.now) (desk_of state.old) service step) state.old track.old octet.old result state.new track.new octet.new }
 {
-    let o = desk_console::advance(
-        groups, tracks, segments, text, renames, office, state, service, step,
-    );
+    let loan = Loan {
+        groups,
+        tracks,
+        segments,
+        text,
+        renames,
+        office,
+    };
+    let o = desk_console::advance(&loan, state, service, step);
     mcs_told::finish(o, track, octet)
 }
 
@@ -315,18 +346,15 @@ pub fn mcs_connect(
 ) -> u32
     ensures { Ends (connect_call (lending groups.now tracks.now segments.now text.now renames.now office.now) (desk_of state.old) client mtu (flag encrypted)) state.old track.old octet.old result state.new track.new octet.new }
 {
-    let o = desk_links::connect(
+    let loan = Loan {
         groups,
         tracks,
         segments,
         text,
         renames,
         office,
-        state,
-        client,
-        mtu,
-        encrypted != 0,
-    );
+    };
+    let o = desk_links::connect(&loan, state, client, mtu, encrypted != 0);
     mcs_told::finish(o, track, octet)
 }
 
@@ -345,9 +373,15 @@ pub fn mcs_disconnect(
 ) -> u32
     ensures { Ends (disconnect_call (lending groups.now tracks.now segments.now text.now renames.now office.now) (desk_of state.old) client) state.old track.old octet.old result state.new track.new octet.new }
 {
-    let o = desk_links::disconnect(
-        groups, tracks, segments, text, renames, office, state, client,
-    );
+    let loan = Loan {
+        groups,
+        tracks,
+        segments,
+        text,
+        renames,
+        office,
+    };
+    let o = desk_links::disconnect(&loan, state, client);
     mcs_told::finish(o, track, octet)
 }
 
@@ -368,18 +402,15 @@ pub fn mcs_subscribe(
 ) -> u32
     ensures { Ends (subscribe_call (lending groups.now tracks.now segments.now text.now renames.now office.now) (desk_of state.old) client service characteristic) state.old track.old octet.old result state.new track.new octet.new }
 {
-    let o = desk_links::subscribe(
+    let loan = Loan {
         groups,
         tracks,
         segments,
         text,
         renames,
         office,
-        state,
-        client,
-        service,
-        characteristic,
-    );
+    };
+    let o = desk_links::subscribe(&loan, state, client, service, characteristic);
     mcs_told::finish(o, track, octet)
 }
 
@@ -400,18 +431,15 @@ pub fn mcs_unsubscribe(
 ) -> u32
     ensures { Ends (unsubscribe_call (lending groups.now tracks.now segments.now text.now renames.now office.now) (desk_of state.old) client service characteristic) state.old track.old octet.old result state.new track.new octet.new }
 {
-    let o = desk_links::unsubscribe(
+    let loan = Loan {
         groups,
         tracks,
         segments,
         text,
         renames,
         office,
-        state,
-        client,
-        service,
-        characteristic,
-    );
+    };
+    let o = desk_links::unsubscribe(&loan, state, client, service, characteristic);
     mcs_told::finish(o, track, octet)
 }
 
@@ -437,20 +465,15 @@ pub fn mcs_read<'a>(
     ensures out_after { out.new ≡ table_after (read_call (lending groups.now tracks.now segments.now text.now renames.now office.now) (desk_of state.old) client service characteristic offset (len out.old)).said (read_octets (lending groups.now tracks.now segments.now text.now renames.now office.now) (desk_of state.old) client service characteristic offset) out.old }
     ensures length_after { length.new ≡ words_after (read_call (lending groups.now tracks.now segments.now text.now renames.now office.now) (desk_of state.old) client service characteristic offset (len out.old)).said length.old }
 {
-    let o = desk_exchange::read(
+    let loan = Loan {
         groups,
         tracks,
         segments,
         text,
         renames,
         office,
-        state,
-        client,
-        service,
-        characteristic,
-        offset,
-        out,
-    );
+    };
+    let o = desk_exchange::read(&loan, state, client, service, characteristic, offset, out);
     let t = mcs_told::told_of(o);
     let values = t.values;
     mcs_told::tell(t.granted, values, length);
@@ -475,7 +498,15 @@ pub fn mcs_take<'a>(
     ensures out_after { out.new ≡ table_after (take_call (lending groups.now tracks.now segments.now text.now renames.now office.now) (desk_of state.old) (len out.old)).said (take_octets (lending groups.now tracks.now segments.now text.now renames.now office.now) (desk_of state.old)) out.old }
     ensures served_after { served.new ≡ words_after (take_call (lending groups.now tracks.now segments.now text.now renames.now office.now) (desk_of state.old) (len out.old)).said served.old }
 {
-    let o = desk_take::take(groups, tracks, segments, text, renames, office, state, out);
+    let loan = Loan {
+        groups,
+        tracks,
+        segments,
+        text,
+        renames,
+        office,
+    };
+    let o = desk_take::take(&loan, state, out);
     let t = mcs_told::told_of(o);
     let values = t.values;
     mcs_told::tell(t.granted, values, served);
@@ -500,19 +531,15 @@ pub fn mcs_write<'a>(
 ) -> u32
     ensures { Ends (write_call (lending groups.now tracks.now segments.now text.now renames.now office.now) (desk_of state.old) client service characteristic value.now) state.old track.old octet.old result state.new track.new octet.new }
 {
-    let o = desk_exchange::write(
+    let loan = Loan {
         groups,
         tracks,
         segments,
         text,
         renames,
         office,
-        state,
-        client,
-        service,
-        characteristic,
-        value,
-    );
+    };
+    let o = desk_exchange::write(&loan, state, client, service, characteristic, value);
     mcs_told::finish(o, track, octet)
 }
 
@@ -535,13 +562,17 @@ pub fn mcs_title(
     ensures track_after { track.new ≡ track_after (title_call (lending groups.now tracks.now segments.now text.now renames.now office.now) (desk_of state.now) service).said track.old }
     ensures octet_after { octet.new ≡ offset_after (title_call (lending groups.now tracks.now segments.now text.now renames.now office.now) (desk_of state.now) service).said octet.old }
 {
-    let w = desk_title::which(
-        groups, tracks, segments, text, renames, office, state, service,
-    );
-    let answer = w.answer;
-    let t = mcs_told::told_of(answer);
-    let title = w.part;
-    mcs_told::tell_part(t.granted, title, part);
+    let loan = Loan {
+        groups,
+        tracks,
+        segments,
+        text,
+        renames,
+        office,
+    };
+    let w = desk_title::which(&loan, state, service);
+    let t = mcs_told::told_of_shown(w);
+    mcs_told::tell_part(w, part);
     mcs_told::tell_place(t, track, octet);
     t.number
 }
@@ -570,13 +601,17 @@ pub fn mcs_manual_goto(
     ensures track_after { track.new ≡ track_after (manual_call (lending groups.now tracks.now segments.now text.now renames.now office.now) (desk_of state.now) service opcode number allowed).said track.old }
     ensures octet_after { octet.new ≡ offset_after (manual_call (lending groups.now tracks.now segments.now text.now renames.now office.now) (desk_of state.now) service opcode number allowed).said octet.old }
 {
-    let s = desk_goto::manual_goto(
-        groups, tracks, segments, text, renames, office, state, service, opcode, number, allowed,
-    );
-    let answer = s.answer;
-    let t = mcs_told::told_of(answer);
-    let arrival = s.arrival;
-    mcs_told::tell_arrival(t.granted, arrival, made, place);
+    let loan = Loan {
+        groups,
+        tracks,
+        segments,
+        text,
+        renames,
+        office,
+    };
+    let s = desk_goto::manual_goto(&loan, state, service, opcode, number, allowed);
+    let t = mcs_told::told_of_shown(s);
+    mcs_told::tell_arrival(s, made, place);
     mcs_told::tell_place(t, track, octet);
     t.number
 }

@@ -1,14 +1,14 @@
 -- What C is told is what is said, where that fits words of 32 bits. Assumes nothing.
-use mathlib.Core.Path.{◌≡◌, refl, sym, ap, ◌∙◌}
+use mathlib.Core.Path.{◌≡◌, ap, ◌∙◌}
 use mathlib.Core.Bool.{Bool}
 use mathlib.Core.List.{List, [], ◌∷◌}
 use Prim.Native.Nat.{ℕ, zero, suc, ◌<◌}
 use native.Mathlib.Omega.{arith}
 use lib.Dec.{lit≤}
-use lib.ListN.{length, take, get_or, set}
+use lib.ListN.{get_or}
 use Rattle.ground.specs.Cases.{pick}
 use Rattle.ground.specs.Lists.{table_after}
-use Rattle.ground.specs.Refusals.{Said, granted}
+use Rattle.ground.specs.Refusals.{Said}
 use Rattle.mcs_told.specs.declared.Told.{Told}
 use Rattle.mcs_told.specs.Calls.{AllWords, low_word, carries, carries_two, told_of, told_after, said_words, words_after, carried_after, track_after, offset_after}
 
@@ -20,11 +20,6 @@ at_word (x ∷ xs) (suc i) h = at_word xs i h.1
 
 pub low : (n : ℕ) → n < 4294967296 → low_word n ≡ n
 low n h = omega arith
-
--- n words have no room for what stands behind n values
-pub as_many : (on : Bool) (old a b : List ℕ) (n : ℕ) → length old ≡ n → take n a ≡ take n b → told_after on a old ≡ told_after on b old
-as_many on old a b n e same =
-    ap (λ (m : ℕ). pick on (take m a) old) e ∙ ap (λ (l : List ℕ). pick on l old) same ∙ ap (λ (m : ℕ). pick on (take m b) old) (sym e)
 
 -- what is told is what is said
 pub told_by_places : (on : Bool) (said : Said) (old : List ℕ) → ((i : ℕ) → get_or said.values i 0 < 4294967296)
@@ -66,9 +61,3 @@ front_as_said of said told front out out' count count' n put e = (
   e.0 ∙ ap (λ (x : Said). x.number) told,
   (put ∙ ap (λ (x : Said). table_after x front out) told, e.1 ∙ ap (λ (x : Said). words_after x count) told),
 )
-
--- one word for the number of entries
-pub one_count : (n : ℕ) (old : List ℕ) → length old ≡ 1 → set old 0 n ≡ words_after (granted (n ∷ [])) old
-one_count n [] e = absurd (let z : ⊥ = omega arith in z)
-one_count n (x ∷ []) e = refl
-one_count n (x ∷ y ∷ old) e = absurd (let z : ⊥ = omega arith in z)

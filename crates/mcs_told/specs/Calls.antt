@@ -1,8 +1,9 @@
 -- What a call tells C, and what it leaves of the state's octets. SCOPE 20.1: "A refusal returns its number, and what the number carries. It alters nothing"
 -- Assumes nothing.
-use Rattle.std.specs.Prelude.{◌≡◌, Bool, not, ◌&&◌, List, [], ◌∷◌, ℕ, ◌%◌, ◌<◌, ltb, length, take, get_or}
+use Rattle.std.specs.Prelude.{◌≡◌, Bool, true, not, ◌&&◌, List, [], ◌∷◌, ℕ, ◌%◌, ◌<◌, ltb, length, take, get_or, Result, Ok, Err}
 use Rattle.ground.specs.Cases.{pick}
-use Rattle.ground.specs.Refusals.{Said, Left}
+use Rattle.ground.specs.declared.Refusal.{Refusal}
+use Rattle.ground.specs.Refusals.{Said, answer_said, Left}
 use Rattle.catalogue_titles.specs.declared.Part.{Part}
 use Rattle.catalogue_titles.specs.Titles.{part_values}
 use Rattle.desk_state.specs.declared.Desk.{Desk}
@@ -64,6 +65,14 @@ track_after said old = told_after (carries_two said) (said_words said) old
 
 abbrev pub offset_after : Said → List ℕ → List ℕ
 offset_after said old = told_after (carries said) (pick (carries_two said) (get_or said.values 1 0) (get_or said.values 0 0) ∷ []) old
+
+-- what is said of an answer that has words of its own, and those words; as they were where it is refused
+abbrev pub shown_said : {A : Type 0} → Result A Refusal → Said
+shown_said = answer_said (λ _. [])
+
+abbrev pub shown_after : {A : Type 0} → (A → List ℕ) → Result A Refusal → List ℕ → List ℕ
+shown_after values (Ok a) old = told_after true (values a) old
+shown_after values (Err r) old = old
 
 -- the words for a title's part; as they were where it is refused
 abbrev pub part_after : Left Part → List ℕ → List ℕ

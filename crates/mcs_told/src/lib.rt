@@ -8,12 +8,13 @@ ghost use Rattle.desk_replies.specs.Replies.{said_of};
 ghost use Rattle.desk_goto.specs.Manual.{made_values, place_values};
 ghost use Rattle.card_load.specs.Load.{said_of as loadSaidOf};
 ghost use Rattle.ground.specs.Refusals.{refusal_of, granted as grantedWith, count_said};
-ghost use Rattle.mcs_told.specs.Calls.{AllWords, told_of, told_after, words_after, track_after, offset_after};
+ghost use Rattle.mcs_told.specs.Calls.{AllWords, shown_said, shown_after, told_of, told_after, words_after, track_after, offset_after};
 
-use card_load::Loaded;
-use card_write::Written;
-use catalogue_cue::Cued;
-use desk_replies::Answer;
+use card_load::Counts;
+use catalogue_titles::Part;
+use desk_goto::Arrival;
+use desk_replies::Reply;
+use ground::{Carried, Refusal};
 
 // The numbers of the texts that a title may be a part of.
 const CARD_TEXT: u32 = 0;
@@ -22,6 +23,7 @@ const OFFICE_TEXT: u32 = 1;
 
 // What C is told of an answer: whether the call is accepted, or else whether its refusal carries something, and whether that is a title's track and an offset;
 // the number (SCOPE 20.2), 0 where the call is accepted; and the values as words, 0 where there is none.
+// Stays as flags beside words: the C interface has words of its own for each of these, and what is said of an answer is written over them as it is.
 #[derive(Clone, Copy)]
 pub struct Told {
     pub granted: bool,
@@ -31,27 +33,26 @@ pub struct Told {
     pub values: [u32; 4],
 }
 
-fn refused(r: ground::Refusal) -> Told
+fn refused(r: Refusal) -> Told
     ensures { result ≡ told_of (refusal_of r) }
 {
-    let number = r.number;
-    let carried = r.carried;
-    match carried {
-        ground::Carried::Nothing => Told {
+    let number = u32::from(r.reason);
+    match r.carried {
+        Carried::Nothing => Told {
             granted: false,
             carries: false,
             titled: false,
             number: number,
             values: [0; 4],
         },
-        ground::Carried::One(value) => Told {
+        Carried::One(value) => Told {
             granted: false,
             carries: true,
             titled: false,
             number: number,
             values: [(value % 4294967296) as u32, 0, 0, 0],
         },
-        ground::Carried::Two(first, second) => Told {
+        Carried::Two(first, second) => Told {
             granted: false,
             carries: true,
             titled: true,
@@ -83,14 +84,14 @@ fn granted(first: usize, second: usize, third: usize, fourth: usize) -> Told
     }
 }
 
-// What is told of an answer of the calls on the state, of card load's, of card write's, of cue sheet's, and of an object's.
-pub fn told_of(a: Answer) -> Told
+// What is told of an answer of the calls on the state, of card load's, of one that is a count, and of one that has words of its own.
+pub fn told_of(a: Result<Reply, Refusal>) -> Told
     ensures { result ≡ told_of (said_of a) }
 {
     match a {
-        Answer::Done => granted(0, 0, 0, 0),
-        Answer::Octets(n) => granted(n, 0, 0, 0),
-        Answer::Served(who, service, characteristic, n) => {
+        Ok(Reply::Done) => granted(0, 0, 0, 0),
+        Ok(Reply::Octets(n)) => granted(n, 0, 0, 0),
+        Ok(Reply::Served(who, service, characteristic, n)) => {
             granted(
                 ground::wide_word(who),
                 ground::wide_word(service),
@@ -98,7 +99,7 @@ pub fn told_of(a: Answer) -> Told
                 n,
             )
         }
-        Answer::Handed(service, characteristic, n) => {
+        Ok(Reply::Handed(service, characteristic, n)) => {
             granted(
                 ground::wide_word(service),
                 ground::wide_word(characteristic),
@@ -106,58 +107,49 @@ pub fn told_of(a: Answer) -> Told
                 0,
             )
         }
-        Answer::Refused(r) => refused(r),
+        Err(r) => refused(r),
     }
 }
 
-pub fn told_of_load(l: Loaded) -> Told
-    ensures { result ≡ told_of (loadSaidOf l) }
+pub fn told_of_load(answer: Result<Counts, Refusal>) -> Told
+    ensures { result ≡ told_of (loadSaidOf answer) }
 {
-    match l {
-        Loaded::Done(c) => granted(c.groups, c.tracks, c.segments, c.text),
-        Loaded::Refused(r) => refused(r),
+    match answer {
+        Ok(c) => granted(c.groups, c.tracks, c.segments, c.text),
+        Err(r) => refused(r),
     }
 }
 
-pub fn told_of_write(w: Written) -> Told
-    ensures { result ≡ told_of (count_said w) }
+pub fn told_of_count(answer: Result<usize, Refusal>) -> Told
+    ensures { result ≡ told_of (count_said answer) }
 {
-    match w {
-        Written::Done(blocks) => granted(blocks, 0, 0, 0),
-        Written::Refused(r) => refused(r),
+    match answer {
+        Ok(count) => granted(count, 0, 0, 0),
+        Err(r) => refused(r),
     }
 }
 
-pub fn told_of_cue(c: Cued) -> Told
-    ensures { result ≡ told_of (count_said c) }
+pub fn told_of_shown<T: Copy>(answer: Result<T, Refusal>) -> Told
+    ensures { result ≡ told_of (shown_said answer) }
 {
-    match c {
-        Cued::Done(count) => granted(count, 0, 0, 0),
-        Cued::Refused(r) => refused(r),
-    }
-}
-
-pub fn told_of_object(a: catalogue_objects::Answer) -> Told
-    ensures { result ≡ told_of (count_said a) }
-{
-    match a {
-        catalogue_objects::Answer::Filled(n) => granted(n, 0, 0, 0),
-        catalogue_objects::Answer::Refused(r) => refused(r),
+    match answer {
+        Ok(_) => granted(0, 0, 0, 0),
+        Err(r) => refused(r),
     }
 }
 
 // The number of an object that was read, and its entries counted: octets may be so many that their entries are more than a word of 32 bits counts.
-pub fn tell_count(a: catalogue_objects::Answer, count: &mut [usize]) -> u32
+pub fn tell_count(answer: Result<usize, Refusal>, count: &mut [usize]) -> u32
     requires { len count.old ≡ 1 }
-    ensures value { result ≡ (count_said a).number }
-    ensures count_after { count.new ≡ words_after (count_said a) count.old }
+    ensures value { result ≡ (count_said answer).number }
+    ensures count_after { count.new ≡ words_after (count_said answer) count.old }
 {
-    match a {
-        catalogue_objects::Answer::Filled(n) => {
+    match answer {
+        Ok(n) => {
             count[0] = n;
             0
         }
-        catalogue_objects::Answer::Refused(r) => r.number,
+        Err(r) => u32::from(r.reason),
     }
 }
 
@@ -199,36 +191,36 @@ fn text_number(renamed: bool) -> u32
     CARD_TEXT
 }
 
-// Of which text a title is a part, its offset and its length, over the words that the caller has for it, where `on` says so.
-pub fn tell_part(on: bool, title: catalogue_titles::Part, part: &mut [u32])
+// Of which text a title is a part, its offset and its length, over the words that the caller has for it.
+pub fn tell_part(answer: Result<Part, Refusal>, part: &mut [u32])
     requires { len part.old ≡ 3 }
-    ensures { part.new ≡ told_after on (part_values title) part.old }
+    ensures { part.new ≡ shown_after part_values answer part.old }
 {
-    let which = text_number(title.renamed);
-    let values = [which, title.offset, title.len, 0];
-    tell(on, values, part);
+    if let Ok(title) = answer {
+        part.copy_from_slice(&[text_number(title.renamed), title.offset, title.len]);
+    }
 }
 
-// What a manual's Goto comes to, and where the player would be, over the words that the caller has for them, where `on` says so.
-pub fn tell_arrival(on: bool, a: desk_goto::Arrival, made: &mut [u32], place: &mut [u32])
+// What a manual's Goto comes to, and where the player would be, over the words that the caller has for them.
+pub fn tell_arrival(answer: Result<Arrival, Refusal>, made: &mut [u32], place: &mut [u32])
     requires made_value { len made.old ≡ 2 }
     requires place_value { len place.old ≡ 4 }
-    ensures made_after { made.new ≡ told_after on (made_values a) made.old }
-    ensures place_after { place.new ≡ told_after on (place_values a) place.old }
+    ensures made_after { made.new ≡ shown_after made_values answer made.old }
+    ensures place_after { place.new ≡ shown_after place_values answer place.old }
 {
-    let steps = [a.outcome as u32, a.steps, 0, 0];
-    tell(on, steps, made);
-    let there = [
-        a.place.group.0,
-        a.place.track.0,
-        a.place.position.0,
-        a.place.rest,
-    ];
-    tell(on, there, place);
+    if let Ok(a) = answer {
+        made.copy_from_slice(&[u32::from(a.outcome), a.steps]);
+        place.copy_from_slice(&[
+            a.place.group.0,
+            a.place.track.0,
+            a.place.position.0,
+            a.place.rest,
+        ]);
+    }
 }
 
 // What every call on the state does at its end.
-pub fn finish(answer: Answer, track: &mut [u32], octet: &mut [u32]) -> u32
+pub fn finish(answer: Result<Reply, Refusal>, track: &mut [u32], octet: &mut [u32]) -> u32
     requires track_value { len track.old ≡ 1 }
     requires octet_value { len octet.old ≡ 1 }
     requires all_words { AllWords (said_of answer).values }

@@ -15,7 +15,7 @@ use Rattle.mcs.proofs.mcs_card_write.Goals as goal
 pub returns-clause-value : goal.returns-clause-value
 returns-clause-value c =
     let write = c.write-w.ensures in
-    let told = c.told_of_write-t.ensures ∙ ap told_of write.result_value in
+    let told = c.told_of_count-t.ensures ∙ ap told_of write.result_value in
     ap (λ (t : Told). t.number) told
 
 pub returns-clause-card_after : goal.returns-clause-card_after
@@ -29,7 +29,7 @@ pub returns-clause-blocks_after : goal.returns-clause-blocks_after
 returns-clause-blocks_after c =
     let a = c.args in
     let write = c.write-w.ensures in
-    let told = c.told_of_write-t.ensures ∙ ap told_of write.result_value in
+    let told = c.told_of_count-t.ensures ∙ ap told_of write.result_value in
     let k = tables a.groups.now a.tracks.now a.segments.now a.text.now in
     let said = write_said k (length a.card.now) in
     let small = write_words k (length a.card.now) in
@@ -39,7 +39,7 @@ pub returns-clause-track_after : goal.returns-clause-track_after
 returns-clause-track_after c =
     let a = c.args in
     let write = c.write-w.ensures in
-    let told = c.told_of_write-t.ensures ∙ ap told_of write.result_value in
+    let told = c.told_of_count-t.ensures ∙ ap told_of write.result_value in
     let k = tables a.groups.now a.tracks.now a.segments.now a.text.now in
     let said = write_said k (length a.card.now) in
     let small = write_words k (length a.card.now) in
@@ -49,7 +49,7 @@ pub returns-clause-octet_after : goal.returns-clause-octet_after
 returns-clause-octet_after c =
     let a = c.args in
     let write = c.write-w.ensures in
-    let told = c.told_of_write-t.ensures ∙ ap told_of write.result_value in
+    let told = c.told_of_count-t.ensures ∙ ap told_of write.result_value in
     let k = tables a.groups.now a.tracks.now a.segments.now a.text.now in
     let said = write_said k (length a.card.now) in
     let small = write_words k (length a.card.now) in

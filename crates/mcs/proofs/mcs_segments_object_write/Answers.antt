@@ -15,7 +15,7 @@ pub returns-clause-value : goal.returns-clause-value
 returns-clause-value c =
     let a = c.args in
     let write = c.write_segments-a.ensures in
-    let told = c.told_of_object-t.ensures ∙ ap told_of write.result_value in
+    let told = c.told_of_count-t.ensures ∙ ap told_of write.result_value in
     ap (λ (t : Told). t.number) told
 
 pub returns-clause-out_after : goal.returns-clause-out_after
@@ -30,7 +30,7 @@ pub returns-clause-written_after : goal.returns-clause-written_after
 returns-clause-written_after c =
     let a = c.args in
     let write = c.write_segments-a.ensures in
-    let told = c.told_of_object-t.ensures ∙ ap told_of write.result_value in
+    let told = c.told_of_count-t.ensures ∙ ap told_of write.result_value in
     let k = tables a.groups.now a.tracks.now a.segments.now a.text.now in
     let octets = segments_octets k.tracks k.segments a.ofTrack in
     let said = write_said k (has_segments k a.ofTrack) octets (length a.out.now) in
@@ -41,7 +41,7 @@ pub returns-clause-track_after : goal.returns-clause-track_after
 returns-clause-track_after c =
     let a = c.args in
     let write = c.write_segments-a.ensures in
-    let told = c.told_of_object-t.ensures ∙ ap told_of write.result_value in
+    let told = c.told_of_count-t.ensures ∙ ap told_of write.result_value in
     let k = tables a.groups.now a.tracks.now a.segments.now a.text.now in
     let octets = segments_octets k.tracks k.segments a.ofTrack in
     let said = write_said k (has_segments k a.ofTrack) octets (length a.out.now) in
@@ -52,7 +52,7 @@ pub returns-clause-octet_after : goal.returns-clause-octet_after
 returns-clause-octet_after c =
     let a = c.args in
     let write = c.write_segments-a.ensures in
-    let told = c.told_of_object-t.ensures ∙ ap told_of write.result_value in
+    let told = c.told_of_count-t.ensures ∙ ap told_of write.result_value in
     let k = tables a.groups.now a.tracks.now a.segments.now a.text.now in
     let octets = segments_octets k.tracks k.segments a.ofTrack in
     let said = write_said k (has_segments k a.ofTrack) octets (length a.out.now) in
