@@ -806,22 +806,34 @@ fn call(
     c: Ask,
     words: &[u8],
 ) -> desk_state::Desk {
-    let mut renames = [0u32; MOST_RENAMES];
-    let zeros = [0u32; 512];
-    let mut loan = Loan {
-        groups: groups,
-        tracks: tracks,
-        segments: segments,
-        text: text,
-        renames: &zeros[0..(catalogue_tables::track_count(tracks).min(256) * 2)],
-        office: front(titles, 0),
-    };
-    if let Some(entries) = c.entries {
-        read_words(&mut renames, titles);
-        loan.renames = front_of_words(&renames, entries);
-        loan.office = office_of(titles, entries);
+    match c.entries {
+        None => {
+            let zeros = [0u32; 512];
+            let n = catalogue_tables::track_count(tracks).min(256) * 2;
+            let loan = Loan {
+                groups: groups,
+                tracks: tracks,
+                segments: segments,
+                text: text,
+                renames: &zeros[0..n],
+                office: front(titles, 0),
+            };
+            call_with(&loan, d, c, words)
+        }
+        Some(entries) => {
+            let mut renames = [0u32; MOST_RENAMES];
+            read_words(&mut renames, titles);
+            let loan = Loan {
+                groups: groups,
+                tracks: tracks,
+                segments: segments,
+                text: text,
+                renames: front_of_words(&renames, entries),
+                office: office_of(titles, entries),
+            };
+            call_with(&loan, d, c, words)
+        }
     }
-    call_with(&loan, d, c, words)
 }
 
 // 64 groups, of which the last has all tracks, and 256 tracks of duration 0, without segments and with empty titles.
