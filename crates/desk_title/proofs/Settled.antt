@@ -56,10 +56,13 @@ settles (Err r) (Ok q) e = clash (ap (λ (l : Left Part). l.said.is_granted) e)
 settles (Err r) (Err s) e = ap (saying front) (done_settles (Err r) (Err s) (ap (λ (l : Left Part). l.said) e))
 
 module _ (loan : Bor Loan) (state : Bor (List ℕ)) (service : ℕ) where
-  pub title_settled : (κs : Lfts 3) (r₁ r₂ : Bor (List ℕ))
-      → title.Post κs (loan, (state, (service, tt))) r₁ (loan, (state, (service, tt)))
-      → title.Post κs (loan, (state, (service, tt))) r₂ (loan, (state, (service, tt)))
-      → Same r₁ r₂
+  -- the arguments of the call that hands the title back
+  abbrev pieces : Bor (List ℕ) × (Bor (List ℕ) × (Bor (List ℕ) × (Bor (List ℕ) × (Bor (List ℕ) × (Bor (List ℕ) × (Bor (List ℕ) × (ℕ × Unit {0})))))))
+  pieces =
+      let k = loan.now in
+      (k.groups, (k.tracks, (k.segments, (k.text, (k.renames, (k.office, (state, (service, tt))))))))
+
+  pub title_settled : (κs : Lfts 6) (r₁ r₂ : Bor (List ℕ)) → title.Post κs pieces r₁ pieces → title.Post κs pieces r₂ pieces → Same r₁ r₂
   title_settled κs r₁ r₂ = same
 
   pub which_settled : (κs : Lfts 3) (t₁ t₂ : Result Part Refusal)
@@ -69,8 +72,8 @@ module _ (loan : Bor Loan) (state : Bor (List ℕ)) (service : ℕ) where
   which_settled κs t₁ t₂ p q = settles t₁ t₂ (p ∙ sym q)
 
   -- the two calls with the same inputs: what the one hands back is the part that the other says
-  pub agree : (κs : Lfts 3) (κs' : Lfts 3) (r : Bor (List ℕ)) (t : Result Part Refusal)
-      → title.Post κs (loan, (state, (service, tt))) r (loan, (state, (service, tt)))
+  pub agree : (κs : Lfts 6) (κs' : Lfts 3) (r : Bor (List ℕ)) (t : Result Part Refusal)
+      → title.Post κs pieces r pieces
       → which.Post κs' (loan, (state, (service, tt))) t (loan, (state, (service, tt)))
       → IsPart (titled_by t).state loan.now.text loan.now.office r
   agree κs κs' r t a b = rw (ap (λ (l : Left Part). l.state) b) a

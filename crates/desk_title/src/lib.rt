@@ -4,7 +4,7 @@
 
 ghost use Rattle.std.specs.Prelude.{◌≡◌};
 ghost use Rattle.catalogue_titles.specs.Titles.{IsPart};
-ghost use Rattle.catalogue_titles.specs.Lent.{lent};
+ghost use Rattle.catalogue_titles.specs.Lent.{lent, lending};
 ghost use Rattle.mcs_state.specs.Codec.{desk_of};
 ghost use Rattle.desk_title.specs.Title.{title_call, titled_by};
 
@@ -21,9 +21,27 @@ pub fn which(loan: &Loan, state: &[u8; 649], service: u32) -> Result<Part, Refus
 }
 
 // The title itself, out of the text that it is a part of; the empty front of the card's text where it is refused (SCOPE 5.7).
-pub fn title<'a>(loan: &Loan<'a>, state: &[u8; 649], service: u32) -> &'a [u8]
-    ensures { IsPart (title_call (lent loan.now) (desk_of state.now) service).state loan.now.text loan.now.office result }
+// Stays a function of the six slices: what is handed back lives as long as the two texts, and a `Loan` would tie the tables to that.
+pub fn title<'a>(
+    groups: &[u32],
+    tracks: &[u32],
+    segments: &[u32],
+    text: &'a [u8],
+    renames: &[u32],
+    office: &'a [u8],
+    state: &[u8; 649],
+    service: u32,
+) -> &'a [u8]
+    ensures { IsPart (title_call (lending groups.now tracks.now segments.now text.now renames.now office.now) (desk_of state.now) service).state text.entry office.entry result }
 {
-    let part = which(loan, state, service).unwrap_or(catalogue_titles::front_part());
-    catalogue_titles::cut(part, loan.text, loan.office)
+    let loan = Loan {
+        groups: groups,
+        tracks: tracks,
+        segments: segments,
+        text: text,
+        renames: renames,
+        office: office,
+    };
+    let part = which(&loan, state, service).unwrap_or(catalogue_titles::front_part());
+    catalogue_titles::cut(part, text, office)
 }

@@ -423,7 +423,16 @@ fn take(loan: &Loan, state: &mut [u8; 649], c: Ask) {
 // The title itself, as the one call hands it back, behind what the other says of it.
 fn title(loan: &Loan, state: &[u8; 649], c: Ask) {
     write_title(desk_title::which(loan, state, c.service));
-    write_octets(desk_title::title(loan, state, c.service));
+    write_octets(desk_title::title(
+        loan.groups,
+        loan.tracks,
+        loan.segments,
+        loan.text,
+        loan.renames,
+        loan.office,
+        state,
+        c.service,
+    ));
     write_state(state);
     io::write_all(1, b"\n");
 }

@@ -7,7 +7,7 @@ use Rattle.ground.specs.declared.Refusal.{Refusal}
 use Rattle.ground.specs.Refusals.{Left}
 use Rattle.catalogue_titles.specs.declared.Part.{Part}
 use Rattle.catalogue_titles.specs.Titles.{front, Inside, IsPart}
-use Rattle.catalogue_titles.specs.Lent.{lent}
+use Rattle.catalogue_titles.specs.Lent.{lending}
 use Rattle.mcs_state.specs.Codec.{desk_of}
 use Rattle.desk_title.specs.Title.{titled_by}
 use Rattle.desk_title.proofs.Lying.{title_inside}
@@ -23,5 +23,6 @@ returns c =
     let a = c.args in
     let is =
     c.unwrap_or-part.ensures ∙ ap (result_unwrap_or c.which.result) c.front_part.ensures ∙ beside c.which.result ∙ ap (λ (l : Left Part). l.state) c.which.ensures in
-    subst (λ (part : Part). IsPart part a.loan.now.text a.loan.now.office c.cut.result) is
-    (c.cut.ensures.part (subst (λ (part : Part). Inside part (length a.loan.now.text.now) (length a.loan.now.office.now)) (sym is) (title_inside (lent a.loan.now) (desk_of a.state.now) a.service)))
+    let k = lending a.groups.now a.tracks.now a.segments.now a.text.now a.renames.now a.office.now in
+    subst (λ (part : Part). IsPart part a.text a.office c.cut.result) is
+    (c.cut.ensures.part (subst (λ (part : Part). Inside part (length a.text.now) (length a.office.now)) (sym is) (title_inside k (desk_of a.state.now) a.service)))
