@@ -26,7 +26,7 @@ fn headed(number: usize, kind: u8, count: usize) -> [u8; 512]
     let [n0, n1] = (number as u16).to_le_bytes();
     let [c0, c1] = (count as u16).to_le_bytes();
     let mut b = [0u8; 512];
-    b[..card_block::HEAD].copy_from_slice(&[n0, n1, kind, c0, c1]);
+    ground::copy(&mut b[..card_block::HEAD], &[n0, n1, kind, c0, c1]);
     b
 }
 
@@ -77,7 +77,10 @@ pub fn octets_block(
     ensures { result ≡ block_of number kind count (part src.now from (from + n)) }
 {
     let mut b = headed(number, kind, count);
-    b[card_block::HEAD..card_block::HEAD + n].copy_from_slice(&src[from..from + n]);
+    ground::copy(
+        &mut b[card_block::HEAD..card_block::HEAD + n],
+        &src[from..from + n],
+    );
     put_checks(&mut b);
     b
 }
@@ -89,5 +92,5 @@ pub fn put_block(card: &mut [u8], i: usize, b: &[u8])
     ensures { card.new ≡ laid card.old (i * block_size) b.now }
 {
     let start = i * card_block::BLOCK;
-    card[start..start + card_block::BLOCK].copy_from_slice(b);
+    ground::copy(&mut card[start..start + card_block::BLOCK], b);
 }

@@ -118,7 +118,7 @@ fn fill_octets(dst: &mut [u8], card: &[u8], n: usize, kind: u8)
         if b[2] == kind {
             let records = &b[card_block::HEAD..card_block::records_end(b)];
             let end = at + records.len();
-            dst[at..end].copy_from_slice(records);
+            ground::copy(&mut dst[at..end], records);
             at = end;
         }
     }

@@ -154,8 +154,8 @@ pub fn starts_right(tracks: &[u32], segments: &[u32]) -> bool
     good
 }
 
-// Whether all titles are UTF-8, or else the lowest track whose title is not, and where it is not (SCOPE 4.12, 4.14). Where all of the text is plain, so is every
-// title, and none is looked at by itself.
+// Whether all titles are UTF-8, or else the lowest track whose title is not, and where it is not (SCOPE 4.12, 4.14). Going from the last track to the first,
+// the one that is kept is the lowest. Where all of the text is plain, so is every title, and none is looked at by itself.
 pub fn titles_text(tracks: &[u32], text: &[u8]) -> Result<(), BadTitle>
     requires { TitlesInside tracks.now (length text.now) }
     ensures { titles_of result ≡ bad_title tracks.now text.now }
@@ -163,18 +163,19 @@ pub fn titles_text(tracks: &[u32], text: &[u8]) -> Result<(), BadTitle>
     if text::is_plain(text) {
         return Ok(());
     }
-    for track in 0..tracks.len() / catalogue_tables::TRACK_WORDS {
+    let mut found = Ok(());
+    for track in (0..tracks.len() / catalogue_tables::TRACK_WORDS).rev() {
         let base = track * catalogue_tables::TRACK_WORDS;
         let offset = ground::wide_word(tracks[base + catalogue_tables::TITLE_OFFSET_AT]);
         let len = ground::wide_word(tracks[base + catalogue_tables::TITLE_LENGTH_AT]);
         let end = offset + len;
-        match text::check(&text[offset..end]) {
-            Ok(()) => {}
-            Err(bad) => return Err(BadTitle {
+        found = match text::check(&text[offset..end]) {
+            Ok(()) => found,
+            Err(bad) => Err(BadTitle {
                 track: track,
                 offset: bad.at,
             }),
-        }
+        };
     }
-    Ok(())
+    found
 }

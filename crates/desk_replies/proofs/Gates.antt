@@ -93,11 +93,13 @@ accepted_so l old answer d new e open-so stored =
       state = here _ accepted (stored.state ∙ next);
     }
 
--- a call whose gate refuses hands that on, and leaves what there was
+-- a call whose gate refuses says what the gate says, and leaves what there was
+pub gate_shuts : (rows behind : List Row) (old : List ℕ) (work : Left Desk) (answer : Result Reply Refusal) {said : Said}
+    → said_of answer ≡ said → said.is_granted ≡ false → said ≡ said_by rows → Answers (answered (keeping (desk_of old)) (rows ++ behind) work) old answer old
+gate_shuts rows behind old work answer e shut-so known =
+    refused_so _ old answer (ap (keeping (desk_of old)) e ∙ refuses rows known shut-so (keeping (desk_of old)) behind work) (ap (λ (s : Said). s.is_granted) e ∙ shut-so)
+
+-- so it does where it hands on the gate's own refusal
 pub gate_refuses : (rows behind : List Row) (old : List ℕ) (work : Left Desk) (answer : Result Reply Refusal) (e : Refusal)
     → IsErrAnd answer (λ x. x ≡ e) → refusal_of e ≡ said_by rows → Answers (answered (keeping (desk_of old)) (rows ++ behind) work) old answer old
-gate_refuses rows behind old work answer e handed known =
-    let said : said_of answer ≡ refusal_of e = passed_on values_of answer e handed refl in
-    refused_so _ old answer
-    (ap (keeping (desk_of old)) said ∙ refuses rows known refl (keeping (desk_of old)) behind work)
-    (ap (λ (s : Said). s.is_granted) said)
+gate_refuses rows behind old work answer e handed = gate_shuts rows behind old work answer (passed_on values_of answer e handed refl) refl

@@ -1,9 +1,8 @@
 -- What a call comes to is settled by what it says and leaves. Assumes nothing.
-use mathlib.Core.Path.{◌≡◌, refl, sym, ap, ◌∙◌}
+use mathlib.Core.Path.{◌≡◌, refl, sym, ◌∙◌}
 use mathlib.Core.List.{List, [], ◌∷◌}
 use Prim.Native.Nat.{ℕ}
-use Rattle.ground.specs.Cases.{pick}
-use Rattle.ground.specs.Refusals.{Said, Left}
+use Rattle.ground.specs.Refusals.{Left}
 use Rattle.ground.proofs.Settled.{said_settles}
 use Rattle.desk_state.specs.declared.Desk.{Desk}
 use Rattle.std.specs.Prelude.{Result}

@@ -1,8 +1,8 @@
 -- What a call on the whole says and leaves (SCOPE 20.1), and the rows of the table of refusals that many calls share (SCOPE 20.2 and 20.3).
 -- Assumes nothing.
-use Rattle.std.specs.Prelude.{◌≡◌, Bool, false, not, List, [], ◌∷◌, ◌++◌, ℕ, leb, drop, Result}
+use Rattle.std.specs.Prelude.{◌≡◌, Bool, false, not, List, [], ◌∷◌, ◌++◌, ℕ, leb, drop, Result, Ok, Err}
 use Rattle.ground.specs.Cases.{pick}
-use Rattle.ground.specs.Refusals.{Said, answer_said, Left, keeping, Row, row, answered}
+use Rattle.ground.specs.Refusals.{Said, granted, refused_with, number_of, carried_of, answer_said, Left, keeping, Row, row, answered}
 use Rattle.catalogue_titles.specs.Lent.{Lent, fit_rows}
 use Rattle.desk_slots.specs.Slots.{service_count, client_count}
 use Rattle.desk_slots.specs.Characteristics.{every_one, is_in}
@@ -14,6 +14,8 @@ use Rattle.mcs_state.specs.Codec.{desk_of, desk_octets}
 use Rattle.ground.specs.declared.Refusal.{Refusal}
 use Rattle.desk_replies.specs.declared.Reply.{Reply}
 use Rattle.desk_replies.specs.declared.Reply.TheVariants.{Done, Octets, Served, Handed}
+use Rattle.desk_replies.specs.declared.Barred.{Barred}
+use Rattle.desk_replies.specs.declared.Barred.TheVariants.{Shared, Own}
 
 -- the values of each reply (SCOPE 20.2), and what an answer says
 abbrev pub values_of : Reply → List ℕ
@@ -76,6 +78,22 @@ of_caller who service connected = client_row who ∷ service_row service ∷ con
 abbrev pub of_characteristic : Bool → ℕ → ℕ → Bool → List Row
 of_characteristic encrypted characteristic number allowed =
     row 0x01 (not (is_in every_one characteristic)) ∷ row number (not allowed) ∷ row 0x0F (not encrypted) ∷ []
+
+-- what a gate says that asks these: of its own row that has the number by which the call reads the name that it gave
+abbrev pub barred_number : {R : Type 0} → (R → ℕ) → Barred R → ℕ
+barred_number number (Shared r) = number_of r.reason
+barred_number number (Own name) = number name
+
+abbrev pub barred_values : {R : Type 0} → Barred R → List ℕ
+barred_values (Shared r) = carried_of r.carried
+barred_values (Own name) = []
+
+abbrev pub barred_of : {R : Type 0} → (R → ℕ) → Barred R → Said
+barred_of number b = refused_with (barred_number number b) (barred_values b)
+
+abbrev pub barred_said : {R : Type 0} → (R → ℕ) → Result Unit (Barred R) → Said
+barred_said number (Ok u) = granted []
+barred_said number (Err b) = barred_of number b
 
 -- what a call says and leaves, by these and by its own rows
 abbrev pub asked : Lent → Bool → Desk → List Row → Left Desk → Left Desk

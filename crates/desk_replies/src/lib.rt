@@ -1,11 +1,11 @@
 // What the calls on the whole answer, and the rows of the refusal table that many of them share.
 #![tactic(auto)]
 
-ghost use Rattle.std.specs.Prelude.{◌≡◌, [], ◌∷◌, ◌++◌, ◌≤◌, length};
-ghost use Rattle.ground.specs.Refusals.{done_said, said_by, number_of};
+ghost use Rattle.std.specs.Prelude.{◌≡◌, ℕ, [], ◌∷◌, ◌++◌, ◌≤◌, length};
+ghost use Rattle.ground.specs.Refusals.{done_said, said_by, number_of, refusal_of};
 ghost use Rattle.catalogue_titles.specs.Lent.{lent};
 ghost use Rattle.mcs_state.specs.Codec.{desk_of};
-ghost use Rattle.desk_replies.specs.Replies.{lent_rows, fronted, on_service, client_row, of_caller, of_characteristic, link_of};
+ghost use Rattle.desk_replies.specs.Replies.{lent_rows, fronted, on_service, client_row, of_caller, of_characteristic, link_of, barred_of, barred_said};
 
 use catalogue_titles::Loan;
 use ground::{Reason, Refusal};
@@ -23,7 +23,28 @@ pub enum Reply {
     Handed(u32, u32, usize),
 }
 
-// 200, 224, 205. small: the lent output has under 128 octets; false where none is lent.
+// Why the gate of a characteristic does not let a call through: by a row that gates share; or by the call's own row, under the name that the call has for it.
+#[derive(Clone, Copy, PartialEq, Eq)]
+pub enum Barred<R> {
+    Shared(Refusal),
+    Own(R),
+}
+
+impl From<Barred<Reason>> for Refusal {
+    ghost from_gives = { λ barred refusal. refusal_of refusal ≡ barred_of number_of barred };
+
+    fn from(barred: Barred<Reason>) -> Refusal
+        ensures { refusal_of result ≡ barred_of number_of barred }
+    {
+        match barred {
+            Barred::Shared(refusal) => refusal,
+            Barred::Own(reason) => Refusal::from(reason),
+        }
+    }
+}
+
+// 200, 224, 205. small: the lent output has under 128 octets; false where none is lent. It stands within its callers, which saves a frame on the stack of a chip.
+#[inline(always)]
 pub fn lent_gate(loan: &Loan, small: bool) -> Result<(), Refusal>
     ensures { done_said result ≡ said_by (lent_rows (lent loan.now) small) }
 {
@@ -92,30 +113,33 @@ pub fn caller_gate(
     Ok(())
 }
 
-// The same, and then what read, write, subscribe and unsubscribe ask of the characteristic; `reason` is that of the refusal where it is not allowed.
-pub fn characteristic_gate(
+// The same, and then what read, write, subscribe and unsubscribe ask of the characteristic; `own` is what the call itself names the row by which it is not allowed.
+// Whatever number that name stands for, the gate says what the rows with that number say.
+pub fn characteristic_gate<R: Copy>(
     loan: &Loan,
     small: bool,
     state: &[u8],
     who: u32,
     service: u32,
     characteristic: u32,
-    reason: Reason,
+    own: R,
     allowed: bool,
-) -> Result<(), Refusal>
+) -> Result<(), Barred<R>>
     requires { 649 ≤ length state.now }
-    ensures { done_said result ≡ said_by (fronted (lent loan.now) small (desk_of state.now) ++ (of_caller who service (link_of (desk_of state.now) who).connected ++ of_characteristic (link_of (desk_of state.now) who).encrypted characteristic (number_of reason) allowed)) }
+    ensures { (number : R → ℕ) → barred_said number result ≡ said_by (fronted (lent loan.now) small (desk_of state.now) ++ (of_caller who service (link_of (desk_of state.now) who).connected ++ of_characteristic (link_of (desk_of state.now) who).encrypted characteristic (number own) allowed)) }
 {
-    caller_gate(loan, small, state, who, service)?;
+    if let Err(refusal) = caller_gate(loan, small, state, who, service) {
+        return Err(Barred::Shared(refusal));
+    }
     if !desk_slots::is_characteristic(characteristic) {
-        return Err(Refusal::from(Reason::NoCharacteristic));
+        return Err(Barred::Shared(Refusal::from(Reason::NoCharacteristic)));
     }
     if !allowed {
-        return Err(Refusal::from(reason));
+        return Err(Barred::Own(own));
     }
     let l = mcs_state::link_at(state, who);
     if !l.encrypted {
-        return Err(Refusal::from(Reason::NotEncrypted));
+        return Err(Barred::Shared(Refusal::from(Reason::NotEncrypted)));
     }
     Ok(())
 }

@@ -202,12 +202,24 @@ pub fn word_at(s: &[u8], at: usize) -> u32
     word_of(s[at], s[at + 1], s[at + 2], s[at + 3])
 }
 
+// Copies the elements of one slice over another of the same length. The library's copy_from_slice asks of two addresses whether the slices lie apart, and moves
+// octets by memmove: the library for C asks for no addresses, and on a chip they would have another size (docs/ASSUMPTIONS.md).
+pub fn copy<T: Copy>(to: &mut [T], from: &[T])
+    requires { length to.old ≡ length from.now }
+    ensures len { length to.new ≡ length to.old }
+    ensures after { to.new ≡ from.now }
+{
+    for (i, place) in to.iter_mut().enumerate() {
+        *place = from[i];
+    }
+}
+
 // A word, little endian, over b from a place on.
 pub fn put_word(b: &mut [u8], at: usize, w: u32)
     requires { at + 4 ≤ length b.old }
     ensures { b.new ≡ laid b.old at (octets_of_word w) }
 {
-    b[at..at + 4].copy_from_slice(&w.to_le_bytes());
+    copy(&mut b[at..at + 4], &w.to_le_bytes());
 }
 
 // The six octets of a number of 48 bits, little endian (SCOPE 7.1).
@@ -228,11 +240,15 @@ pub fn six_at(s: &[u8], at: usize) -> usize
     low + high * 4294967296
 }
 
-// The element at a place, or another value behind the end.
+// The element at a place, or another value behind the end. The library's get would hand back a reference that may be missing, which on a chip lies elsewhere
+// (docs/ASSUMPTIONS.md).
 pub fn at_or<T: Copy>(s: &[T], at: usize, default: T) -> T
     ensures { result ≡ get_or s.now at default }
 {
-    s.get(at).copied().unwrap_or(default)
+    if at < s.len() {
+        return s[at];
+    }
+    default
 }
 
 // The octet at a place, or 0 behind the end.

@@ -159,7 +159,7 @@ pub fn tell(on: bool, values: [u32; 4], words: &mut [u32])
     ensures { words.new ≡ told_after on values words.old }
 {
     if on {
-        words.copy_from_slice(&values[..words.len()]);
+        ground::copy(words, &values[..words.len()]);
     }
 }
 
@@ -197,7 +197,7 @@ pub fn tell_part(answer: Result<Part, Refusal>, part: &mut [u32])
     ensures { part.new ≡ shown_after part_values answer part.old }
 {
     if let Ok(title) = answer {
-        part.copy_from_slice(&[text_number(title.renamed), title.offset, title.len]);
+        ground::copy(part, &[text_number(title.renamed), title.offset, title.len]);
     }
 }
 
@@ -209,13 +209,16 @@ pub fn tell_arrival(answer: Result<Arrival, Refusal>, made: &mut [u32], place: &
     ensures place_after { place.new ≡ shown_after place_values answer place.old }
 {
     if let Ok(a) = answer {
-        made.copy_from_slice(&[u32::from(a.outcome), a.steps]);
-        place.copy_from_slice(&[
-            a.place.group.0,
-            a.place.track.0,
-            a.place.position.0,
-            a.place.rest,
-        ]);
+        ground::copy(made, &[u32::from(a.outcome), a.steps]);
+        ground::copy(
+            place,
+            &[
+                a.place.group.0,
+                a.place.track.0,
+                a.place.position.0,
+                a.place.rest,
+            ],
+        );
     }
 }
 

@@ -9,11 +9,19 @@ ghost use Rattle.player_segments.specs.Closed.{start_ahead, start_back};
 // Less than this past the start of its segment, Previous Segment goes from a position to the segment before (SCOPE 10.3).
 const PREVIOUS_MARGIN: u32 = 300;
 
-// How many starts are not above x. They rise, so that halving finds it.
+// How many starts are not above x. They rise, so that halving finds it. A Goto by single steps that has come past the last start, or back to the first, stays there
+// step for step: whether x lies there is asked before the search.
 fn not_above(starts: &[u32], x: catalogue_tables::Position) -> usize
     requires { Rising starts.now }
     ensures { Cut starts.now x.0 result }
 {
+    let n = starts.len();
+    if n == 0 || starts[n - 1] <= x.0 {
+        return n;
+    }
+    if 1 < n && x.0 < starts[1] {
+        return 1;
+    }
     starts.partition_point(|start| *start <= x.0)
 }
 

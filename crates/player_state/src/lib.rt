@@ -67,7 +67,7 @@ pub fn fill(octets: [u8; ground::MOST_TITLE], name: &[u8]) -> [u8; ground::MOST_
     ensures { result ≡ filled name.now octets }
 {
     let mut out = octets;
-    out[..name.len()].copy_from_slice(name);
+    ground::copy(&mut out[..name.len()], name);
     out
 }
 

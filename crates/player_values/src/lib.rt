@@ -20,7 +20,7 @@ pub fn put(out: &mut [u8], s: &[u8], from: usize, most: usize) -> usize
 {
     let n = most.min(s.len() - from);
     let to = from + n;
-    out[..n].copy_from_slice(&s[from..to]);
+    ground::copy(&mut out[..n], &s[from..to]);
     n
 }
 

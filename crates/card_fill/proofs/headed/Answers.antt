@@ -14,8 +14,8 @@ returns c =
     let m : a.count / 256 % 256 ≡ a.count / 256 = omega arith in
     let p = c.to_le_bytes.ensures in
     let q = c.to_le_bytes-2.ensures in
-    let head : c.copy_from_slice.new.self ≡ head_of a.number a.kind a.count =
-    c.copy_from_slice.ensures.after
+    let head : c.copy.new.to ≡ head_of a.number a.kind a.count =
+    c.copy.ensures.after
     ∙ (λ k. get_or (p k) 0 0 ∷ get_or (p k) 1 0 ∷ a.kind ∷ get_or (q k) 0 0 ∷ get_or (q k) 1 0 ∷ [])
     ∙ (λ k. a.number % 256 ∷ n k ∷ a.kind ∷ a.count % 256 ∷ m k ∷ []) in
     ap (λ (h : List ℕ). h ++ zeros 507) head

@@ -15,4 +15,4 @@ returns c =
     let records = take (a.from + a.n - a.from) (drop a.from a.src.now) in
     let n = part_length a.src.now a.from a.n (omega arith) in
     made a.number a.kind a.count records (omega arith) _ c.put_checks.new.b
-    (part_laid 5 _ _ _ records c.copy_from_slice.ensures.after (omega arith) ∙ ap (λ (l : List ℕ). laid l 5 records) c.headed-b.ensures) c.put_checks.ensures
+    (part_laid 5 _ _ _ records c.copy.ensures.after (omega arith) ∙ ap (λ (l : List ℕ). laid l 5 records) c.headed-b.ensures) c.put_checks.ensures

@@ -5,4 +5,4 @@ use Rattle.card_fill.proofs.put_block.Goals as goal
 
 pub returns : goal.returns
 returns c =
-    part_laid _ _ _ _ c.args.b.now c.copy_from_slice.ensures.after (omega arith)
+    part_laid _ _ _ _ c.args.b.now c.copy.ensures.after (omega arith)

@@ -12,8 +12,8 @@ pub loop-i-init : goal.loop-i-init
 loop-i-init c =
     start octets _ _ _ _
 
-pub slice_bounds-copy_from_slice-end : goal.slice_bounds-copy_from_slice-end
-slice_bounds-copy_from_slice-end c =
+pub slice_bounds-copy-end : goal.slice_bounds-copy-end
+slice_bounds-copy-end c =
     let l = c.loop-i in
     let a = c.args in
     let b = block_at a.card.now l.i in
@@ -28,7 +28,7 @@ loop-i-preserved c =
       | then-b-kind w ↦
           let q = cut_octets (block_at a.card.now l.i) w.records_end.result w.records_end.ensures.0 in
           rw w.at-is (put octets a.kind a.n a.card.now a.dst.now l.dst l.i l.at c.loop-i-test.true l.invariant w.if-b-kind.true _ _ q _ c.requires.card_in_bounds
-          (w.dst-is ∙ put_mid-paste _ _ _ _ _ _ w.copy_from_slice.ensures.after (omega arith) refl))
+          (w.dst-is ∙ put_mid-paste _ _ _ _ _ _ w.copy.ensures.after (omega arith) refl))
       | else-b-kind w ↦ rw (w.dst-is, w.at-is) (skip octets a.kind a.n a.card.now a.dst.now l.dst l.i l.at c.loop-i-test.true l.invariant w.if-b-kind.false)
     ]
 

@@ -1,13 +1,13 @@
--- `catalogue_rules::titles_text`: what is told of the titles from `track` on is what is told of all.
+-- `catalogue_rules::titles_text`: what is kept is what is said of the titles from `track` on.
 use mathlib.Core.Path.{◌≡◌, refl, sym, ap, ◌∙◌}
 use mathlib.Core.Bool.{true, false}
-use mathlib.Core.List.{List, [], ◌∷◌}
+use mathlib.Core.List.{List, ◌∷◌}
 use Prim.Native.Nat.{ℕ, suc, ◌+◌, ◌-◌, ◌<◌}
 use native.Mathlib.Omega.{arith}
 use Rattle.ground.specs.Refusals.{Said}
-use Rattle.text.specs.Utf8.{said_of, text_said}
+use Rattle.text.specs.Utf8.{text_said}
 use Rattle.catalogue_tables.specs.Tables.{track_count, title_of}
-use Rattle.catalogue_rules.specs.Rules.{bad_title_from, bad_title}
+use Rattle.catalogue_rules.specs.Rules.{bad_title_from}
 use Rattle.catalogue_rules.proofs.Runs.{run_part}
 use Rattle.catalogue_rules.proofs.BadTitles.{plain_text}
 use Rattle.catalogue_rules.proofs.titles_text.Goals as goal
@@ -33,20 +33,31 @@ pub returns-then-is_plain : goal.returns-then-is_plain
 returns-then-is_plain c =
     sym (plain_text _ _ (c.is_plain.ensures c.if-is_plain.true))
 
-pub returns-in-Err : goal.returns-in-Err
+pub loop-track-init : goal.loop-track-init
+unfolding bad_title_from
+loop-track-init c =
+    let n = track_count c.args.tracks.now in
+    let e : n - n ≡ 0 = omega arith in
+    sym (ap (λ (m : ℕ). bad_title_from c.args.tracks.now c.args.text.now m n) e)
+
+pub loop-track-preserved-in-Ok : goal.loop-track-preserved-in-Ok
 unfolding title_of
-returns-in-Err c =
+loop-track-preserved-in-Ok c =
+    let i = c.loop-track.track - 1 in
+    let n = track_count c.args.tracks.now in
+    let e : c.loop-track.track ≡ i + 1 = omega arith in
     let part = run_part c.args.text.now c.wide_word-offset.result c.wide_word-len.result c.wide_word-offset.ensures.0 c.wide_word-len.ensures.0 in
-    stops _ _ _ c.loop-track.track c.loop-track-test.true (c.in-Err.ensures ∙ ap text_said part) refl ∙ c.loop-track.invariant
+    c.loop-track.invariant ∙ ap (λ (j : ℕ). bad_title_from c.args.tracks.now c.args.text.now (n - j) j) e
+    ∙ goes_on _ _ n i (omega arith) (c.in-Ok.ensures ∙ ap text_said part) refl
 
 pub loop-track-preserved : goal.loop-track-preserved
 unfolding title_of
 loop-track-preserved c =
     let part = run_part c.args.text.now c.wide_word-offset.result c.wide_word-len.result c.wide_word-offset.ensures.0 c.wide_word-len.ensures.0 in
-    goes_on _ _ _ c.loop-track.track c.loop-track-test.true (c.in-Ok.ensures ∙ ap text_said part) refl ∙ c.loop-track.invariant
+    stops _ _ (track_count c.args.tracks.now) (c.loop-track.track - 1) (omega arith) (c.in-Err.ensures ∙ ap text_said part) refl
 
 pub returns : goal.returns
-unfolding bad_title_from
 returns c =
-    let e : track_count c.args.tracks.now - c.loop-track.track ≡ 0 = omega arith in
-    sym (ap (λ (n : ℕ). bad_title_from c.args.tracks.now c.args.text.now n c.loop-track.track) e) ∙ c.loop-track.invariant
+    let z : c.loop-track.track ≡ 0 = omega arith in
+    let e : track_count c.args.tracks.now - c.loop-track.track ≡ track_count c.args.tracks.now = omega arith in
+    c.loop-track.invariant ∙ (λ k. bad_title_from c.args.tracks.now c.args.text.now (e k) (z k))

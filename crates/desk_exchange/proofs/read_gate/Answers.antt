@@ -10,9 +10,9 @@ use lib.Dec.{ltb}
 use lib.ListN.{length}
 use Rattle.ground.specs.Cases.{has}
 use Rattle.ground.specs.Limits.{least_output}
-use Rattle.ground.specs.Refusals.{Said, refused, Row, row, said_by}
+use Rattle.ground.specs.Refusals.{Said, number_of, refused, Row, row, said_by}
 use Rattle.ground.proofs.Cases.{past, here}
-use Rattle.ground.proofs.Passed.{passed_on}
+use Rattle.ground.proofs.Passed.{turned_into}
 use Rattle.ground.proofs.Rows.{NoneApplies, beyond}
 use Rattle.catalogue_titles.specs.Lent.{Lent, lent, catalogue_of}
 use Rattle.catalogue_titles.proofs.Laws.{fit_right}
@@ -55,17 +55,17 @@ asked_so k small d who service characteristic e known = known ∙ ap (λ (x : Bo
 pub returns-in_err-characteristic_gate : goal.returns-in_err-characteristic_gate
 returns-in_err-characteristic_gate c =
     let a = c.args in
-    passed_on _ _ _ c.from_residual.ensures.1
-    (stays_shut (asked (lent a.loan.now) (ltb a.room least_output) (desk_of a.state.now) a.who a.service a.characteristic)
-    (asked_so (lent a.loan.now) (ltb a.room least_output) (desk_of a.state.now) a.who a.service a.characteristic c.may_read.ensures c.in_err-characteristic_gate.ensures) refl
-    (behind (lent a.loan.now) (desk_of a.state.now) a.who a.service a.characteristic a.offset))
+    turned_into _ _ _ c.from_residual.ensures.1
+    ∙ stays_shut (asked (lent a.loan.now) (ltb a.room least_output) (desk_of a.state.now) a.who a.service a.characteristic)
+    (asked_so (lent a.loan.now) (ltb a.room least_output) (desk_of a.state.now) a.who a.service a.characteristic c.may_read.ensures (c.in_err-characteristic_gate.ensures number_of)) refl
+    (behind (lent a.loan.now) (desk_of a.state.now) a.who a.service a.characteristic a.offset)
 
 pub returns-then-offset-eq0 : goal.returns-then-offset-eq0
 returns-then-offset-eq0 c =
     let a = c.args in
     let fresh = has (account_of (desk_of a.state.now) a.who a.service).fresh a.characteristic in
     says_behind (asked (lent a.loan.now) (ltb a.room least_output) (desk_of a.state.now) a.who a.service a.characteristic)
-    (asked_so (lent a.loan.now) (ltb a.room least_output) (desk_of a.state.now) a.who a.service a.characteristic c.may_read.ensures c.in_ok-characteristic_gate.ensures) refl
+    (asked_so (lent a.loan.now) (ltb a.room least_output) (desk_of a.state.now) a.who a.service a.characteristic c.may_read.ensures (c.in_ok-characteristic_gate.ensures number_of)) refl
     (behind (lent a.loan.now) (desk_of a.state.now) a.who a.service a.characteristic a.offset)
     (past (refused 0x80) (ap (λ (t : Bool). t && not fresh) (le-ltb 0 a.offset (omega (arith, c.if-offset-eq0.true))))
     (past (refused 0x07) (le-ltb (length (value_now (lent a.loan.now) (desk_of a.state.now) a.service a.characteristic)) a.offset (omega (arith, c.if-offset-eq0.true))) refl))
@@ -80,7 +80,7 @@ module _ (c : Else-offset-eq0) where
   passed =
       let a = c.args in
       none (asked (lent a.loan.now) (ltb a.room least_output) (desk_of a.state.now) a.who a.service a.characteristic)
-      (asked_so (lent a.loan.now) (ltb a.room least_output) (desk_of a.state.now) a.who a.service a.characteristic c.may_read.ensures c.in_ok-characteristic_gate.ensures) refl
+      (asked_so (lent a.loan.now) (ltb a.room least_output) (desk_of a.state.now) a.who a.service a.characteristic c.may_read.ensures (c.in_ok-characteristic_gate.ensures number_of)) refl
 
   served : c.args.service < service_count
   served = leb-false _ _ passed.1.1.1.1.1.0

@@ -5,9 +5,9 @@ use mathlib.Core.List.{List, [], ◌∷◌, ◌++◌}
 use Prim.Native.Nat.{ℕ, ◌<◌}
 use borrow.Author.Tests.{leb-false}
 use lib.Dec.{eqb, leb}
-use Rattle.ground.specs.Refusals.{Said, refused, Row, row, said_by}
+use Rattle.ground.specs.Refusals.{Said, number_of, refused, Row, row, said_by}
 use Rattle.ground.proofs.Cases.{past, here}
-use Rattle.ground.proofs.Passed.{passed_on}
+use Rattle.ground.proofs.Passed.{turned_into}
 use Rattle.ground.proofs.Rows.{NoneApplies, beyond}
 use Rattle.catalogue_titles.specs.Lent.{Lent, lent, catalogue_of}
 use Rattle.catalogue_titles.proofs.Laws.{fit_right}
@@ -48,16 +48,16 @@ asked_so k d who service characteristic e known = known ∙ ap (λ (x : Bool). s
 pub returns-in_err-characteristic_gate : goal.returns-in_err-characteristic_gate
 returns-in_err-characteristic_gate c =
     let a = c.args in
-    passed_on _ _ _ c.from_residual.ensures.1
-    (stays_shut (asked (lent a.loan.now) (desk_of a.state.now) a.who a.service a.characteristic)
-    (asked_so (lent a.loan.now) (desk_of a.state.now) a.who a.service a.characteristic c.may_write.ensures c.in_err-characteristic_gate.ensures) refl
-    (behind (lent a.loan.now) (desk_of a.state.now) a.who a.service a.characteristic a.value.now))
+    turned_into _ _ _ c.from_residual.ensures.1
+    ∙ stays_shut (asked (lent a.loan.now) (desk_of a.state.now) a.who a.service a.characteristic)
+    (asked_so (lent a.loan.now) (desk_of a.state.now) a.who a.service a.characteristic c.may_write.ensures (c.in_err-characteristic_gate.ensures number_of)) refl
+    (behind (lent a.loan.now) (desk_of a.state.now) a.who a.service a.characteristic a.value.now)
 
 pub returns-then-not-length_right : goal.returns-then-not-length_right
 returns-then-not-length_right c =
     let a = c.args in
     says_behind (asked (lent a.loan.now) (desk_of a.state.now) a.who a.service a.characteristic)
-    (asked_so (lent a.loan.now) (desk_of a.state.now) a.who a.service a.characteristic c.may_write.ensures c.in_ok-characteristic_gate.ensures) refl
+    (asked_so (lent a.loan.now) (desk_of a.state.now) a.who a.service a.characteristic c.may_write.ensures (c.in_ok-characteristic_gate.ensures number_of)) refl
     (behind (lent a.loan.now) (desk_of a.state.now) a.who a.service a.characteristic a.value.now)
     (here _ (ap not (sym c.length_right.ensures ∙ c.if-not-length_right.true)) c.from.ensures)
 
@@ -67,7 +67,7 @@ module _ (c : Else-not-length_right) where
   passed =
       let a = c.args in
       none (asked (lent a.loan.now) (desk_of a.state.now) a.who a.service a.characteristic)
-      (asked_so (lent a.loan.now) (desk_of a.state.now) a.who a.service a.characteristic c.may_write.ensures c.in_ok-characteristic_gate.ensures) refl
+      (asked_so (lent a.loan.now) (desk_of a.state.now) a.who a.service a.characteristic c.may_write.ensures (c.in_ok-characteristic_gate.ensures number_of)) refl
 
   served : c.args.service < service_count
   served = leb-false _ _ passed.1.1.1.1.1.0

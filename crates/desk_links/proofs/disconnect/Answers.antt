@@ -6,7 +6,7 @@ use Prim.Native.Nat.{ℕ}
 use borrow.Author.Rules.{rules}
 use borrow.Author.Tests.{leb-false}
 use Rattle.std.specs.Prelude.{Ok}
-use Rattle.ground.specs.Refusals.{granted, Row, row, leaves, keeping}
+use Rattle.ground.specs.Refusals.{granted, Row, leaves, keeping}
 use Rattle.ground.proofs.Cases.{past, here}
 use Rattle.ground.proofs.Rows.{through}
 use Rattle.catalogue_titles.specs.Lent.{Lent, lent}
@@ -19,7 +19,7 @@ use Rattle.mcs_state.specs.Codec.{desk_of}
 use Rattle.desk_replies.specs.declared.Reply.TheVariants.{Done}
 use Rattle.desk_replies.specs.Replies.{fronted, client_row, connected_row, link_of}
 use Rattle.desk_replies.proofs.Gates.{none, gate_refuses, refused_so, accepted_so, plain_so}
-use Rattle.desk_links.specs.Links.{connect_call, disconnect_call}
+use Rattle.desk_links.specs.Links.{disconnect_call}
 use Rattle.desk_links.proofs.disconnect.Goals as goal
 
 -- what is asked first

@@ -1,9 +1,9 @@
 -- `desk_replies::caller_gate`: the rows of a client, and then 219, 203, the first that applies.
 use mathlib.Core.Path.{refl, sym, ap, ◌∙◌}
-use mathlib.Core.Bool.{false, not}
+use mathlib.Core.Bool.{not}
 use mathlib.Core.List.{[], ◌∷◌, ◌++◌}
 use borrow.Author.Tests.{le-leb, lt-leb, leb-false}
-use Rattle.ground.specs.Refusals.{row, refused}
+use Rattle.ground.specs.Refusals.{refused}
 use Rattle.ground.proofs.Cases.{past, here}
 use Rattle.ground.proofs.Passed.{passed_on}
 use Rattle.catalogue_titles.specs.Lent.{lent}

@@ -1,9 +1,8 @@
 -- `desk_replies::client_gate`: 200, 205, 201, 202, the first that applies.
-use mathlib.Core.Path.{refl, ap}
-use mathlib.Core.Bool.{false}
+use mathlib.Core.Path.{refl}
 use mathlib.Core.List.{[], ◌∷◌}
 use borrow.Author.Tests.{le-leb, lt-leb}
-use Rattle.ground.specs.Refusals.{row, refused}
+use Rattle.ground.specs.Refusals.{refused}
 use Rattle.ground.proofs.Cases.{past, here}
 use Rattle.ground.proofs.Passed.{passed_on}
 use Rattle.catalogue_titles.specs.Lent.{lent}

@@ -1,8 +1,8 @@
 -- `desk_replies::front_gate`: 200, 224 and 205 first; what the state check says where neither applies.
 use mathlib.Core.Path.{refl, sym, ap, ◌∙◌}
-use mathlib.Core.Bool.{false, not}
+use mathlib.Core.Bool.{not}
 use mathlib.Core.List.{[], ◌∷◌}
-use Rattle.ground.specs.Refusals.{row, refused}
+use Rattle.ground.specs.Refusals.{refused}
 use Rattle.ground.proofs.Cases.{past, here}
 use Rattle.ground.proofs.Passed.{passed_on}
 use Rattle.catalogue_titles.specs.Lent.{lent}

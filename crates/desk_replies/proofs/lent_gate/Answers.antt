@@ -1,6 +1,5 @@
 -- `desk_replies::lent_gate`: 200, 224, 205, the first that applies.
-use mathlib.Core.Path.{refl, ap}
-use mathlib.Core.Bool.{false}
+use mathlib.Core.Path.{refl}
 use mathlib.Core.List.{[], ◌∷◌}
 use Rattle.ground.specs.Refusals.{row, refused}
 use Rattle.ground.proofs.Cases.{past, here}

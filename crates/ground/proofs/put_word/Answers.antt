@@ -12,5 +12,5 @@ returns c =
     let w = c.args.w in
     let top : w / 16777216 % 256 ≡ w / 16777216 = omega arith in
     part_laid _ _ _ _ (octets_of_word w)
-    (c.copy_from_slice.ensures.after ∙ c.to_le_bytes.ensures ∙ (λ k. w % 256 ∷ w / 256 % 256 ∷ w / 65536 % 256 ∷ top k ∷ []))
+    (c.copy.ensures.after ∙ c.to_le_bytes.ensures ∙ (λ k. w % 256 ∷ w / 256 % 256 ∷ w / 65536 % 256 ∷ top k ∷ []))
     (omega arith)
